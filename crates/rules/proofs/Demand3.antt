@@ -1,0 +1,327 @@
+-- Demand 3: the plot design refuses exactly when no orthogonal block structure contains the plot factors, and the family it returns is the smallest one.
+-- Assumes nothing.
+use mathlib.Core.Path.{_≡_, refl, sym, ap, ap₂, _∙_, subst}
+use mathlib.Core.Logic.{_↔_, _⊎_, inl, inr}
+use mathlib.Core.Bool.{Bool, true, false, true≢false}
+use mathlib.Core.List.{List, [], _∷_, _++_, map, List·Memᴰ, List·Memᴰ·head, List·Memᴰ·tail, List·Memᴰ·cases-cons, List·Memᴰ·not-nil, Memᴰ·cast}
+use Prim.Native.Nat.{ℕ, zero, suc, _+_, _*_, _≤_, _<_, zero-le, suc-le-suc}
+use native.Mathlib.Nat.{suc-ne-zero, le-refl, le-trans, add-zero, add-suc, suc-add, lt-irrefl}
+use native.Mathlib.Omega.{arith}
+use lib.Dec.{eqb, ltb, leb}
+use lib.ListN.{length, getD, take, drop, replicate, length-replicate, length-drop}
+use lib.Seq.{length-take-le, getD-take, getD-drop}
+use borrow.Author.Tests.{eqb-true, eqb-false, ne-eqb, le-leb}
+use Rattle.rules.specs.Factor.{Column, Equivalent, indexOf, addNew, numbering, number, infimum, supremum, universal, upFrom, equality, Uniform, uniform, Orthogonal, orthogonal}
+use Rattle.rules.specs.Family.{Family, _∈_, before, Ascending, empty, cons, AtMost, Made, given, made, InPlotFamily, by-column, by-universal, by-equality, by-infimum, by-supremum, both, generators, Closing, tooMany, family, close, plotFamily, firstFailing, firstPair, none, Answer, verdict, columnsFrom, nonzero, allNonzero, withinLimits, designOf, plotDesign, written, returned}
+use Rattle.rules.specs.Structure.{Contains, Inside, Inequivalent, no-member, unlike, OrthogonalBlockStructure, ContainsAll, Lent, Demand3}
+use Rattle.rules.proofs.Numbering.{by-cases, eqb-self, place-no, add-no, length-number, number-number, number-unique, length-infimum, number-infimum}
+use Rattle.rules.proofs.Supremum.{length-supremum, number-supremum, equivalent-sym, equivalent-trans, equivalent-refl, number-equivalent, supremum-equivalent, infimum-equivalent}
+use Rattle.rules.proofs.Members.{clash, before-self, ascending-head, ascending-tail}
+use Rattle.rules.proofs.Closing.{Smallest, Many, Closed, listed, too-many, close-right, close-too-many}
+use Rattle.rules.proofs.Tests.{uniform-test, orthogonal-test, uniform-equivalent, orthogonal-equivalent, orthogonal-sym, orthogonal-self}
+use Rattle.rules.proofs.Walk.{written-members}
+use Rattle.rules.proofs.Verdict.{failing-none, failing-pass, pairs-none, pairs-pass, pairwise-cases, verdict-members, verdict-accepts, verdict-passes, verdict-number}
+
+-- ---- the universal and the equality factor are numbered
+
+ones-numbered : (n : ℕ) → numbering eqb (1 ∷ []) (replicate n 1) ≡ replicate n 1
+unfolding numbering
+ones-numbered zero = refl
+ones-numbered (suc n) = ap (λ (l : Column). 1 ∷ l) (ones-numbered n)
+
+pub number-universal : (n : ℕ) → number (universal n) ≡ universal n
+unfolding number universal numbering
+number-universal zero = refl
+number-universal (suc n) = ap (λ (l : Column). 1 ∷ l) (ones-numbered n)
+
+pub length-universal : (n : ℕ) → length (universal n) ≡ n
+unfolding universal
+length-universal n = length-replicate n 1
+
+pub place-up : (k i x : ℕ) → i + k ≤ x → indexOf eqb (upFrom i k) x ≡ k
+unfolding upFrom indexOf
+place-up zero i x h = refl
+place-up (suc k) i x h = place-no eqb eqb-true eqb-self i (upFrom (suc i) k) x (ne-eqb i x (omega arith)) ∙ ap suc (place-up k (suc i) x (omega arith))
+
+pub add-up : (k i x : ℕ) → x ≡ i + k → addNew eqb (upFrom i k) x ≡ upFrom i (suc k)
+unfolding upFrom addNew
+add-up zero i x e = ap (λ (y : ℕ). y ∷ []) (omega arith)
+add-up (suc k) i x e = add-no eqb eqb-true eqb-self i (upFrom (suc i) k) x (ne-eqb i x (omega arith)) ∙ ap (λ (l : Column). i ∷ l) (add-up k (suc i) x (omega arith))
+
+up-numbered : (n k : ℕ) → numbering eqb (upFrom 1 k) (upFrom (suc k) n) ≡ upFrom (suc k) n
+unfolding numbering upFrom
+up-numbered zero k = refl
+up-numbered (suc n) k =
+    ap₂ (λ (i : ℕ) (l : Column). suc i ∷ l) (place-up k 1 (suc k) (omega arith))
+    (ap (λ (s : List ℕ). numbering eqb s (upFrom (suc (suc k)) n)) (add-up k 1 (suc k) (omega arith)) ∙ up-numbered n (suc k))
+
+pub number-equality : (n : ℕ) → number (equality n) ≡ equality n
+unfolding number equality upFrom
+number-equality n = up-numbered n 0
+
+pub length-up : (n i : ℕ) → length (upFrom i n) ≡ n
+unfolding upFrom
+length-up zero i = refl
+length-up (suc n) i = ap suc (length-up n (suc i))
+
+pub length-equality : (n : ℕ) → length (equality n) ≡ n
+unfolding equality
+length-equality n = length-up n 1
+
+-- ---- members of the plot family
+
+in-map : (Fs : List Column) (F : Column) → F ∈ Fs → number F ∈ map number Fs
+in-map [] F m = absurd (List·Memᴰ·not-nil m)
+in-map (G ∷ Fs) F m = go (in-map Fs F) (List·Memᴰ·cases-cons m)
+  where
+    go : (F ∈ Fs → number F ∈ map number Fs) → (F ≡ G) ⊎ (F ∈ Fs) → number F ∈ number G ∷ map number Fs
+    go below (inl e) = List·Memᴰ·head (ap number e)
+    go below (inr m′) = List·Memᴰ·tail (below m′)
+
+module _ (n : ℕ) (Fs : List Column) where
+  from-map : (Gs : List Column) → ((G : Column) → G ∈ Gs → G ∈ Fs) → (H : Column) → H ∈ map number Gs → InPlotFamily n Fs H
+  from-map [] f H m = absurd (List·Memᴰ·not-nil m)
+  from-map (G ∷ Gs) f H m = go (from-map Gs (λ K k. f K (List·Memᴰ·tail k)) H) (List·Memᴰ·cases-cons m)
+    where
+      go : (H ∈ map number Gs → InPlotFamily n Fs H) → (H ≡ number G) ⊎ (H ∈ map number Gs) → InPlotFamily n Fs H
+      go below (inl e) = rw e (by-column (f G (List·Memᴰ·head refl)))
+      go below (inr m′) = below m′
+
+  from-given : (H : Column) → H ∈ generators n Fs → InPlotFamily n Fs H
+  unfolding generators
+  from-given H m = first (List·Memᴰ·cases-cons m)
+    where
+      second : (H ≡ equality n) ⊎ (H ∈ map number Fs) → InPlotFamily n Fs H
+      second (inl e) = rw e by-equality
+      second (inr k) = from-map Fs (λ G g. g) H k
+
+      first : (H ≡ universal n) ⊎ (H ∈ equality n ∷ map number Fs) → InPlotFamily n Fs H
+      first (inl e) = rw e by-universal
+      first (inr k) = second (List·Memᴰ·cases-cons k)
+
+  from-both : (F G H : Column) → InPlotFamily n Fs F → InPlotFamily n Fs G → H ∈ both F G → InPlotFamily n Fs H
+  unfolding both
+  from-both F G H p q m = first (List·Memᴰ·cases-cons m)
+    where
+      second : (H ≡ supremum F G) ⊎ (H ∈ []) → InPlotFamily n Fs H
+      second (inl e) = rw e (by-supremum p q)
+      second (inr k) = absurd (List·Memᴰ·not-nil k)
+
+      first : (H ≡ infimum F G) ⊎ (H ∈ supremum F G ∷ []) → InPlotFamily n Fs H
+      first (inl e) = rw e (by-infimum p q)
+      first (inr k) = second (List·Memᴰ·cases-cons k)
+
+  pub made-in-family : (H : Column) → Made both (generators n Fs) H → InPlotFamily n Fs H
+  made-in-family H (given m) = from-given H m
+  made-in-family H (made {F} {G} p q k) = from-both F G H (made-in-family F p) (made-in-family G q) k
+
+  pub in-family-made : (H : Column) → InPlotFamily n Fs H → Made both (generators n Fs) H
+  unfolding generators both
+  in-family-made H (by-column {F} m) = given (List·Memᴰ·tail (List·Memᴰ·tail (in-map Fs F m)))
+  in-family-made H by-universal = given (List·Memᴰ·head refl)
+  in-family-made H by-equality = given (List·Memᴰ·tail (List·Memᴰ·head refl))
+  in-family-made H (by-infimum {F} {G} p q) = made (in-family-made F p) (in-family-made G q) (List·Memᴰ·head refl)
+  in-family-made H (by-supremum {F} {G} p q) = made (in-family-made F p) (in-family-made G q) (List·Memᴰ·tail (List·Memᴰ·head refl))
+
+  -- question 8: the plot family is too large exactly when it has more than 32 members
+  pub plot-too-many : plotFamily n Fs ≡ tooMany ↔ (AtMost 32 (InPlotFamily n Fs) → ⊥)
+  unfolding plotFamily
+  plot-too-many = (
+    λ e few. close-too-many both (generators n Fs) .0 e (λ S d f. few S d (λ F m. made-in-family F (f F m))),
+    λ over. close-too-many both (generators n Fs) .1 (λ few. over (λ S d f. few S d (λ F m. in-family-made F (f F m)))),
+  )
+
+  module _ (on : (F : Column) → F ∈ Fs → length F ≡ n) where
+    pub member-length : (H : Column) → InPlotFamily n Fs H → length H ≡ n
+    member-length H (by-column {F} m) = length-number F ∙ on F m
+    member-length H by-universal = length-universal n
+    member-length H by-equality = length-equality n
+    member-length H (by-infimum {F} {G} p q) = length-infimum F G (member-length F p ∙ sym (member-length G q)) ∙ member-length F p
+    member-length H (by-supremum {F} {G} p q) = length-supremum F G (member-length F p ∙ sym (member-length G q)) ∙ member-length F p
+
+    pub member-numbered : (H : Column) → InPlotFamily n Fs H → number H ≡ H
+    member-numbered H (by-column {F} m) = number-number F
+    member-numbered H by-universal = number-universal n
+    member-numbered H by-equality = number-equality n
+    member-numbered H (by-infimum {F} {G} p q) = number-infimum F G (member-length F p ∙ sym (member-length G q))
+    member-numbered H (by-supremum {F} {G} p q) = number-supremum F G (member-length F p ∙ sym (member-length G q))
+
+    -- equivalent members are equal
+    pub member-equal : (F G : Column) → InPlotFamily n Fs F → InPlotFamily n Fs G → Equivalent n F G → F ≡ G
+    member-equal F G p q e =
+        sym (member-numbered F p) ∙ number-unique F G (member-length F p ∙ sym (member-length G q)) (rw (member-length F p) e) ∙ member-numbered G q
+
+    -- every member is in each orthogonal block structure that contains the plot factors
+    pub contained : (S : Family) → OrthogonalBlockStructure n S → ((F : Column) → F ∈ Fs → Contains n S F) → (H : Column) → InPlotFamily n Fs H → Contains n S H
+    contained S o c H (by-column {F} m) =
+        record { member = c F m .member; isMember = c F m .isMember; equivalent = equivalent-trans (c F m .equivalent) (equivalent-sym (number-equivalent F (on F m))) }
+    contained S o c H by-universal = o .hasUniversal
+    contained S o c H by-equality = o .hasEquality
+    contained S o c H (by-infimum {F} {G} p q) = go (contained S o c F p) (contained S o c G q)
+      where
+        go : Contains n S F → Contains n S G → Contains n S (infimum F G)
+        go a b = let k : Contains n S (infimum (a .member) (b .member)) = o .hasInfima (a .member) (b .member) (a .isMember) (b .isMember) in
+            record {
+              member = k .member;
+              isMember = k .isMember;
+              equivalent = equivalent-trans (k .equivalent) (infimum-equivalent n (o .onPlots _ (a .isMember)) (o .onPlots _ (b .isMember)) (member-length F p) (member-length G q) (a .equivalent) (b .equivalent));
+            }
+    contained S o c H (by-supremum {F} {G} p q) = go (contained S o c F p) (contained S o c G q)
+      where
+        go : Contains n S F → Contains n S G → Contains n S (supremum F G)
+        go a b = let k : Contains n S (supremum (a .member) (b .member)) = o .hasSuprema (a .member) (b .member) (a .isMember) (b .isMember) in
+            record {
+              member = k .member;
+              isMember = k .isMember;
+              equivalent = equivalent-trans (k .equivalent) (supremum-equivalent n (o .onPlots _ (a .isMember)) (o .onPlots _ (b .isMember)) (member-length F p) (member-length G q) (a .equivalent) (b .equivalent));
+            }
+
+    -- ---- the family as listed
+
+    module _ (R : Family) (s : Smallest both (generators n Fs) R) where
+      pub in-R : (F : Column) → F ∈ R → InPlotFamily n Fs F
+      in-R F m = made-in-family F (s .only F m)
+
+      pub to-R : (F : Column) → InPlotFamily n Fs F → F ∈ R
+      to-R F p = s .all F (in-family-made F p)
+
+      itself : (F : Column) → InPlotFamily n Fs F → Contains n R F
+      itself F p = record { member = F; isMember = to-R F p; equivalent = equivalent-refl }
+
+      ascending-inequivalent : (S : Family) → Ascending S → ((F : Column) → F ∈ S → InPlotFamily n Fs F) → Inequivalent n S
+      ascending-inequivalent S empty f = no-member
+      ascending-inequivalent S (cons {F = F} {S = T} h a) f =
+          unlike (λ G m e. clash (h G m) (subst (λ (K : Column). before F K ≡ false) (member-equal F G (f F (List·Memᴰ·head refl)) (f G (List·Memᴰ·tail m)) e) (before-self F)))
+          (ascending-inequivalent T a (λ G m. f G (List·Memᴰ·tail m)))
+
+      -- an accepted family is an orthogonal block structure
+      pub accepted-structure : verdict n (family R) .refusal ≡ 0 → OrthogonalBlockStructure n R
+      accepted-structure e = record {
+        onPlots = λ F m. member-length F (in-R F m);
+        inequivalent = ascending-inequivalent R (s .ascending) in-R;
+        hasUniversal = itself (universal n) by-universal;
+        hasEquality = itself (equality n) by-equality;
+        hasInfima = λ F G m k. itself (infimum F G) (by-infimum (in-R F m) (in-R G k));
+        hasSuprema = λ F G m k. itself (supremum F G) (by-supremum (in-R F m) (in-R G k));
+        uniform = λ F m. uniform-test n F .0 (failing-none (uniform n) 0 R (passed .0) F m);
+        orthogonal = λ F G m k. two F G m k (pairwise-cases (orthogonal n) (pairs-none (orthogonal n) 0 R (passed .1)) F G m k);
+      }
+        where
+          passed : (firstFailing (uniform n) 1 R ≡ 0) × (firstPair (orthogonal n) 1 R .first ≡ 0)
+          passed = verdict-accepts n R e
+
+          two : (F G : Column) → F ∈ R → G ∈ R → (F ≡ G) ⊎ ((orthogonal n F G ≡ true) ⊎ (orthogonal n G F ≡ true)) → Orthogonal n F G
+          two F G m k (inl q) = rw q (orthogonal-self n G (member-length G (in-R G k)))
+          two F G m k (inr (inl q)) = orthogonal-test n F G .0 q
+          two F G m k (inr (inr q)) = orthogonal-sym n G F (member-length G (in-R G k)) (member-length F (in-R F m)) (orthogonal-test n G F .0 q)
+
+      pub accepted-contains : (F : Column) → F ∈ Fs → Contains n R F
+      accepted-contains F m = record { member = number F; isMember = to-R (number F) (by-column m); equivalent = number-equivalent F (on F m) }
+
+      -- where an orthogonal block structure contains the plot factors, the family is accepted and lies inside it
+      module _ (S : Family) (o : OrthogonalBlockStructure n S) (c : (F : Column) → F ∈ Fs → Contains n S F) where
+        pub lies-inside : Inside n R S
+        lies-inside = record { each = λ F m. contained S o c F (in-R F m) }
+
+        pub accepted : verdict n (family R) .refusal ≡ 0
+        accepted = verdict-passes n R (failing-pass (uniform n) 1 R one) (pairs-pass (orthogonal n) 1 R two)
+          where
+            one : (F : Column) → F ∈ R → uniform n F ≡ true
+            one F m = let k : Contains n S F = contained S o c F (in-R F m) in uniform-test n F .1 (uniform-equivalent (k .equivalent) (o .uniform (k .member) (k .isMember)))
+
+            two : (F G : Column) → F ∈ R → G ∈ R → orthogonal n F G ≡ true
+            two F G m k =
+                let a : Contains n S F = contained S o c F (in-R F m) in let b : Contains n S G = contained S o c G (in-R G k) in
+                orthogonal-test n F G .1
+                (orthogonal-equivalent (o .onPlots (a .member) (a .isMember)) (o .onPlots (b .member) (b .isMember)) (member-length F (in-R F m)) (member-length G (in-R G k)) (a .equivalent) (b .equivalent)
+                (o .orthogonal (a .member) (b .member) (a .isMember) (b .isMember)))
+
+-- ---- the verdict
+
+pub verdict-right : (n : ℕ) (Fs : List Column) → ((F : Column) → F ∈ Fs → length F ≡ n) → AtMost 32 (InPlotFamily n Fs) → (x : Closing) → Closed both (generators n Fs) x → Demand3 n Fs (verdict n x .refusal) (verdict n x .members)
+verdict-right n Fs on few x (too-many m) =
+    absurd (lt-irrefl 32 (le-trans (m .many) (few (m .some) (m .distinct) (λ F k. made-in-family n Fs F (m .only F k)))))
+verdict-right n Fs on few x (listed {R} s) = record {
+  number = verdict-number n R;
+  refuses = (
+    λ no S o c. no (accepted n Fs on R s S o c),
+    λ none e. none R (accepted-structure n Fs on R s e) (accepted-contains n Fs on R s),
+  );
+  structure = λ e. rw (verdict-members n R) (accepted-structure n Fs on R s e);
+  contains = λ e F m. rw (verdict-members n R) (accepted-contains n Fs on R s F m);
+  least = λ e S o c. rw (verdict-members n R) (lies-inside n Fs on R s S o c);
+}
+
+-- at most 32 members, each on n plots
+pub record Fits (n : ℕ) (S : Family) : Type 0 where
+  pub few : length S ≤ 32
+  pub each : (F : Column) → F ∈ S → length F ≡ n
+
+verdict-fits : (n : ℕ) (Fs : List Column) → ((F : Column) → F ∈ Fs → length F ≡ n) → (x : Closing) → Closed both (generators n Fs) x → Fits n (verdict n x .members)
+unfolding verdict
+verdict-fits n Fs on x (too-many m) = record { few = zero-le; each = λ F k. absurd (List·Memᴰ·not-nil k) }
+verdict-fits n Fs on x (listed {R} s) = rw (verdict-members n R) (record { few = s .few; each = λ F k. member-length n Fs on F (made-in-family n Fs F (s .only F k)) })
+
+-- ---- the level table
+
+pub column-length : (n : ℕ) (levels : List ℕ) (m c : ℕ) → n ≤ 240 → 2880 ≤ length levels → c + m ≤ 12 → (F : Column) → F ∈ columnsFrom n levels c m → length F ≡ n
+unfolding columnsFrom
+column-length n levels zero c hn hl hc F k = absurd (List·Memᴰ·not-nil k)
+column-length n levels (suc m) c hn hl hc F k = go (column-length n levels m (suc c) hn hl (omega arith) F) (List·Memᴰ·cases-cons k)
+  where
+    fits : n ≤ length (drop (240 * c) levels)
+    fits = rw length-drop (omega arith)
+
+    go : (F ∈ columnsFrom n levels (suc c) m → length F ≡ n) → (F ≡ take n (drop (240 * c) levels)) ⊎ (F ∈ columnsFrom n levels (suc c) m) → length F ≡ n
+    go below (inl e) = ap length e ∙ length-take-le n (drop (240 * c) levels) fits
+    go below (inr k′) = below k′
+
+nonzero-all : (F : Column) → ((u : ℕ) → u < length F → getD F u 0 ≡ 0 → ⊥) → nonzero F ≡ true
+unfolding nonzero
+nonzero-all [] h = refl
+nonzero-all (x ∷ F) h = rw (ne-eqb x 0 (h 0 (suc-le-suc zero-le)), nonzero) (nonzero-all F (λ u hu. h (suc u) (suc-le-suc hu)))
+
+all-nonzero : (n : ℕ) (levels : List ℕ) (m c : ℕ) → n ≤ 240 → 2880 ≤ length levels → c + m ≤ 12 → ((j u : ℕ) → j < c + m → u < n → getD levels (240 * j + u) 0 ≡ 0 → ⊥) → allNonzero (columnsFrom n levels c m) ≡ true
+unfolding columnsFrom allNonzero
+all-nonzero n levels zero c hn hl hc h = refl
+all-nonzero n levels (suc m) c hn hl hc h =
+    rw (nonzero-all (take n (drop (240 * c) levels)) here, allNonzero) (all-nonzero n levels m (suc c) hn hl (omega arith) (λ j u hj hu. h j u (omega arith) hu))
+  where
+    fits : n ≤ length (drop (240 * c) levels)
+    fits = rw length-drop (omega arith)
+
+    here : (u : ℕ) → u < length (take n (drop (240 * c) levels)) → getD (take n (drop (240 * c) levels)) u 0 ≡ 0 → ⊥
+    here u hu e = h c u (omega arith) un (sym (getD-take n (drop (240 * c) levels) u 0 un ∙ getD-drop (240 * c) levels u 0) ∙ e)
+      where
+        un : u < n
+        un = rw (length-take-le n (drop (240 * c) levels) fits) at hu
+
+within-limits : (n c t b : ℕ) → 1 ≤ n → n ≤ 240 → c ≤ 6 → 2880 ≤ t → 7680 ≤ b → withinLimits n c t b ≡ true
+unfolding withinLimits
+within-limits n c t b h₁ h₂ h₃ h₄ h₅ = rw (le-leb 1 n h₁, le-leb n 240 h₂, le-leb c 6 h₃, le-leb 2880 t h₄, le-leb 7680 b h₅)
+
+-- ---- demand 3
+
+-- within the limits and with no missing level, the plot design is the verdict on the plot family
+pub design-verdict : (n c : ℕ) (levels buffer : List ℕ) → Lent n c levels buffer → plotDesign n c levels (length buffer) ≡ verdict n (plotFamily n (columnsFrom n levels 0 c))
+unfolding plotDesign designOf
+design-verdict n c levels buffer l =
+    rw (within-limits n c (length levels) (length buffer) (l .plots-least) (l .plots-most) (l .columns-most) (l .table) (l .family), plotDesign)
+    (rw (all-nonzero n levels c 0 (l .plots-most) (l .table) (omega arith) (λ j u hj hu. l .present j u (omega arith) hu), designOf))
+
+pub demand-3 : (n c : ℕ) (levels buffer : List ℕ) → Lent n c levels buffer → AtMost 32 (InPlotFamily n (columnsFrom n levels 0 c))
+    → Demand3 n (columnsFrom n levels 0 c) (plotDesign n c levels (length buffer) .refusal) (returned n buffer (plotDesign n c levels (length buffer)))
+unfolding plotFamily returned
+demand-3 n c levels buffer l few =
+    rw (design-verdict n c levels buffer l)
+    (rw (written-members n (l .plots-most) (verdict n (plotFamily n Fs) .members) buffer 0 (fit .each) (omega (arith, fit .few, l .family)))
+    (verdict-right n Fs on few (plotFamily n Fs) (close-right both (generators n Fs))))
+  where
+    Fs : List Column
+    Fs = columnsFrom n levels 0 c
+
+    on : (F : Column) → F ∈ Fs → length F ≡ n
+    on = column-length n levels c 0 (l .plots-most) (l .table) (omega arith)
+
+    fit : Fits n (verdict n (plotFamily n Fs) .members)
+    fit = verdict-fits n Fs on (plotFamily n Fs) (close-right both (generators n Fs))

@@ -1,0 +1,10 @@
+pub mod Numbering
+pub mod Supremum
+pub mod Members
+pub mod Closing
+pub mod Tests
+pub mod Verdict
+pub mod Walk
+pub mod Demand3
+pub mod Classes
+pub mod Degrees

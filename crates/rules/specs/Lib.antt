@@ -1,0 +1,5 @@
+pub mod Factor
+pub mod Family
+pub mod Structure
+pub mod Treatment
+pub mod Trials
