@@ -11,7 +11,8 @@ use lib.Dec.{eqb, ltb, leb}
 use lib.ListN.{length, getD}
 use borrow.Author.Tests.{eqb-true, eqb-false, leb-true, leb-false}
 use Rattle.rules.specs.Factor.{Column, classes, number, infimum, supremum, universal, equality}
-use Rattle.rules.specs.Family.{Family, before, insert, insertAll, _∈_, Ascending, empty, cons, Distinct, none-left, apart, AtMost, Made, given, made, InPlotFamily, by-column, by-universal, by-equality, by-infimum, by-supremum, both, generators, productsOf, products, round, Closing, tooMany, family, closing, close, plotFamily}
+use Rattle.rules.specs.Family.{Family, before, insert, insertAll, _∈_, Ascending, empty, cons, Distinct, none-left, apart, AtMost}
+use Rattle.rules.specs.Closing.{Made, given, made, InPlotFamily, by-column, by-universal, by-equality, by-infimum, by-supremum, both, plotGenerators, productsOf, products, round, Closing, tooMany, family, closing, close, plotFamily}
 use Rattle.rules.proofs.Numbering.{by-cases}
 use Rattle.rules.proofs.Members.{clash, ascending-head, ascending-tail, before-self, insertAll-keeps, insertAll-has, insertAll-only, insertAll-length, insertAll-stable, ascending-insertAll, ascending-unique}
 

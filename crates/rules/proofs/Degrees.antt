@@ -14,7 +14,7 @@ use lib.Seq.{append-snoc}
 use borrow.Author.Tests.{eqb-true, eqb-false}
 use Rattle.rules.specs.Factor.{Column, at, Same, same, classes, every, finer, coarser}
 use Rattle.rules.specs.Family.{Family, _∈_, before, Ascending, empty, cons}
-use Rattle.rules.specs.Treatment.{coarserSum, degree, degreesAfter, degrees}
+use Rattle.rules.specs.Degrees.{coarserSum, remainder, remaindersAfter, remainders, classNumber, degrees}
 use Rattle.rules.proofs.Numbering.{by-cases}
 use Rattle.rules.proofs.Members.{clash, before-classes, ascending-head, ascending-tail}
 use Rattle.rules.proofs.Tests.{Fails, every-false}
@@ -78,7 +78,7 @@ module _ (n : ℕ) (F : Column) where
 
 -- ---- the equation
 
-module _ (n : ℕ) where
+module _ (own : Column → ℤ) (n : ℕ) where
   -- neither the first member nor one that follows is strictly coarser than the first
   none-follows : (F : Column) (S : Family) → Ascending (F ∷ S) → ((G : Column) → G ∈ F ∷ S → length G ≡ n) → (G : Column) → G ∈ F ∷ S → coarser n F G ≡ false
   none-follows F S a on G m =
@@ -91,17 +91,23 @@ module _ (n : ℕ) where
       go h (inr k) = let q : classes F ≤ classes G = before-classes F G (ascending-head a G k) in omega arith
 
   equation : (S done : Family) (ds : List ℤ) → length done ≡ length ds → Ascending S → ((G : Column) → G ∈ S → length G ≡ n) → (i : ℕ) → i < length S
-      → getD (degreesAfter n done ds S) i (pos 0) ≡ degree n (getD S i []) (done ++ S) (ds ++ degreesAfter n done ds S)
-  unfolding degreesAfter degree
+      → getD (remaindersAfter own n done ds S) i (pos 0) ≡ remainder own n (getD S i []) (done ++ S) (ds ++ remaindersAfter own n done ds S)
+  unfolding remaindersAfter remainder
   equation [] done ds l a on i h = absurd (not-suc-le-zero h)
   equation (F ∷ S) done ds l a on zero h =
-      ap (λ (z : ℤ). pos (classes F) -ℤ z) (sym (sum-before n F done (F ∷ S) ds (degreesAfter n done ds (F ∷ S)) l (none-follows F S a on)))
+      ap (λ (z : ℤ). own F -ℤ z) (sym (sum-before n F done (F ∷ S) ds (remaindersAfter own n done ds (F ∷ S)) l (none-follows F S a on)))
   equation (F ∷ S) done ds l a on (suc i) h =
-      rw (append-snoc done F S, append-snoc ds (degree n F done ds) (degreesAfter n (done ++ F ∷ []) (ds ++ degree n F done ds ∷ []) S)) at
-      (equation S (done ++ F ∷ []) (ds ++ degree n F done ds ∷ []) (length-append done (F ∷ []) ∙ ap (λ (x : ℕ). x + 1) l ∙ sym (length-append ds _)) (ascending-tail a) (λ G m. on G (List·Memᴰ·tail m)) i (le-of-suc-le-suc h))
+      rw (append-snoc done F S, append-snoc ds (remainder own n F done ds) (remaindersAfter own n (done ++ F ∷ []) (ds ++ remainder own n F done ds ∷ []) S)) at
+      (equation S (done ++ F ∷ []) (ds ++ remainder own n F done ds ∷ []) (length-append done (F ∷ []) ∙ ap (λ (x : ℕ). x + 1) l ∙ sym (length-append ds _)) (ascending-tail a) (λ G m. on G (List·Memᴰ·tail m)) i (le-of-suc-le-suc h))
 
-  -- each degree of freedom is the number of classes less those of all strictly coarser members of the family
-  pub degrees-equation : (S : Family) → Ascending S → ((G : Column) → G ∈ S → length G ≡ n) → (i : ℕ) → i < length S
-      → getD (degrees n S) i (pos 0) ≡ degree n (getD S i []) S (degrees n S)
-  unfolding degrees
-  degrees-equation S a on i h = equation S [] [] refl a on i h
+  -- each number is the member's own less those of all strictly coarser members of the family
+  pub remainders-equation : (S : Family) → Ascending S → ((G : Column) → G ∈ S → length G ≡ n) → (i : ℕ) → i < length S
+      → getD (remainders own n S) i (pos 0) ≡ remainder own n (getD S i []) S (remainders own n S)
+  unfolding remainders
+  remainders-equation S a on i h = equation S [] [] refl a on i h
+
+-- "its number of classes less those of all strictly coarser members of its family"
+pub degrees-equation : (n : ℕ) (S : Family) → Ascending S → ((G : Column) → G ∈ S → length G ≡ n) → (i : ℕ) → i < length S
+    → getD (degrees n S) i (pos 0) ≡ pos (classes (getD S i [])) -ℤ coarserSum n (getD S i []) S (degrees n S)
+unfolding degrees remainder
+degrees-equation n S a on i h = remainders-equation classNumber n S a on i h

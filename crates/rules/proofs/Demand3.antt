@@ -12,7 +12,9 @@ use lib.ListN.{length, getD, take, drop, replicate, length-replicate, length-dro
 use lib.Seq.{length-take-le, getD-take, getD-drop}
 use borrow.Author.Tests.{eqb-true, eqb-false, ne-eqb, le-leb}
 use Rattle.rules.specs.Factor.{Column, Equivalent, indexOf, addNew, numbering, number, infimum, supremum, universal, upFrom, equality, Uniform, uniform, Orthogonal, orthogonal}
-use Rattle.rules.specs.Family.{Family, _∈_, before, Ascending, empty, cons, AtMost, Made, given, made, InPlotFamily, by-column, by-universal, by-equality, by-infimum, by-supremum, both, generators, Closing, tooMany, family, close, plotFamily, firstFailing, firstPair, none, Answer, verdict, columnsFrom, nonzero, allNonzero, withinLimits, designOf, plotDesign, written, returned}
+use Rattle.rules.specs.Family.{Family, _∈_, before, Ascending, empty, cons, AtMost, columnsFrom, written}
+use Rattle.rules.specs.Closing.{Made, given, made, InPlotFamily, by-column, by-universal, by-equality, by-infimum, by-supremum, both, plotGenerators, Closing, tooMany, family, close, plotFamily}
+use Rattle.rules.specs.Design.{firstFailing, firstPair, none, Answer, question8, nonzero, allNonzero, withinLimits, question7, plotDesign, returned}
 use Rattle.rules.specs.Structure.{Contains, Inside, Inequivalent, no-member, unlike, OrthogonalBlockStructure, ContainsAll, Lent, Demand3}
 use Rattle.rules.proofs.Numbering.{by-cases, eqb-self, place-no, add-no, length-number, number-number, number-unique, length-infimum, number-infimum}
 use Rattle.rules.proofs.Supremum.{length-supremum, number-supremum, equivalent-sym, equivalent-trans, equivalent-refl, number-equivalent, supremum-equivalent, infimum-equivalent}
@@ -87,8 +89,8 @@ module _ (n : ℕ) (Fs : List Column) where
       go below (inl e) = rw e (by-column (f G (List·Memᴰ·head refl)))
       go below (inr m′) = below m′
 
-  from-given : (H : Column) → H ∈ generators n Fs → InPlotFamily n Fs H
-  unfolding generators
+  from-given : (H : Column) → H ∈ plotGenerators n Fs → InPlotFamily n Fs H
+  unfolding plotGenerators
   from-given H m = first (List·Memᴰ·cases-cons m)
     where
       second : (H ≡ equality n) ⊎ (H ∈ map number Fs) → InPlotFamily n Fs H
@@ -111,12 +113,12 @@ module _ (n : ℕ) (Fs : List Column) where
       first (inl e) = rw e (by-infimum p q)
       first (inr k) = second (List·Memᴰ·cases-cons k)
 
-  pub made-in-family : (H : Column) → Made both (generators n Fs) H → InPlotFamily n Fs H
+  pub made-in-family : (H : Column) → Made both (plotGenerators n Fs) H → InPlotFamily n Fs H
   made-in-family H (given m) = from-given H m
   made-in-family H (made {F} {G} p q k) = from-both F G H (made-in-family F p) (made-in-family G q) k
 
-  pub in-family-made : (H : Column) → InPlotFamily n Fs H → Made both (generators n Fs) H
-  unfolding generators both
+  pub in-family-made : (H : Column) → InPlotFamily n Fs H → Made both (plotGenerators n Fs) H
+  unfolding plotGenerators both
   in-family-made H (by-column {F} m) = given (List·Memᴰ·tail (List·Memᴰ·tail (in-map Fs F m)))
   in-family-made H by-universal = given (List·Memᴰ·head refl)
   in-family-made H by-equality = given (List·Memᴰ·tail (List·Memᴰ·head refl))
@@ -127,8 +129,8 @@ module _ (n : ℕ) (Fs : List Column) where
   pub plot-too-many : plotFamily n Fs ≡ tooMany ↔ (AtMost 32 (InPlotFamily n Fs) → ⊥)
   unfolding plotFamily
   plot-too-many = (
-    λ e few. close-too-many both (generators n Fs) .0 e (λ S d f. few S d (λ F m. made-in-family F (f F m))),
-    λ over. close-too-many both (generators n Fs) .1 (λ few. over (λ S d f. few S d (λ F m. in-family-made F (f F m)))),
+    λ e few. close-too-many both (plotGenerators n Fs) .0 e (λ S d f. few S d (λ F m. made-in-family F (f F m))),
+    λ over. close-too-many both (plotGenerators n Fs) .1 (λ few. over (λ S d f. few S d (λ F m. in-family-made F (f F m)))),
   )
 
   module _ (on : (F : Column) → F ∈ Fs → length F ≡ n) where
@@ -178,7 +180,7 @@ module _ (n : ℕ) (Fs : List Column) where
 
     -- ---- the family as listed
 
-    module _ (R : Family) (s : Smallest both (generators n Fs) R) where
+    module _ (R : Family) (s : Smallest both (plotGenerators n Fs) R) where
       pub in-R : (F : Column) → F ∈ R → InPlotFamily n Fs F
       in-R F m = made-in-family F (s .only F m)
 
@@ -195,7 +197,7 @@ module _ (n : ℕ) (Fs : List Column) where
           (ascending-inequivalent T a (λ G m. f G (List·Memᴰ·tail m)))
 
       -- an accepted family is an orthogonal block structure
-      pub accepted-structure : verdict n (family R) .refusal ≡ 0 → OrthogonalBlockStructure n R
+      pub accepted-structure : question8 n (family R) .refusal ≡ 0 → OrthogonalBlockStructure n R
       accepted-structure e = record {
         onPlots = λ F m. member-length F (in-R F m);
         inequivalent = ascending-inequivalent R (s .ascending) in-R;
@@ -223,7 +225,7 @@ module _ (n : ℕ) (Fs : List Column) where
         pub lies-inside : Inside n R S
         lies-inside = record { each = λ F m. contained S o c F (in-R F m) }
 
-        pub accepted : verdict n (family R) .refusal ≡ 0
+        pub accepted : question8 n (family R) .refusal ≡ 0
         accepted = verdict-passes n R (failing-pass (uniform n) 1 R one) (pairs-pass (orthogonal n) 1 R two)
           where
             one : (F : Column) → F ∈ R → uniform n F ≡ true
@@ -236,9 +238,9 @@ module _ (n : ℕ) (Fs : List Column) where
                 (orthogonal-equivalent (o .onPlots (a .member) (a .isMember)) (o .onPlots (b .member) (b .isMember)) (member-length F (in-R F m)) (member-length G (in-R G k)) (a .equivalent) (b .equivalent)
                 (o .orthogonal (a .member) (b .member) (a .isMember) (b .isMember)))
 
--- ---- the verdict
+-- ---- the question8
 
-pub verdict-right : (n : ℕ) (Fs : List Column) → ((F : Column) → F ∈ Fs → length F ≡ n) → AtMost 32 (InPlotFamily n Fs) → (x : Closing) → Closed both (generators n Fs) x → Demand3 n Fs (verdict n x .refusal) (verdict n x .members)
+pub verdict-right : (n : ℕ) (Fs : List Column) → ((F : Column) → F ∈ Fs → length F ≡ n) → AtMost 32 (InPlotFamily n Fs) → (x : Closing) → Closed both (plotGenerators n Fs) x → Demand3 n Fs (question8 n x .refusal) (question8 n x .plot)
 verdict-right n Fs on few x (too-many m) =
     absurd (lt-irrefl 32 (le-trans (m .many) (few (m .some) (m .distinct) (λ F k. made-in-family n Fs F (m .only F k)))))
 verdict-right n Fs on few x (listed {R} s) = record {
@@ -257,8 +259,8 @@ pub record Fits (n : ℕ) (S : Family) : Type 0 where
   pub few : length S ≤ 32
   pub each : (F : Column) → F ∈ S → length F ≡ n
 
-verdict-fits : (n : ℕ) (Fs : List Column) → ((F : Column) → F ∈ Fs → length F ≡ n) → (x : Closing) → Closed both (generators n Fs) x → Fits n (verdict n x .members)
-unfolding verdict
+verdict-fits : (n : ℕ) (Fs : List Column) → ((F : Column) → F ∈ Fs → length F ≡ n) → (x : Closing) → Closed both (plotGenerators n Fs) x → Fits n (question8 n x .plot)
+unfolding question8
 verdict-fits n Fs on x (too-many m) = record { few = zero-le; each = λ F k. absurd (List·Memᴰ·not-nil k) }
 verdict-fits n Fs on x (listed {R} s) = rw (verdict-members n R) (record { few = s .few; each = λ F k. member-length n Fs on F (made-in-family n Fs F (s .only F k)) })
 
@@ -302,20 +304,20 @@ within-limits n c t b h₁ h₂ h₃ h₄ h₅ = rw (le-leb 1 n h₁, le-leb n 2
 
 -- ---- demand 3
 
--- within the limits and with no missing level, the plot design is the verdict on the plot family
-pub design-verdict : (n c : ℕ) (levels buffer : List ℕ) → Lent n c levels buffer → plotDesign n c levels (length buffer) ≡ verdict n (plotFamily n (columnsFrom n levels 0 c))
-unfolding plotDesign designOf
+-- within the limits and with no missing level, the plot design is the question8 on the plot family
+pub design-verdict : (n c : ℕ) (levels buffer : List ℕ) → Lent n c levels buffer → plotDesign n c levels (length buffer) ≡ question8 n (plotFamily n (columnsFrom n levels 0 c))
+unfolding plotDesign question7
 design-verdict n c levels buffer l =
     rw (within-limits n c (length levels) (length buffer) (l .plots-least) (l .plots-most) (l .columns-most) (l .table) (l .family), plotDesign)
-    (rw (all-nonzero n levels c 0 (l .plots-most) (l .table) (omega arith) (λ j u hj hu. l .present j u (omega arith) hu), designOf))
+    (rw (all-nonzero n levels c 0 (l .plots-most) (l .table) (omega arith) (λ j u hj hu. l .present j u (omega arith) hu), question7))
 
 pub demand-3 : (n c : ℕ) (levels buffer : List ℕ) → Lent n c levels buffer → AtMost 32 (InPlotFamily n (columnsFrom n levels 0 c))
     → Demand3 n (columnsFrom n levels 0 c) (plotDesign n c levels (length buffer) .refusal) (returned n buffer (plotDesign n c levels (length buffer)))
 unfolding plotFamily returned
 demand-3 n c levels buffer l few =
     rw (design-verdict n c levels buffer l)
-    (rw (written-members n (l .plots-most) (verdict n (plotFamily n Fs) .members) buffer 0 (fit .each) (omega (arith, fit .few, l .family)))
-    (verdict-right n Fs on few (plotFamily n Fs) (close-right both (generators n Fs))))
+    (rw (written-members n (l .plots-most) (question8 n (plotFamily n Fs) .plot) buffer 0 (fit .each) (omega (arith, fit .few, l .family)))
+    (verdict-right n Fs on few (plotFamily n Fs) (close-right both (plotGenerators n Fs))))
   where
     Fs : List Column
     Fs = columnsFrom n levels 0 c
@@ -323,5 +325,5 @@ demand-3 n c levels buffer l few =
     on : (F : Column) → F ∈ Fs → length F ≡ n
     on = column-length n levels c 0 (l .plots-most) (l .table) (omega arith)
 
-    fit : Fits n (verdict n (plotFamily n Fs) .members)
-    fit = verdict-fits n Fs on (plotFamily n Fs) (close-right both (generators n Fs))
+    fit : Fits n (question8 n (plotFamily n Fs) .plot)
+    fit = verdict-fits n Fs on (plotFamily n Fs) (close-right both (plotGenerators n Fs))

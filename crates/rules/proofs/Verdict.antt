@@ -1,4 +1,4 @@
--- Laws of the verdict: what the first failing places tell.
+-- Laws of the question8: what the first failing places tell.
 -- Assumes nothing.
 use mathlib.Core.Path.{_≡_, refl, sym, ap, ap₂, _∙_, subst}
 use mathlib.Core.Logic.{_↔_, _⊎_, inl, inr}
@@ -9,7 +9,9 @@ use native.Mathlib.Nat.{suc-ne-zero}
 use native.Mathlib.Omega.{arith}
 use lib.ListN.{length}
 use Rattle.rules.specs.Factor.{Column, uniform, orthogonal}
-use Rattle.rules.specs.Family.{Family, _∈_, firstFailing, firstPair, pairAt, Places, none, Answer, refused, verdict10, verdict9, verdict, Closing, tooMany, family}
+use Rattle.rules.specs.Family.{Family, _∈_}
+use Rattle.rules.specs.Design.{firstFailing, firstPair, pairAt, Places, none, Answer, refused, question10, question9, question8}
+use Rattle.rules.specs.Closing.{Closing, tooMany, family}
 use Rattle.rules.proofs.Numbering.{by-cases}
 use Rattle.rules.proofs.Members.{clash}
 
@@ -77,46 +79,46 @@ module _ (p : Column → Column → Bool) where
       go below (inr m′) (inl f) = inr (inr (rw f (h F m′)))
       go below (inr m′) (inr k′) = below m′ k′
 
--- ---- the verdict on a family
+-- ---- the question8 on a family
 
-pub verdict-members : (n : ℕ) (S : Family) → verdict n (family S) .members ≡ S
-unfolding verdict verdict9 verdict10
+pub verdict-members : (n : ℕ) (S : Family) → question8 n (family S) .plot ≡ S
+unfolding question8 question9 question10
 verdict-members n S = go (firstFailing (uniform n) 1 S)
   where
-    ten : (p : Places) → (i : ℕ) → p .first ≡ i → verdict10 S p .members ≡ S
-    ten p zero e = rw (e, verdict10)
-    ten p (suc i) e = rw (e, verdict10)
+    ten : (p : Places) → (i : ℕ) → p .first ≡ i → question10 S p .plot ≡ S
+    ten p zero e = rw (e, question10)
+    ten p (suc i) e = rw (e, question10)
 
-    go : (i : ℕ) → verdict9 n S i .members ≡ S
+    go : (i : ℕ) → question9 n S i .plot ≡ S
     go zero = ten (firstPair (orthogonal n) 1 S) _ refl
     go (suc i) = refl
 
 -- an accepted family passed both tests
-pub verdict-accepts : (n : ℕ) (S : Family) → verdict n (family S) .refusal ≡ 0 → (firstFailing (uniform n) 1 S ≡ 0) × (firstPair (orthogonal n) 1 S .first ≡ 0)
-unfolding verdict verdict9 verdict10
+pub verdict-accepts : (n : ℕ) (S : Family) → question8 n (family S) .refusal ≡ 0 → (firstFailing (uniform n) 1 S ≡ 0) × (firstPair (orthogonal n) 1 S .first ≡ 0)
+unfolding question8 question9 question10
 verdict-accepts n S e = nine (firstFailing (uniform n) 1 S) refl e
   where
-    ten : (p : Places) (i : ℕ) → p .first ≡ i → verdict10 S p .refusal ≡ 0 → p .first ≡ 0
+    ten : (p : Places) (i : ℕ) → p .first ≡ i → question10 S p .refusal ≡ 0 → p .first ≡ 0
     ten p zero q r = q
-    ten p (suc i) q r = absurd (suc-ne-zero 9 (rw (q, verdict10) at r))
+    ten p (suc i) q r = absurd (suc-ne-zero 9 (rw (q, question10) at r))
 
-    nine : (i : ℕ) → firstFailing (uniform n) 1 S ≡ i → verdict9 n S i .refusal ≡ 0 → (firstFailing (uniform n) 1 S ≡ 0) × (firstPair (orthogonal n) 1 S .first ≡ 0)
+    nine : (i : ℕ) → firstFailing (uniform n) 1 S ≡ i → question9 n S i .refusal ≡ 0 → (firstFailing (uniform n) 1 S ≡ 0) × (firstPair (orthogonal n) 1 S .first ≡ 0)
     nine zero q r = (q, ten (firstPair (orthogonal n) 1 S) _ refl r)
     nine (suc i) q r = absurd (suc-ne-zero 8 r)
 
-pub verdict-passes : (n : ℕ) (S : Family) → firstFailing (uniform n) 1 S ≡ 0 → firstPair (orthogonal n) 1 S ≡ none → verdict n (family S) .refusal ≡ 0
-unfolding verdict verdict9 verdict10
-verdict-passes n S e f = ap (λ (i : ℕ). verdict9 n S i .refusal) e ∙ ap (λ (p : Places). verdict10 S p .refusal) f
+pub verdict-passes : (n : ℕ) (S : Family) → firstFailing (uniform n) 1 S ≡ 0 → firstPair (orthogonal n) 1 S ≡ none → question8 n (family S) .refusal ≡ 0
+unfolding question8 question9 question10
+verdict-passes n S e f = ap (λ (i : ℕ). question9 n S i .refusal) e ∙ ap (λ (p : Places). question10 S p .refusal) f
 
 -- a family is accepted, or refused by 9 or 10
-pub verdict-number : (n : ℕ) (S : Family) → (verdict n (family S) .refusal ≡ 0) ⊎ ((verdict n (family S) .refusal ≡ 9) ⊎ (verdict n (family S) .refusal ≡ 10))
-unfolding verdict verdict9 verdict10
+pub verdict-number : (n : ℕ) (S : Family) → (question8 n (family S) .refusal ≡ 0) ⊎ ((question8 n (family S) .refusal ≡ 9) ⊎ (question8 n (family S) .refusal ≡ 10))
+unfolding question8 question9 question10
 verdict-number n S = nine (firstFailing (uniform n) 1 S)
   where
-    ten : (p : Places) (i : ℕ) → p .first ≡ i → (verdict10 S p .refusal ≡ 0) ⊎ ((verdict10 S p .refusal ≡ 9) ⊎ (verdict10 S p .refusal ≡ 10))
-    ten p zero q = inl (rw (q, verdict10))
-    ten p (suc i) q = inr (inr (rw (q, verdict10)))
+    ten : (p : Places) (i : ℕ) → p .first ≡ i → (question10 S p .refusal ≡ 0) ⊎ ((question10 S p .refusal ≡ 9) ⊎ (question10 S p .refusal ≡ 10))
+    ten p zero q = inl (rw (q, question10))
+    ten p (suc i) q = inr (inr (rw (q, question10)))
 
-    nine : (i : ℕ) → (verdict9 n S i .refusal ≡ 0) ⊎ ((verdict9 n S i .refusal ≡ 9) ⊎ (verdict9 n S i .refusal ≡ 10))
+    nine : (i : ℕ) → (question9 n S i .refusal ≡ 0) ⊎ ((question9 n S i .refusal ≡ 9) ⊎ (question9 n S i .refusal ≡ 10))
     nine zero = ten (firstPair (orthogonal n) 1 S) _ refl
     nine (suc i) = inr (inl refl)

@@ -1,5 +1,12 @@
+pub mod Limits
+pub mod Lists
 pub mod Factor
 pub mod Family
+pub mod Closing
 pub mod Structure
-pub mod Treatment
+pub mod Design
+pub mod Relation
+pub mod Degrees
+pub mod Strata
+pub mod Names
 pub mod Trials

@@ -1,20 +1,24 @@
--- Orthogonal block structures, of any size, with members that are any columns.
+-- Orthogonal block structures, and what demand 3 asks of the plot design.
 -- Assumes nothing.
 use mathlib.Core.Path.{_≡_}
 use mathlib.Core.List.{List, [], _∷_}
 use mathlib.Core.Logic.{_↔_, _⊎_}
 use Prim.Native.Nat.{ℕ, _+_, _*_, _<_, _≤_}
 use lib.ListN.{length, getD}
+use Rattle.rules.specs.Limits.{mostPlots, mostColumns, tableCells, familyBytes}
 use Rattle.rules.specs.Factor.{Column, Equivalent, infimum, supremum, universal, equality, Uniform, Orthogonal}
 use Rattle.rules.specs.Family.{Family, _∈_}
 
--- a family contains a factor when one of its members is equivalent to it
+-- "A family contains a factor when one of its members is equivalent to it."
 pub record Contains (n : ℕ) (S : Family) (F : Column) : Type 0 where
   pub member : Column
   pub isMember : member ∈ S
   pub equivalent : Equivalent n member F
 
--- S lies inside R
+abbrev pub ContainsAll : ℕ → Family → List Column → Type 0
+ContainsAll n S Fs = (F : Column) → F ∈ Fs → Contains n S F
+
+-- "It lies inside another family when that one contains each of its members."
 pub record Inside (n : ℕ) (S R : Family) : Type 0 where
   pub each : (F : Column) → F ∈ S → Contains n R F
 
@@ -23,6 +27,7 @@ pub data Inequivalent (n : ℕ) : Family → Type 0 where
   no-member : Inequivalent n []
   unlike : {F : Column} {S : Family} → ((G : Column) → G ∈ S → Equivalent n F G → ⊥) → Inequivalent n S → Inequivalent n (F ∷ S)
 
+-- "a set of inequivalent factors with U and E, closed under infimum and supremum, each with classes of one size, every two orthogonal. Its members may be any factors on those plots, in any number."
 pub record OrthogonalBlockStructure (n : ℕ) (S : Family) : Type 0 where
   pub onPlots : (F : Column) → F ∈ S → length F ≡ n
   pub inequivalent : Inequivalent n S
@@ -33,24 +38,25 @@ pub record OrthogonalBlockStructure (n : ℕ) (S : Family) : Type 0 where
   pub uniform : (F : Column) → F ∈ S → Uniform n F
   pub orthogonal : (F G : Column) → F ∈ S → G ∈ S → Orthogonal n F G
 
-abbrev pub ContainsAll : ℕ → Family → List Column → Type 0
-ContainsAll n S Fs = (F : Column) → F ∈ Fs → Contains n S F
-
 -- ---- demand 3
 
--- plots and plot columns within the limits, slices as long as the rules ask, and no missing level
+-- "any plots and plot factors within the stated limits, with no missing level, in lent slices as long as the rules ask, whatever else these hold"
 pub record Lent (n c : ℕ) (levels buffer : List ℕ) : Type 0 where
   pub plots-least : 1 ≤ n
-  pub plots-most : n ≤ 240
-  pub columns-most : c ≤ 6
-  pub table : 2880 ≤ length levels
-  pub family : 7680 ≤ length buffer
-  pub present : (j u : ℕ) → j < c → u < n → getD levels (240 * j + u) 0 ≡ 0 → ⊥
+  pub plots-most : n ≤ mostPlots
+  pub columns-most : c ≤ mostColumns
+  pub table : tableCells ≤ length levels
+  pub family : familyBytes ≤ length buffer
+  pub present : (j u : ℕ) → j < c → u < n → getD levels (mostPlots * j + u) 0 ≡ 0 → ⊥
 
--- what is asked for the plot factors Fs on n plots: of the number answered, 0 for none, and of the family returned
+-- of the plot factors Fs on n plots: the number answered, 0 for none, and the family returned
 pub record Demand3 (n : ℕ) (Fs : List Column) (refusal : ℕ) (R : Family) : Type 0 where
+  -- "a refusal is the 9 or 10 .. that these rules assign"
   pub number : (refusal ≡ 0) ⊎ ((refusal ≡ 9) ⊎ (refusal ≡ 10))
+  -- "refuses the plot factors exactly when no orthogonal block structure of any size on those plots contains them"
   pub refuses : (refusal ≡ 0 → ⊥) ↔ ((S : Family) → OrthogonalBlockStructure n S → ContainsAll n S Fs → ⊥)
+  -- "the family it returns is an orthogonal block structure that contains them"
   pub structure : refusal ≡ 0 → OrthogonalBlockStructure n R
   pub contains : refusal ≡ 0 → ContainsAll n R Fs
+  -- "and lies inside every other one that contains them"
   pub least : refusal ≡ 0 → (S : Family) → OrthogonalBlockStructure n S → ContainsAll n S Fs → Inside n R S

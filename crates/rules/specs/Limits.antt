@@ -1,0 +1,29 @@
+-- The limits, each named once.
+-- "Limits: 1 to 240 plots (N); 0 to 6 plot columns; 0 to 6 treatment columns; 1 to 32 members in a family; interaction level k from 1 to 6"
+use Prim.Native.Nat.{ℕ}
+
+-- plots of a sheet, and the distance from one column or member to the next in lent memory
+abbrev pub mostPlots : ℕ
+mostPlots = 240
+
+-- columns of one kind
+abbrev pub mostColumns : ℕ
+mostColumns = 6
+
+-- members of a family
+abbrev pub mostMembers : ℕ
+mostMembers = 32
+
+-- the interaction level k
+abbrev pub mostInteraction : ℕ
+mostInteraction = 6
+
+-- "all lent slices long enough (level table 2,880, family 7,680, name 96)"
+abbrev pub tableCells : ℕ
+tableCells = 2880
+
+abbrev pub familyBytes : ℕ
+familyBytes = 7680
+
+abbrev pub nameBytes : ℕ
+nameBytes = 96
