@@ -1,21 +1,19 @@
 -- Laws of the number of classes: a strictly coarser factor has fewer.
 -- Assumes nothing.
-use mathlib.Core.Path.{_≡_, refl, sym, ap, ap₂, _∙_, subst}
+use mathlib.Core.Path.{_≡_, refl, sym, ap, _∙_}
 use mathlib.Core.Logic.{_↔_, _⊎_, inl, inr}
-use mathlib.Core.Bool.{Bool, true, false, not, _&&_, _||_, true≢false}
-use mathlib.Core.List.{List, [], _∷_, map, List·Memᴰ, List·Memᴰ·head, List·Memᴰ·tail, List·Memᴰ·cases-cons, List·Memᴰ·not-nil, Memᴰ·cast}
-use Prim.Native.Nat.{ℕ, zero, suc, _+_, _≤_, _<_, zero-le, suc-le-suc}
-use native.Mathlib.Nat.{not-suc-le-zero, le-of-suc-le-suc, le-refl}
-use native.Mathlib.Omega.{arith}
-use lib.Dec.{eqb, ltb}
-use lib.ListN.{length, getD, length-map}
-use borrow.Author.Tests.{eqb-true, eq-eqb, ne-eqb, eqb-false}
-use Rattle.rules.specs.Factor.{Column, at, Same, same, Finer, indexOf, addNew, labels, classes, every, finer, coarser}
+use mathlib.Core.Bool.{true}
+use mathlib.Core.List.{List, [], _∷_, map, List·Memᴰ·head, List·Memᴰ·tail, List·Memᴰ·cases-cons, List·Memᴰ·not-nil, Memᴰ·cast}
+use Prim.Native.Nat.{ℕ, _≤_, _<_, zero-le, suc-le-suc}
+use native.Mathlib.Nat.{not-suc-le-zero, le-of-suc-le-suc}
+use lib.Dec.{eqb}
+use lib.ListN.{length, length-map}
+use borrow.Author.Tests.{eqb-true, eq-eqb, eqb-false}
+use Rattle.rules.specs.Factor.{Column, at, Same, same, Finer, indexOf, addNew, labels, classes, finer}
 use Rattle.rules.specs.Family.{_∈_, Distinct, none-left, apart}
 use Rattle.rules.proofs.Numbering.{by-cases, eqb-self, place-yes, place-no, add-yes, add-no, has-all, has-getD, getD-place}
-use Rattle.rules.proofs.Members.{clash}
 use Rattle.rules.proofs.Closing.{pigeonhole}
-use Rattle.rules.proofs.Tests.{every-at, every-all, every-false, or-not, not-or}
+use Rattle.rules.proofs.Tests.{every-at, every-all, or-not, not-or}
 
 -- ---- the different labels
 

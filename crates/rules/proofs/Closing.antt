@@ -1,20 +1,20 @@
 -- Laws of closing: it lists exactly the smallest closed set, or that set has more than 32 members.
 -- Assumes nothing.
-use mathlib.Core.Path.{_≡_, refl, sym, ap, ap₂, _∙_, subst}
+use mathlib.Core.Path.{_≡_, refl, sym, ap, _∙_}
 use mathlib.Core.Logic.{_↔_, _⊎_, inl, inr}
-use mathlib.Core.Bool.{Bool, true, false, true≢false}
-use mathlib.Core.List.{List, [], _∷_, _++_, map, List·Memᴰ, List·Memᴰ·head, List·Memᴰ·tail, List·Memᴰ·cases-cons, List·Memᴰ·not-nil, Memᴰ·cast, List·Memᴰ·append-cases, Memᴰ·append-left, Memᴰ·append-right}
+use mathlib.Core.Bool.{true, false}
+use mathlib.Core.List.{List, [], _∷_, _++_, List·Memᴰ·head, List·Memᴰ·tail, List·Memᴰ·cases-cons, List·Memᴰ·not-nil, List·Memᴰ·eq-of-singleton, Memᴰ·cast, List·Memᴰ·append-cases, Memᴰ·append-left, Memᴰ·append-right}
 use Prim.Native.Nat.{ℕ, zero, suc, _+_, _≤_, _<_, zero-le, suc-le-suc}
-use native.Mathlib.Nat.{not-suc-le-zero, le-of-suc-le-suc, le-refl, le-of-lt, suc-inj, lt-irrefl, le-trans}
+use native.Mathlib.Nat.{lt-irrefl, le-trans}
 use native.Mathlib.Omega.{arith}
-use lib.Dec.{eqb, ltb, leb}
-use lib.ListN.{length, getD}
+use lib.Dec.{eqb, leb}
+use lib.ListN.{length}
 use borrow.Author.Tests.{eqb-true, eqb-false, leb-true, leb-false}
-use Rattle.rules.specs.Factor.{Column, classes, number, infimum, supremum, universal, equality}
-use Rattle.rules.specs.Family.{Family, before, insert, insertAll, _∈_, Ascending, empty, cons, Distinct, none-left, apart, AtMost}
-use Rattle.rules.specs.Closing.{Made, given, made, InPlotFamily, by-column, by-universal, by-equality, by-infimum, by-supremum, both, plotGenerators, productsOf, products, round, Closing, tooMany, family, closing, close, plotFamily}
+use Rattle.rules.specs.Factor.{Column}
+use Rattle.rules.specs.Family.{Family, insertAll, _∈_, Ascending, empty, cons, Distinct, none-left, apart, AtMost}
+use Rattle.rules.specs.Closing.{Made, given, made, productsOf, products, round, Closing, tooMany, family, closing, close}
 use Rattle.rules.proofs.Numbering.{by-cases}
-use Rattle.rules.proofs.Members.{clash, ascending-head, ascending-tail, before-self, insertAll-keeps, insertAll-has, insertAll-only, insertAll-length, insertAll-stable, ascending-insertAll, ascending-unique}
+use Rattle.rules.proofs.Members.{clash, before-self, insertAll-keeps, insertAll-has, insertAll-only, insertAll-length, insertAll-stable, ascending-insertAll, ascending-unique}
 
 -- ---- counting
 
@@ -66,7 +66,7 @@ module _ (make : Column → Column → List Column) where
       go below (inl e) = Memᴰ·append-left _ (rw e at k)
       go below (inr m′) = Memᴰ·append-right (make F G′) (below m′)
 
-  products-has : (Fs S : Family) (F G H : Column) → F ∈ Fs → G ∈ S → H ∈ make F G → H ∈ products make Fs S
+  pub products-has : (Fs S : Family) (F G H : Column) → F ∈ Fs → G ∈ S → H ∈ make F G → H ∈ products make Fs S
   unfolding products
   products-has [] S F G H m n k = absurd (List·Memᴰ·not-nil m)
   products-has (F′ ∷ Fs) S F G H m n k = go (λ m′. products-has Fs S F G H m′ n k) (List·Memᴰ·cases-cons m)
@@ -75,25 +75,42 @@ module _ (make : Column → Column → List Column) where
       go below (inl e) = Memᴰ·append-left _ (productsOf-has F′ S G H n (rw e at k))
       go below (inr m′) = Memᴰ·append-right (productsOf make F′ S) (below m′)
 
+  -- what a column of products R S comes from
+  pub record Product (R S : Family) (H : Column) : Type 0 where
+    pub left : Column
+    pub right : Column
+    pub in-left : left ∈ R
+    pub in-right : right ∈ S
+    pub makes : H ∈ make left right
+
+  productsOf-from : (F : Column) (S : Family) (H : Column) → H ∈ productsOf make F S → Product (F ∷ []) S H
+  unfolding productsOf
+  productsOf-from F [] H m = absurd (List·Memᴰ·not-nil m)
+  productsOf-from F (G ∷ S) H m = go (productsOf-from F S H) (List·Memᴰ·append-cases (make F G) m)
+    where
+      further : Product (F ∷ []) S H → Product (F ∷ []) (G ∷ S) H
+      further p = record { left = p .left; right = p .right; in-left = p .in-left; in-right = List·Memᴰ·tail (p .in-right); makes = p .makes }
+
+      go : (H ∈ productsOf make F S → Product (F ∷ []) S H) → (H ∈ make F G) ⊎ (H ∈ productsOf make F S) → Product (F ∷ []) (G ∷ S) H
+      go below (inl k) = record { left = F; right = G; in-left = List·Memᴰ·head refl; in-right = List·Memᴰ·head refl; makes = k }
+      go below (inr k) = further (below k)
+
+  pub products-from : (R S : Family) (H : Column) → H ∈ products make R S → Product R S H
+  unfolding products
+  products-from [] S H m = absurd (List·Memᴰ·not-nil m)
+  products-from (F ∷ R) S H m = go (products-from R S H) (List·Memᴰ·append-cases (productsOf make F S) m)
+    where
+      here : Product (F ∷ []) S H → Product (F ∷ R) S H
+      here p = record { left = p .left; right = p .right; in-left = List·Memᴰ·head (List·Memᴰ·eq-of-singleton (p .in-left)); in-right = p .in-right; makes = p .makes }
+
+      further : Product R S H → Product (F ∷ R) S H
+      further p = record { left = p .left; right = p .right; in-left = List·Memᴰ·tail (p .in-left); in-right = p .in-right; makes = p .makes }
+
+      go : (H ∈ products make R S → Product R S H) → (H ∈ productsOf make F S) ⊎ (H ∈ products make R S) → Product (F ∷ R) S H
+      go below (inl k) = here (productsOf-from F S H k)
+      go below (inr k) = further (below k)
+
   module _ (Fs : List Column) where
-    productsOf-only : (F : Column) → Made make Fs F → (S : Family) → ((G : Column) → G ∈ S → Made make Fs G) → (H : Column) → H ∈ productsOf make F S → Made make Fs H
-    unfolding productsOf
-    productsOf-only F p [] f H m = absurd (List·Memᴰ·not-nil m)
-    productsOf-only F p (G ∷ S) f H m = go (productsOf-only F p S (λ K k. f K (List·Memᴰ·tail k)) H) (List·Memᴰ·append-cases (make F G) m)
-      where
-        go : (H ∈ productsOf make F S → Made make Fs H) → (H ∈ make F G) ⊎ (H ∈ productsOf make F S) → Made make Fs H
-        go below (inl k) = made p (f G (List·Memᴰ·head refl)) k
-        go below (inr k) = below k
-
-    products-only : (R S : Family) → ((G : Column) → G ∈ R → Made make Fs G) → ((G : Column) → G ∈ S → Made make Fs G) → (H : Column) → H ∈ products make R S → Made make Fs H
-    unfolding products
-    products-only [] S e f H m = absurd (List·Memᴰ·not-nil m)
-    products-only (F ∷ R) S e f H m = go (products-only R S (λ K k. e K (List·Memᴰ·tail k)) f H) (List·Memᴰ·append-cases (productsOf make F S) m)
-      where
-        go : (H ∈ products make R S → Made make Fs H) → (H ∈ productsOf make F S) ⊎ (H ∈ products make R S) → Made make Fs H
-        go below (inl k) = productsOf-only F (e F (List·Memᴰ·head refl)) S f H k
-        go below (inr k) = below k
-
     -- a family between the columns given and the smallest set
     pub record Within (S : Family) : Type 0 where
       pub ascending : Ascending S
@@ -109,7 +126,7 @@ module _ (make : Column → Column → List Column) where
     }
       where
         go : (G : Column) → (G ∈ products make S S) ⊎ (G ∈ S) → Made make Fs G
-        go G (inl m) = products-only S S (w .only) (w .only) G m
+        go G (inl m) = let p : Product S S G = products-from S S G m in made (w .only (p .left) (p .in-left)) (w .only (p .right) (p .in-right)) (p .makes)
         go G (inr m) = w .only G m
 
     made-within : (S : Family) → Within S → ((F G H : Column) → F ∈ S → G ∈ S → H ∈ make F G → H ∈ S) → (G : Column) → Made make Fs G → G ∈ S

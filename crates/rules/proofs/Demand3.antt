@@ -1,138 +1,33 @@
 -- Demand 3: the plot design refuses exactly when no orthogonal block structure contains the plot factors, and the family it returns is the smallest one.
 -- Assumes nothing.
-use mathlib.Core.Path.{_≡_, refl, sym, ap, ap₂, _∙_, subst}
-use mathlib.Core.Logic.{_↔_, _⊎_, inl, inr}
-use mathlib.Core.Bool.{Bool, true, false, true≢false}
-use mathlib.Core.List.{List, [], _∷_, _++_, map, List·Memᴰ, List·Memᴰ·head, List·Memᴰ·tail, List·Memᴰ·cases-cons, List·Memᴰ·not-nil, Memᴰ·cast}
+use mathlib.Core.Path.{_≡_, refl, sym, ap, _∙_, subst}
+use mathlib.Core.Logic.{_⊎_, inl, inr}
+use mathlib.Core.Bool.{true, false}
+use mathlib.Core.List.{List, [], _∷_, List·Memᴰ·head, List·Memᴰ·tail, List·Memᴰ·cases-cons, List·Memᴰ·not-nil}
 use Prim.Native.Nat.{ℕ, zero, suc, _+_, _*_, _≤_, _<_, zero-le, suc-le-suc}
-use native.Mathlib.Nat.{suc-ne-zero, le-refl, le-trans, add-zero, add-suc, suc-add, lt-irrefl}
+use native.Mathlib.Nat.{le-trans, lt-irrefl}
 use native.Mathlib.Omega.{arith}
-use lib.Dec.{eqb, ltb, leb}
-use lib.ListN.{length, getD, take, drop, replicate, length-replicate, length-drop}
+use lib.ListN.{length, getD, take, drop, length-drop}
 use lib.Seq.{length-take-le, getD-take, getD-drop}
-use borrow.Author.Tests.{eqb-true, eqb-false, ne-eqb, le-leb}
-use Rattle.rules.specs.Factor.{Column, Equivalent, indexOf, addNew, numbering, number, infimum, supremum, universal, upFrom, equality, Uniform, uniform, Orthogonal, orthogonal}
-use Rattle.rules.specs.Family.{Family, _∈_, before, Ascending, empty, cons, AtMost, columnsFrom, written}
-use Rattle.rules.specs.Closing.{Made, given, made, InPlotFamily, by-column, by-universal, by-equality, by-infimum, by-supremum, both, plotGenerators, Closing, tooMany, family, close, plotFamily}
-use Rattle.rules.specs.Design.{firstFailing, firstPair, none, Answer, question8, nonzero, allNonzero, withinLimits, question7, plotDesign, returned}
-use Rattle.rules.specs.Structure.{Contains, Inside, Inequivalent, no-member, unlike, OrthogonalBlockStructure, ContainsAll, Lent, Demand3}
-use Rattle.rules.proofs.Numbering.{by-cases, eqb-self, place-no, add-no, length-number, number-number, number-unique, length-infimum, number-infimum}
+use borrow.Author.Tests.{ne-eqb, le-leb}
+use Rattle.rules.specs.Factor.{Column, Equivalent, number, infimum, supremum, universal, equality, uniform, Orthogonal, orthogonal}
+use Rattle.rules.specs.Family.{Family, _∈_, before, Ascending, empty, cons, AtMost, columnsFrom}
+use Rattle.rules.specs.Closing.{InPlotFamily, by-column, by-universal, by-equality, by-infimum, by-supremum, both, plotGenerators, Closing, family, plotFamily}
+use Rattle.rules.specs.Design.{firstFailing, firstPair, none, question8, nonzero, allNonzero, withinLimits, question7, plotDesign, returned}
+use Rattle.rules.specs.Structure.{Contains, Inside, Inequivalent, no-member, unlike, OrthogonalBlockStructure, Lent, Demand3}
+use Rattle.rules.proofs.Numbering.{length-number, number-number, number-unique, length-infimum, number-infimum}
 use Rattle.rules.proofs.Supremum.{length-supremum, number-supremum, equivalent-sym, equivalent-trans, equivalent-refl, number-equivalent, supremum-equivalent, infimum-equivalent}
-use Rattle.rules.proofs.Members.{clash, before-self, ascending-head, ascending-tail}
-use Rattle.rules.proofs.Closing.{Smallest, Many, Closed, listed, too-many, close-right, close-too-many}
+use Rattle.rules.proofs.Members.{clash, before-self}
+use Rattle.rules.proofs.Closing.{Smallest, Closed, listed, too-many, close-right}
 use Rattle.rules.proofs.Tests.{uniform-test, orthogonal-test, uniform-equivalent, orthogonal-equivalent, orthogonal-sym, orthogonal-self}
 use Rattle.rules.proofs.Walk.{written-members}
+use Rattle.rules.proofs.Extremes.{length-universal, number-universal, length-equality, number-equality}
+use Rattle.rules.proofs.Families.{made-in-family, in-family-made}
 use Rattle.rules.proofs.Verdict.{failing-none, failing-pass, pairs-none, pairs-pass, pairwise-cases, verdict-members, verdict-accepts, verdict-passes, verdict-number}
 
--- ---- the universal and the equality factor are numbered
-
-ones-numbered : (n : ℕ) → numbering eqb (1 ∷ []) (replicate n 1) ≡ replicate n 1
-unfolding numbering
-ones-numbered zero = refl
-ones-numbered (suc n) = ap (λ (l : Column). 1 ∷ l) (ones-numbered n)
-
-pub number-universal : (n : ℕ) → number (universal n) ≡ universal n
-unfolding number universal numbering
-number-universal zero = refl
-number-universal (suc n) = ap (λ (l : Column). 1 ∷ l) (ones-numbered n)
-
-pub length-universal : (n : ℕ) → length (universal n) ≡ n
-unfolding universal
-length-universal n = length-replicate n 1
-
-pub place-up : (k i x : ℕ) → i + k ≤ x → indexOf eqb (upFrom i k) x ≡ k
-unfolding upFrom indexOf
-place-up zero i x h = refl
-place-up (suc k) i x h = place-no eqb eqb-true eqb-self i (upFrom (suc i) k) x (ne-eqb i x (omega arith)) ∙ ap suc (place-up k (suc i) x (omega arith))
-
-pub add-up : (k i x : ℕ) → x ≡ i + k → addNew eqb (upFrom i k) x ≡ upFrom i (suc k)
-unfolding upFrom addNew
-add-up zero i x e = ap (λ (y : ℕ). y ∷ []) (omega arith)
-add-up (suc k) i x e = add-no eqb eqb-true eqb-self i (upFrom (suc i) k) x (ne-eqb i x (omega arith)) ∙ ap (λ (l : Column). i ∷ l) (add-up k (suc i) x (omega arith))
-
-up-numbered : (n k : ℕ) → numbering eqb (upFrom 1 k) (upFrom (suc k) n) ≡ upFrom (suc k) n
-unfolding numbering upFrom
-up-numbered zero k = refl
-up-numbered (suc n) k =
-    ap₂ (λ (i : ℕ) (l : Column). suc i ∷ l) (place-up k 1 (suc k) (omega arith))
-    (ap (λ (s : List ℕ). numbering eqb s (upFrom (suc (suc k)) n)) (add-up k 1 (suc k) (omega arith)) ∙ up-numbered n (suc k))
-
-pub number-equality : (n : ℕ) → number (equality n) ≡ equality n
-unfolding number equality upFrom
-number-equality n = up-numbered n 0
-
-pub length-up : (n i : ℕ) → length (upFrom i n) ≡ n
-unfolding upFrom
-length-up zero i = refl
-length-up (suc n) i = ap suc (length-up n (suc i))
-
-pub length-equality : (n : ℕ) → length (equality n) ≡ n
-unfolding equality
-length-equality n = length-up n 1
-
--- ---- members of the plot family
-
-in-map : (Fs : List Column) (F : Column) → F ∈ Fs → number F ∈ map number Fs
-in-map [] F m = absurd (List·Memᴰ·not-nil m)
-in-map (G ∷ Fs) F m = go (in-map Fs F) (List·Memᴰ·cases-cons m)
-  where
-    go : (F ∈ Fs → number F ∈ map number Fs) → (F ≡ G) ⊎ (F ∈ Fs) → number F ∈ number G ∷ map number Fs
-    go below (inl e) = List·Memᴰ·head (ap number e)
-    go below (inr m′) = List·Memᴰ·tail (below m′)
+-- ---- the members of the plot family
 
 module _ (n : ℕ) (Fs : List Column) where
-  from-map : (Gs : List Column) → ((G : Column) → G ∈ Gs → G ∈ Fs) → (H : Column) → H ∈ map number Gs → InPlotFamily n Fs H
-  from-map [] f H m = absurd (List·Memᴰ·not-nil m)
-  from-map (G ∷ Gs) f H m = go (from-map Gs (λ K k. f K (List·Memᴰ·tail k)) H) (List·Memᴰ·cases-cons m)
-    where
-      go : (H ∈ map number Gs → InPlotFamily n Fs H) → (H ≡ number G) ⊎ (H ∈ map number Gs) → InPlotFamily n Fs H
-      go below (inl e) = rw e (by-column (f G (List·Memᴰ·head refl)))
-      go below (inr m′) = below m′
-
-  from-given : (H : Column) → H ∈ plotGenerators n Fs → InPlotFamily n Fs H
-  unfolding plotGenerators
-  from-given H m = first (List·Memᴰ·cases-cons m)
-    where
-      second : (H ≡ equality n) ⊎ (H ∈ map number Fs) → InPlotFamily n Fs H
-      second (inl e) = rw e by-equality
-      second (inr k) = from-map Fs (λ G g. g) H k
-
-      first : (H ≡ universal n) ⊎ (H ∈ equality n ∷ map number Fs) → InPlotFamily n Fs H
-      first (inl e) = rw e by-universal
-      first (inr k) = second (List·Memᴰ·cases-cons k)
-
-  from-both : (F G H : Column) → InPlotFamily n Fs F → InPlotFamily n Fs G → H ∈ both F G → InPlotFamily n Fs H
-  unfolding both
-  from-both F G H p q m = first (List·Memᴰ·cases-cons m)
-    where
-      second : (H ≡ supremum F G) ⊎ (H ∈ []) → InPlotFamily n Fs H
-      second (inl e) = rw e (by-supremum p q)
-      second (inr k) = absurd (List·Memᴰ·not-nil k)
-
-      first : (H ≡ infimum F G) ⊎ (H ∈ supremum F G ∷ []) → InPlotFamily n Fs H
-      first (inl e) = rw e (by-infimum p q)
-      first (inr k) = second (List·Memᴰ·cases-cons k)
-
-  pub made-in-family : (H : Column) → Made both (plotGenerators n Fs) H → InPlotFamily n Fs H
-  made-in-family H (given m) = from-given H m
-  made-in-family H (made {F} {G} p q k) = from-both F G H (made-in-family F p) (made-in-family G q) k
-
-  pub in-family-made : (H : Column) → InPlotFamily n Fs H → Made both (plotGenerators n Fs) H
-  unfolding plotGenerators both
-  in-family-made H (by-column {F} m) = given (List·Memᴰ·tail (List·Memᴰ·tail (in-map Fs F m)))
-  in-family-made H by-universal = given (List·Memᴰ·head refl)
-  in-family-made H by-equality = given (List·Memᴰ·tail (List·Memᴰ·head refl))
-  in-family-made H (by-infimum {F} {G} p q) = made (in-family-made F p) (in-family-made G q) (List·Memᴰ·head refl)
-  in-family-made H (by-supremum {F} {G} p q) = made (in-family-made F p) (in-family-made G q) (List·Memᴰ·tail (List·Memᴰ·head refl))
-
-  -- question 8: the plot family is too large exactly when it has more than 32 members
-  pub plot-too-many : plotFamily n Fs ≡ tooMany ↔ (AtMost 32 (InPlotFamily n Fs) → ⊥)
-  unfolding plotFamily
-  plot-too-many = (
-    λ e few. close-too-many both (plotGenerators n Fs) .0 e (λ S d f. few S d (λ F m. made-in-family F (f F m))),
-    λ over. close-too-many both (plotGenerators n Fs) .1 (λ few. over (λ S d f. few S d (λ F m. in-family-made F (f F m)))),
-  )
-
   module _ (on : (F : Column) → F ∈ Fs → length F ≡ n) where
     pub member-length : (H : Column) → InPlotFamily n Fs H → length H ≡ n
     member-length H (by-column {F} m) = length-number F ∙ on F m
@@ -182,10 +77,10 @@ module _ (n : ℕ) (Fs : List Column) where
 
     module _ (R : Family) (s : Smallest both (plotGenerators n Fs) R) where
       pub in-R : (F : Column) → F ∈ R → InPlotFamily n Fs F
-      in-R F m = made-in-family F (s .only F m)
+      in-R F m = made-in-family n Fs F (s .only F m)
 
       pub to-R : (F : Column) → InPlotFamily n Fs F → F ∈ R
-      to-R F p = s .all F (in-family-made F p)
+      to-R F p = s .all F (in-family-made n Fs F p)
 
       itself : (F : Column) → InPlotFamily n Fs F → Contains n R F
       itself F p = record { member = F; isMember = to-R F p; equivalent = equivalent-refl }

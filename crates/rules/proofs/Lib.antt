@@ -1,7 +1,9 @@
 pub mod Numbering
 pub mod Supremum
+pub mod Extremes
 pub mod Members
 pub mod Closing
+pub mod Families
 pub mod Tests
 pub mod Verdict
 pub mod Walk

@@ -1,17 +1,17 @@
 -- Laws of the supremum: its classes are the plots that a chain joins.
 -- Assumes nothing.
-use mathlib.Core.Path.{_≡_, refl, sym, ap, ap₂, _∙_, subst}
+use mathlib.Core.Path.{_≡_, refl, sym, ap, _∙_}
 use mathlib.Core.Logic.{_↔_, _⊎_, inl, inr}
-use mathlib.Core.Bool.{Bool, true, false}
-use mathlib.Core.List.{List, [], _∷_}
-use Prim.Native.Nat.{ℕ, zero, suc, _+_, _≤_, _<_, zero-le, suc-le-suc}
+use mathlib.Core.Bool.{true, false}
+use mathlib.Core.List.{[], _∷_}
+use Prim.Native.Nat.{ℕ, zero, suc, _≤_, _<_}
 use native.Mathlib.Nat.{not-suc-le-zero, le-of-suc-le-suc, le-refl, le-of-lt}
 use native.Mathlib.Omega.{arith}
 use lib.Dec.{eqb, ltb}
-use lib.ListN.{length, getD}
+use lib.ListN.{length}
 use borrow.Author.Tests.{eqb-true, eq-eqb, ne-eqb, eqb-false, ltb-true, ltb-false}
 use Rattle.rules.specs.Factor.{Column, at, Same, Finer, Equivalent, indexOf, number, infimum, relabel, joined, supremum, Chain, start, alongF, alongG}
-use Rattle.rules.proofs.Numbering.{by-cases, eqb-self, has-getD, getD-place, length-number, number-same, number-number, number-unique, length-infimum, infimum-same, number-infimum}
+use Rattle.rules.proofs.Numbering.{by-cases, eqb-self, has-getD, getD-place, length-number, number-same, number-number, infimum-same}
 
 -- ---- relabelling
 

@@ -1,18 +1,17 @@
 -- Laws of the tests: what they say, and that they depend on the classes only.
 -- Assumes nothing.
-use mathlib.Core.Path.{_≡_, refl, sym, ap, ap₂, _∙_, subst}
-use mathlib.Core.Logic.{_↔_, _⊎_, inl, inr}
-use mathlib.Core.Bool.{Bool, true, false, not, _&&_, _||_, true≢false}
-use mathlib.Core.List.{List, [], _∷_}
-use Prim.Native.Nat.{ℕ, zero, suc, _+_, _*_, _≤_, _<_, zero-le, suc-le-suc}
-use native.Mathlib.Nat.{not-suc-le-zero, le-of-suc-le-suc, le-refl, le-of-lt, mul-comm}
+use mathlib.Core.Path.{_≡_, refl, sym, ap, ap₂, _∙_}
+use mathlib.Core.Logic.{_↔_}
+use mathlib.Core.Bool.{Bool, true, false, not, _&&_, _||_}
+use Prim.Native.Nat.{ℕ, zero, suc, _*_, _≤_, _<_}
+use native.Mathlib.Nat.{not-suc-le-zero, le-refl, mul-comm}
 use native.Mathlib.Omega.{arith}
 use lib.Dec.{eqb, ltb}
-use lib.ListN.{length, getD}
+use lib.ListN.{length}
 use borrow.Author.Tests.{eqb-true, eq-eqb, ne-eqb, eqb-false, ltb-true, ltb-false}
-use Rattle.rules.specs.Factor.{Column, at, Same, same, Finer, Equivalent, supremum, Chain, start, alongF, alongG, every, count, classSize, overlap, Uniform, uniform, Orthogonal, orthogonalIn, orthogonal}
-use Rattle.rules.proofs.Numbering.{by-cases, eqb-self}
-use Rattle.rules.proofs.Supremum.{supremum-chain, length-supremum, supremum-equivalent, equivalent-sym, equivalent-refl}
+use Rattle.rules.specs.Factor.{Column, at, Same, same, Equivalent, supremum, Chain, start, alongF, alongG, every, count, classSize, overlap, Uniform, uniform, Orthogonal, orthogonalIn, orthogonal}
+use Rattle.rules.proofs.Numbering.{by-cases}
+use Rattle.rules.proofs.Supremum.{supremum-chain, supremum-equivalent}
 use Rattle.rules.proofs.Members.{clash}
 
 -- ---- every and count

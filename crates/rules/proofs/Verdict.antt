@@ -1,19 +1,16 @@
 -- Laws of the question8: what the first failing places tell.
 -- Assumes nothing.
-use mathlib.Core.Path.{_≡_, refl, sym, ap, ap₂, _∙_, subst}
-use mathlib.Core.Logic.{_↔_, _⊎_, inl, inr}
-use mathlib.Core.Bool.{Bool, true, false, true≢false}
-use mathlib.Core.List.{List, [], _∷_, _++_, map, List·Memᴰ, List·Memᴰ·head, List·Memᴰ·tail, List·Memᴰ·cases-cons, List·Memᴰ·not-nil, Memᴰ·cast}
-use Prim.Native.Nat.{ℕ, zero, suc, _+_, _≤_, _<_, zero-le, suc-le-suc}
+use mathlib.Core.Path.{_≡_, refl, sym, ap, _∙_}
+use mathlib.Core.Logic.{_⊎_, inl, inr}
+use mathlib.Core.Bool.{Bool, true, false}
+use mathlib.Core.List.{[], _∷_, List·Memᴰ·head, List·Memᴰ·tail, List·Memᴰ·cases-cons, List·Memᴰ·not-nil}
+use Prim.Native.Nat.{ℕ, zero, suc}
 use native.Mathlib.Nat.{suc-ne-zero}
-use native.Mathlib.Omega.{arith}
-use lib.ListN.{length}
 use Rattle.rules.specs.Factor.{Column, uniform, orthogonal}
 use Rattle.rules.specs.Family.{Family, _∈_}
-use Rattle.rules.specs.Design.{firstFailing, firstPair, pairAt, Places, none, Answer, refused, question10, question9, question8}
-use Rattle.rules.specs.Closing.{Closing, tooMany, family}
+use Rattle.rules.specs.Design.{firstFailing, firstPair, pairAt, Places, none, question10, question9, question8}
+use Rattle.rules.specs.Closing.{family}
 use Rattle.rules.proofs.Numbering.{by-cases}
-use Rattle.rules.proofs.Members.{clash}
 
 module _ (p : Column → Bool) where
   failing-yes : (i : ℕ) (F : Column) (S : Family) → p F ≡ true → firstFailing p i (F ∷ S) ≡ firstFailing p (suc i) S

@@ -1,19 +1,17 @@
 -- Laws for a program: one walk over the plots numbers a column and counts its classes; a member is inserted at a place; members lie in a buffer.
 -- Assumes nothing.
-use mathlib.Core.Path.{_≡_, refl, sym, ap, ap₂, _∙_, subst}
-use mathlib.Core.Logic.{_↔_, _⊎_, inl, inr}
-use mathlib.Core.Bool.{Bool, true, false, _&&_, true≢false}
-use mathlib.Core.List.{List, [], _∷_, _++_, append-assoc, List·Memᴰ, List·Memᴰ·head, List·Memᴰ·tail, List·Memᴰ·cases-cons, List·Memᴰ·not-nil}
+use mathlib.Core.Path.{_≡_, refl, sym, ap, ap₂, _∙_}
+use mathlib.Core.Logic.{_⊎_, inl, inr}
+use mathlib.Core.Bool.{Bool, true, false}
+use mathlib.Core.List.{List, [], _∷_, _++_, append-assoc, List·Memᴰ·head, List·Memᴰ·tail, List·Memᴰ·cases-cons, List·Memᴰ·not-nil}
 use Prim.Native.Nat.{ℕ, zero, suc, _+_, _*_, _-_, _≤_, _<_, zero-le, suc-le-suc}
-use native.Mathlib.Nat.{not-suc-le-zero, le-of-suc-le-suc, suc-inj, suc-ne-zero, le-refl, lt-irrefl}
+use native.Mathlib.Nat.{not-suc-le-zero, le-of-suc-le-suc}
 use native.Mathlib.Omega.{arith}
-use lib.Dec.{eqb, ltb, leb}
-use lib.ListN.{length, getD, take, drop, length-append, length-take, length-drop}
-use lib.Seq.{getD-take, take-append-le, drop-append-le, take-at, drop-at, drop-drop, take-take, length-take-le, take-append-seam, take-add}
-use borrow.Author.Tests.{eqb-true, eq-eqb, ne-eqb, eqb-false, ltb-true, ltb-false}
-use Rattle.rules.specs.Factor.{Column, at, indexOf, addNew, numbering, labels, number, classes, Pair, alikePair, pairs, infimum}
+use lib.ListN.{length, getD, take, drop, length-append, length-drop}
+use lib.Seq.{getD-take, take-at, drop-at, take-take, length-take-le, take-add}
+use Rattle.rules.specs.Factor.{Column, at, indexOf, addNew, numbering, labels}
 use Rattle.rules.specs.Family.{Family, _∈_, alike, before, insert, Ascending, empty, cons, columnsFrom, written, ordered}
-use Rattle.rules.proofs.Numbering.{by-cases, eqb-self, pair-sound, pair-self, numbering-same, Has, has-add, has-stays, has-or-new, add-has, length-add-new, place-new, place-labels, has-labels, has-all, length-pairs, pairs-at}
+use Rattle.rules.proofs.Numbering.{by-cases, numbering-same, has-or-new, add-has, length-add-new, place-new, has-all}
 use Rattle.rules.proofs.Members.{clash, before-self, before-trans, ascending-head, ascending-tail, insert-alike, insert-before, insert-after, alike-sound, alike-self}
 
 -- ---- one walk over the plots

@@ -1,6 +1,5 @@
 -- The plot design (questions 6 to 10) and the full design (questions 6 to 14): the first "no", its places, the sizes answered and the lent memory afterwards.
 -- Assumes nothing.
-use mathlib.Core.Path.{_≡_}
 use mathlib.Core.Bool.{Bool, true, false, _&&_}
 use mathlib.Core.List.{List, [], _∷_, _++_}
 use Prim.Native.Nat.{ℕ, zero, suc}

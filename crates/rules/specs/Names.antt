@@ -1,6 +1,5 @@
 -- The name of a member, up to its bytes.
 -- Columns are counted from 0 here, in sheet order. Assumes nothing.
-use mathlib.Core.Path.{_≡_}
 use mathlib.Core.Bool.{Bool, true, false, not, _&&_, _||_}
 use mathlib.Core.List.{List, [], _∷_, _++_}
 use Prim.Native.Nat.{ℕ, zero, suc}

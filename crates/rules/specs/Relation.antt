@@ -1,9 +1,8 @@
 -- The relation of a family: who is strictly coarser, and the neighbours directly above; questions 6 and 15.
 -- Places are counted from 0 here: place i is the member that the answers count as i + 1. Assumes nothing.
-use mathlib.Core.Path.{_≡_}
 use mathlib.Core.Bool.{Bool, true, false, not, _&&_}
-use mathlib.Core.List.{List, [], _∷_}
-use Prim.Native.Nat.{ℕ, zero, suc}
+use mathlib.Core.List.{List, []}
+use Prim.Native.Nat.{ℕ}
 use lib.Dec.{leb}
 use lib.ListN.{length, getD}
 use Rattle.rules.specs.Limits.{familyBytes}

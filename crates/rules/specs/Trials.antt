@@ -1,17 +1,14 @@
 -- The small trials with known outcome that are proved about the rules: one list. Places are from 1, and k is 6.
 -- The claim that each trial has the outcome stated is `trials-hold` in proofs/Trials. Assumes nothing.
-use mathlib.Core.Path.{_≡_}
 use mathlib.Core.List.{List, [], _∷_, _++_, map}
 use Prim.Native.Nat.{ℕ, zero, suc, _-_}
 use lib.IntN.{ℤ, pos}
 use lib.ListN.{length, getD, replicate}
 use Rattle.rules.specs.Limits.{mostPlots, mostColumns, mostInteraction, familyBytes}
 use Rattle.rules.specs.Factor.{Column, classes}
-use Rattle.rules.specs.Family.{Family}
 use Rattle.rules.specs.Design.{Answer, plotDesign, fullDesign}
 use Rattle.rules.specs.Degrees.{degrees}
 use Rattle.rules.specs.Strata.{stratum, residuals}
-use Rattle.rules.specs.Lists.{tabulate}
 use Rattle.rules.specs.Names.{nameOf, bytesOf}
 
 pub data Trial : Type 0 where
