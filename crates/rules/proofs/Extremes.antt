@@ -53,4 +53,3 @@ length-up (suc n) i = ap suc (length-up n (suc i))
 pub length-equality : (n : ℕ) → length (equality n) ≡ n
 unfolding equality
 length-equality n = length-up n 1
-

@@ -11,3 +11,6 @@ pub mod Demand3
 pub mod Classes
 pub mod Degrees
 pub mod Trials
+pub mod Lists
+pub mod Words
+pub mod Relation
