@@ -20,7 +20,7 @@ use Rattle.rules.proofs.Supremum.{length-supremum, number-supremum, equ
 use Rattle.rules.proofs.Members.{clash, before-self}
 use Rattle.rules.proofs.Closing.{Smallest, Closed, listed, too-many, close-right}
 use Rattle.rules.proofs.Tests.{uniform-test, orthogonal-test, uniform-equivalent, orthogonal-equivalent, orthogonal-sym, orthogonal-self}
-use Rattle.rules.proofs.Walk.{written-members}
+use Rattle.rules.proofs.Buffer.{written-members}
 use Rattle.rules.proofs.Extremes.{length-universal, number-universal, length-equality, number-equality}
 use Rattle.rules.proofs.Families.{made-in-family, in-family-made}
 use Rattle.rules.proofs.Verdict.{failing-none, failing-pass, pairs-none, pairs-pass, pairwise-cases, verdict-members, verdict-accepts, verdict-passes, verdict-number}

@@ -7,6 +7,7 @@ pub mod Families
 pub mod Tests
 pub mod Verdict
 pub mod Walk
+pub mod Buffer
 pub mod Demand3
 pub mod Classes
 pub mod Degrees
@@ -14,3 +15,4 @@ pub mod Trials
 pub mod Lists
 pub mod Words
 pub mod Relation
+pub mod WorkList

@@ -3,15 +3,15 @@
 use mathlib.Core.Path.{_≡_, refl, sym, ap, ap₂, _∙_}
 use mathlib.Core.Logic.{_⊎_, inl, inr}
 use mathlib.Core.Bool.{Bool, true, false, true≢false}
-use mathlib.Core.List.{List, [], _∷_, List·Memᴰ·head, List·Memᴰ·tail, List·Memᴰ·cases-cons, List·Memᴰ·not-nil, Memᴰ·cast}
-use Prim.Native.Nat.{ℕ, suc, _≤_, _<_}
-use native.Mathlib.Nat.{le-refl, le-of-lt, lt-irrefl, lt-trans, le-of-eq}
+use mathlib.Core.List.{List, [], _∷_, List·Memᴰ·head, List·Memᴰ·tail, List·Memᴰ·cases-cons, List·Memᴰ·not-nil, Memᴰ·cast, _++_}
+use Prim.Native.Nat.{ℕ, suc, _≤_, _<_, zero, _+_, _-_}
+use native.Mathlib.Nat.{le-refl, le-of-lt, lt-irrefl, lt-trans, le-of-eq, not-suc-le-zero, le-of-suc-le-suc}
 use native.Mathlib.Omega.{arith}
 use lib.Dec.{eqb, ltb}
-use lib.ListN.{length}
+use lib.ListN.{length, take, drop}
 use borrow.Author.Tests.{eqb-true, eq-eqb, ne-eqb, eqb-false, ltb-true, ltb-false, lt-ltb}
-use Rattle.rules.specs.Factor.{Column, classes}
-use Rattle.rules.specs.Family.{Family, alike, smaller, before, insert, insertAll, _∈_, Ascending, empty, cons}
+use Rattle.rules.specs.Factor.{Column, classes, at}
+use Rattle.rules.specs.Family.{Family, alike, smaller, before, insert, insertAll, _∈_, Ascending, empty, cons, ordered}
 use Rattle.rules.proofs.Numbering.{by-cases, eqb-self}
 
 pub clash {ℓ} : {P : Type ℓ} {b : Bool} → b ≡ true → b ≡ false → P
@@ -348,3 +348,68 @@ ascending-unique (F ∷ S) (G ∷ R) a b f g = ap₂ (λ (x : Column) (l : Famil
         go : (H ≡ F) ⊎ (H ∈ S) → H ∈ S
         go (inl e) = clash (rw (e ∙ FG) at (ascending-head b H m)) (before-self G)
         go (inr m′) = m′
+
+-- ---- inserting at a place
+
+-- all members before place i stand before F, and F stands before all from there on
+pub insert-at : (i : ℕ) (F : Column) (S : Family) → i ≤ length S → Ascending S → ((G : Column) → G ∈ take i S → before G F ≡ true) → ((G : Column) → G ∈ drop i S → before F G ≡ true)
+    → insert F S ≡ take i S ++ F ∷ drop i S
+unfolding insert
+insert-at zero F [] h a f g = refl
+insert-at zero F (G ∷ S) h a f g =
+    by-cases (alike F G)
+    (λ e. clash (rw (sym (alike-sound F G e)) at (g G (List·Memᴰ·head refl))) (before-self F))
+    (λ e. insert-before F G S e (g G (List·Memᴰ·head refl)))
+insert-at (suc i) F [] h a f g = absurd (not-suc-le-zero h)
+insert-at (suc i) F (G ∷ S) h a f g =
+    by-cases (alike F G)
+    (λ e. clash (rw (sym (alike-sound F G e)) at (f G (List·Memᴰ·head refl))) (before-self F))
+    (λ e. by-cases (before F G)
+    (λ b. clash (before-trans F G F b (f G (List·Memᴰ·head refl))) (before-self F))
+    (λ b. insert-after F G S e b ∙ ap (λ (l : Family). G ∷ l) (insert-at i F S (le-of-suc-le-suc h) (ascending-tail a) (λ H m. f H (List·Memᴰ·tail m)) g)))
+
+pub insert-member : (F : Column) (S : Family) → Ascending S → F ∈ S → insert F S ≡ S
+insert-member F [] a m = absurd (List·Memᴰ·not-nil m)
+insert-member F (G ∷ S) a m =
+    by-cases (alike F G)
+    (λ e. insert-alike F G S e)
+    (λ e. go e (insert-member F S (ascending-tail a)) (List·Memᴰ·cases-cons m))
+  where
+    go : alike F G ≡ false → (F ∈ S → insert F S ≡ S) → (F ≡ G) ⊎ (F ∈ S) → insert F (G ∷ S) ≡ G ∷ S
+    go e below (inl q) = clash (rw (sym q) (alike-self F)) e
+    go e below (inr k) =
+        by-cases (before F G)
+        (λ b. clash (before-trans F G F b (ascending-head a F k)) (before-self F))
+        (λ b. insert-after F G S e b ∙ ap (λ (l : Family). G ∷ l) (below k))
+
+-- ---- question 15
+
+ordered-yes : (F G : Column) (S : Family) → before F G ≡ true → ordered (F ∷ G ∷ S) ≡ ordered (G ∷ S)
+unfolding ordered
+ordered-yes F G S e = rw (e, ordered)
+
+ordered-no : (F G : Column) (S : Family) → before F G ≡ false → ordered (F ∷ G ∷ S) ≡ false
+unfolding ordered
+ordered-no F G S e = rw (e, ordered)
+
+pub ascending-ordered : {S : Family} → Ascending S → ordered S ≡ true
+unfolding ordered
+ascending-ordered empty = refl
+ascending-ordered (cons {S = []} h a) = refl
+ascending-ordered (cons {F = F} {S = G ∷ S} h a) = ordered-yes F G S (h G (List·Memᴰ·head refl)) ∙ ascending-ordered a
+
+pub ordered-ascending : (S : Family) → ordered S ≡ true → Ascending S
+unfolding ordered
+ordered-ascending [] e = empty
+ordered-ascending (F ∷ []) e = cons (λ G m. absurd (List·Memᴰ·not-nil m)) empty
+ordered-ascending (F ∷ G ∷ S) e =
+    by-cases (before F G)
+    (λ b. go b (ordered-ascending (G ∷ S) (sym (ordered-yes F G S b) ∙ e)))
+    (λ b. clash e (ordered-no F G S b))
+  where
+    all : before F G ≡ true → Ascending (G ∷ S) → (H : Column) → (H ≡ G) ⊎ (H ∈ S) → before F H ≡ true
+    all b a H (inl q) = rw q b
+    all b a H (inr m) = before-trans F G H b (ascending-head a H m)
+
+    go : before F G ≡ true → Ascending (G ∷ S) → Ascending (F ∷ G ∷ S)
+    go b a = cons (λ H m. all b a H (List·Memᴰ·cases-cons m)) a
