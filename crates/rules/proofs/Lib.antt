@@ -9,3 +9,4 @@ pub mod Demand3
 pub mod Classes
 pub mod Degrees
 pub mod Bounds
+pub mod Sums
