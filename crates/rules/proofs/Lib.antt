@@ -10,3 +10,4 @@ pub mod Classes
 pub mod Degrees
 pub mod Bounds
 pub mod Sums
+pub mod Orthogonality

@@ -12,9 +12,9 @@ use lib.ListN.{length, getD}
 use borrow.Author.Tests.{eqb-true, eqb-false, ne-eqb}
 use Rattle.rules.specs.Factor.{Column, at, indexOf, labels, count}
 use Rattle.rules.specs.Family.{_∈_, Distinct, none-left, apart}
-use Rattle.rules.proofs.Numbering.{by-cases, eqb-self, has-all}
+use Rattle.rules.proofs.Numbering.{by-cases, eqb-self, has-all, getD-place}
 use Rattle.rules.proofs.Tests.{count-yes, count-no}
-use Rattle.rules.proofs.Classes.{distinct-labels, has-in}
+use Rattle.rules.proofs.Classes.{distinct-labels, labels-only, has-in, in-has}
 
 -- the sum of f over the list
 unfoldable pub sum : {A : Type 0} → List A → (A → ℕ) → ℕ
@@ -143,6 +143,17 @@ sum-one (g ∷ s) (apart n d) x m =
 module _ (n : ℕ) (G : Column) (lG : length G ≡ n) where
   pub label-of : (u : ℕ) → u < n → at G u ∈ labels eqb [] G
   label-of u h = has-in (labels eqb [] G) (at G u) (has-all eqb eqb-true eqb-self G [] u 0 (rw lG h))
+
+  -- a label stands at a plot
+  pub label-plot : (g : ℕ) → g ∈ labels eqb [] G → (indexOf eqb G g < n) × (at G (indexOf eqb G g) ≡ g)
+  label-plot g m = (rw (sym lG) has, getD-place eqb eqb-true eqb-self G g 0 has)
+    where
+      go : (g ∈ []) ⊎ (g ∈ G) → indexOf eqb G g < length G
+      go (inl k) = absurd (List·Memᴰ·not-nil k)
+      go (inr k) = in-has G g k
+
+      has : indexOf eqb G g < length G
+      has = go (labels-only G [] g m)
 
   -- the plots that pass a test, counted class by class
   pub count-by-class : (p : ℕ → Bool) → sum (labels eqb [] G) (λ g. count n (λ w. p w && eqb g (at G w))) ≡ count n p
