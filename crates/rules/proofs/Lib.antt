@@ -11,3 +11,4 @@ pub mod Degrees
 pub mod Bounds
 pub mod Sums
 pub mod Orthogonality
+pub mod First
