@@ -12,3 +12,4 @@ pub mod Bounds
 pub mod Sums
 pub mod Orthogonality
 pub mod First
+pub mod ClassCount
