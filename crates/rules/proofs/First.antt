@@ -3,13 +3,13 @@
 use mathlib.Core.Path.{_≡_, refl, sym, ap, ap₂, _∙_}
 use mathlib.Core.Logic.{_↔_, _⊎_, inl, inr}
 use mathlib.Core.Bool.{Bool, true, false}
-use mathlib.Core.List.{List, [], _∷_}
+use mathlib.Core.List.{List, [], _∷_, List·Memᴰ·head, List·Memᴰ·tail}
 use Prim.Native.Nat.{ℕ, zero, suc, _+_, _-_, _≤_, _<_, zero-le, suc-le-suc}
 use native.Mathlib.Nat.{not-suc-le-zero, le-of-suc-le-suc, suc-ne-zero, suc-inj, add-zero}
 use native.Mathlib.Omega.{arith}
 use lib.ListN.{length, getD}
 use Rattle.rules.specs.Factor.{Column}
-use Rattle.rules.specs.Family.{Family, firstFailing, Places, none, pairAt, firstPair}
+use Rattle.rules.specs.Family.{Family, _∈_, firstFailing, Places, none, pairAt, firstPair}
 use Rattle.rules.specs.Treatment.{firstCross}
 use Rattle.rules.proofs.Numbering.{by-cases}
 
@@ -372,3 +372,26 @@ module _ (p : Column → Column → Bool) where
             fails = test-suc p P S i j ∙ w .fails;
             before = λ h k l m r q e. w .passed (h - 1) (k - 1) (omega arith) (omega arith) (earlier-back l m e);
           }
+
+-- ---- tests that agree on the members give the same answer
+
+pub failing-ext : (p q : Column → Bool) (a : ℕ) (S : Family) → ((F : Column) → F ∈ S → p F ≡ q F) → firstFailing p a S ≡ firstFailing q a S
+unfolding firstFailing
+failing-ext p q a [] h = refl
+failing-ext p q a (F ∷ S) h =
+    ap₂ (λ (b : Bool) (x : ℕ). elim b [ true ↦ x | false ↦ a ]) (h F (List·Memᴰ·head refl)) (failing-ext p q (suc a) S (λ G m. h G (List·Memᴰ·tail m)))
+
+module _ (p q : Column → Column → Bool) where
+  pub pair-ext : (a : ℕ) (S : Family) → ((F G : Column) → F ∈ S → G ∈ S → p F G ≡ q F G) → firstPair p a S ≡ firstPair q a S
+  unfolding firstPair
+  pair-ext a [] h = refl
+  pair-ext a (F ∷ S) h =
+      ap₂ (pairAt a) (failing-ext (p F) (q F) (suc a) S (λ G m. h F G (List·Memᴰ·head refl) (List·Memᴰ·tail m)))
+      (pair-ext (suc a) S (λ G H m k. h G H (List·Memᴰ·tail m) (List·Memᴰ·tail k)))
+
+  pub cross-ext : (a : ℕ) (P S : Family) → ((F G : Column) → F ∈ P → G ∈ S → p F G ≡ q F G) → firstCross p a P S ≡ firstCross q a P S
+  unfolding firstCross
+  cross-ext a [] S h = refl
+  cross-ext a (F ∷ P) S h =
+      ap₂ (λ (x : ℕ) (r : Places). elim x [ zero ↦ r | suc j ↦ pairOf a (suc j) ]) (failing-ext (p F) (q F) 1 S (λ G m. h F G (List·Memᴰ·head refl) m))
+      (cross-ext (suc a) P S (λ G H m k. h G H (List·Memᴰ·tail m) k))

@@ -13,3 +13,4 @@ pub mod Sums
 pub mod Orthogonality
 pub mod First
 pub mod ClassCount
+pub mod Questions

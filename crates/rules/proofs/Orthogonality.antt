@@ -28,6 +28,14 @@ same-test true b f g = sym (f refl)
 same-test false true f g = g refl
 same-test false false f g = refl
 
+-- for each plot: the sizes of its classes of infimum and supremum make the product that those of its F-class and G-class make
+abbrev pub byPlots : ℕ → Column → Column → Bool
+byPlots n F G = every n (λ u. eqb (classSize n (infimum F G) u * classSize n (supremum F G) u) (classSize n F u * classSize n G u))
+
+-- the same of the numbers of classes
+abbrev pub byCounts : Column → Column → Bool
+byCounts F G = eqb (classes (infimum F G) * classes (supremum F G)) (classes F * classes G)
+
 -- ---- by plots
 
 module _ (n : ℕ) (F G : Column) (lF : length F ≡ n) (lG : length G ≡ n) where
@@ -99,7 +107,7 @@ module _ (n : ℕ) (F G : Column) (lF : length F ≡ n) (lG : length G ≡ n) wh
   )
 
   -- so the test is one walk over the plots
-  pub orthogonal-test-plots : orthogonal n F G ≡ every n (λ u. eqb (classSize n (infimum F G) u * classSize n (supremum F G) u) (classSize n F u * classSize n G u))
+  pub orthogonal-test-plots : orthogonal n F G ≡ byPlots n F G
   orthogonal-test-plots =
       same-test (orthogonal n F G) _
       (λ e. every-all n _ (λ u hu. eq-eqb _ _ (orthogonal-by-plots .0 (orthogonal-test n F G .0 e) u hu)))
@@ -148,7 +156,7 @@ module _ (n : ℕ) (F G : Column) (lF : length F ≡ n) (lG : length G ≡ n) (s
   )
 
   -- so the test is one comparison
-  pub orthogonal-test-counts : orthogonal n F G ≡ eqb (classes (infimum F G) * classes (supremum F G)) (classes F * classes G)
+  pub orthogonal-test-counts : orthogonal n F G ≡ byCounts F G
   orthogonal-test-counts =
       same-test (orthogonal n F G) _
       (λ e. eq-eqb _ _ (orthogonal-by-counts .0 (orthogonal-test n F G .0 e)))
