@@ -1,17 +1,16 @@
 -- Laws of the order among factors: the infimum is the greatest lower bound of two factors, the supremum their least upper bound.
 -- Assumes nothing.
-use mathlib.Core.Path.{_≡_, refl, sym, ap, ap₂, _∙_}
+use mathlib.Core.Path.{_≡_, refl, sym, ap₂, _∙_}
 use mathlib.Core.Logic.{_↔_}
-use mathlib.Core.Bool.{Bool, true, false, _&&_}
-use Prim.Native.Nat.{ℕ, zero, suc, _*_, _≤_, _<_}
-use lib.Dec.{eqb}
-use lib.ListN.{length, getD}
+use Prim.Native.Nat.{ℕ, _*_, _<_}
+use lib.ListN.{length}
 use borrow.Author.Tests.{eqb-true, eq-eqb}
-use Rattle.rules.specs.Factor.{Column, at, Same, same, Finer, Equivalent, number, infimum, supremum, Chain, start, alongF, alongG, count, classSize, overlap, Orthogonal}
+use Rattle.rules.specs.Factor.{Column, Same, same, Finer, Equivalent, number, infimum, supremum, Chain, start, alongF, alongG, classSize, overlap, Orthogonal}
 use Rattle.rules.proofs.Numbering.{by-cases, number-unique, length-infimum, infimum-same, number-infimum}
-use Rattle.rules.proofs.Supremum.{length-supremum, number-supremum, equivalent-sym, equivalent-trans}
+use Rattle.rules.proofs.Supremum.{length-supremum, number-supremum}
 use Rattle.rules.proofs.Tests.{count-same, size-equivalent, size-same, supremum-chain′, supremum-flip}
 
+-- every factor is finer than or equivalent to itself, and the order passes on
 pub finer-refl : (n : ℕ) (F : Column) → Finer n F F
 finer-refl n F u v hu hv e = e
 
@@ -23,12 +22,14 @@ pub numbered-equal : (n : ℕ) (F G : Column) → length F ≡ n → length G �
 numbered-equal n F G lF lG h = number-unique F G (lF ∙ sym lG) (rw lF h)
 
 module _ (n : ℕ) (F G : Column) (lF : length F ≡ n) (lG : length G ≡ n) where
+  -- both operations stay on the n plots
   pub length-infimum′ : length (infimum F G) ≡ n
   length-infimum′ = length-infimum F G (lF ∙ sym lG) ∙ lF
 
   pub length-supremum′ : length (supremum F G) ≡ n
   length-supremum′ = length-supremum F G (lF ∙ sym lG) ∙ lF
 
+  -- two plots share a class of the infimum exactly when they do in both factors
   pub infimum-same′ : (u v : ℕ) → u < n → v < n → Same (infimum F G) u v ↔ (Same F u v × Same G u v)
   infimum-same′ u v hu hv = infimum-same F G (lF ∙ sym lG) u v (rw lF hu) (rw lF hv)
 
@@ -59,16 +60,16 @@ module _ (n : ℕ) (F G : Column) (lF : length F ≡ n) (lG : length G ≡ n) wh
       along h (alongF {w} {v} c k s) = (k, along h c .1 ∙ f w v (along h c .0) k s)
       along h (alongG {w} {v} c k s) = (k, along h c .1 ∙ g w v (along h c .0) k s)
 
--- ---- order of the two, one factor twice, absorption
+-- ---- two factors in either order, one finer than the other, one factor twice, absorption
 
 module _ (n : ℕ) (F G : Column) (lF : length F ≡ n) (lG : length G ≡ n) where
+  -- the order of the two does not matter
   pub infimum-flip : Equivalent n (infimum F G) (infimum G F)
   infimum-flip = record {
     to = infimum-greatest n G F lG lF (infimum F G) (infimum-right n F G lF lG) (infimum-left n F G lF lG);
     from = infimum-greatest n F G lF lG (infimum G F) (infimum-right n G F lG lF) (infimum-left n G F lG lF);
   }
 
-  -- the order of the two does not matter
   pub infimum-comm : infimum F G ≡ infimum G F
   infimum-comm = sym (number-infimum F G (lF ∙ sym lG)) ∙ numbered-equal n _ _ (length-infimum′ n F G lF lG) (length-infimum′ n G F lG lF) infimum-flip ∙ number-infimum G F (lG ∙ sym lF)
 
@@ -84,6 +85,7 @@ module _ (n : ℕ) (F G : Column) (lF : length F ≡ n) (lG : length G ≡ n) wh
     pub supremum-nested : Equivalent n (supremum F G) G
     supremum-nested = record { to = supremum-least n F G lF lG G fine (finer-refl n G); from = supremum-right n F G lF lG }
 
+    -- and with the numbering they are equal
     pub infimum-finer-is : infimum F G ≡ number F
     infimum-finer-is = sym (number-infimum F G (lF ∙ sym lG)) ∙ numbered-equal n _ _ (length-infimum′ n F G lF lG) lF infimum-nested
 
@@ -102,7 +104,7 @@ module _ (n : ℕ) (F G : Column) (lF : length F ≡ n) (lG : length G ≡ n) wh
         s : Same G u v
         s = supremum-nested .to u v hu hv e
 
--- one factor twice
+-- both operations on one factor twice give that factor
 module _ (n : ℕ) (F : Column) (lF : length F ≡ n) where
   pub infimum-self : infimum F F ≡ number F
   infimum-self = infimum-finer-is n F F lF lF (finer-refl n F)
@@ -110,10 +112,11 @@ module _ (n : ℕ) (F : Column) (lF : length F ≡ n) where
   pub supremum-self : supremum F F ≡ number F
   supremum-self = supremum-coarser-is n F F lF lF (finer-refl n F)
 
--- absorption
+-- the infimum with a coarser supremum, and the supremum with a finer infimum, give the factor back
 module _ (n : ℕ) (F G : Column) (lF : length F ≡ n) (lG : length G ≡ n) where
   pub infimum-absorbs : infimum F (supremum F G) ≡ number F
   infimum-absorbs = infimum-finer-is n F (supremum F G) lF (length-supremum′ n F G lF lG) (supremum-left n F G lF lG)
 
-  pub supremum-absorbs : supremum (infimum F G) F ≡ number F
-  supremum-absorbs = supremum-coarser-is n (infimum F G) F (length-infimum′ n F G lF lG) lF (infimum-left n F G lF lG)
+  pub supremum-absorbs : supremum F (infimum F G) ≡ number F
+  supremum-absorbs =
+      supremum-comm n F (infimum F G) lF (length-infimum′ n F G lF lG) ∙ supremum-coarser-is n (infimum F G) F (length-infimum′ n F G lF lG) lF (infimum-left n F G lF lG)

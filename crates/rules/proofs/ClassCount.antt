@@ -1,15 +1,15 @@
 -- Laws of the number of classes: the universal factor has one, the equality factor one for each plot, and no other factor has as few or as many.
 -- Assumes nothing.
-use mathlib.Core.Path.{_≡_, refl, sym, ap, ap₂, _∙_}
+use mathlib.Core.Path.{_≡_, refl, sym, ap, _∙_}
 use mathlib.Core.Logic.{_↔_}
 use mathlib.Core.List.{List, [], _∷_}
 use Prim.Native.Nat.{ℕ, zero, suc, _+_, _≤_, _<_}
 use native.Mathlib.Nat.{not-suc-le-zero, le-of-suc-le-suc, le-antisymm, lt-irrefl, add-zero}
 use native.Mathlib.Omega.{arith}
 use lib.Dec.{eqb}
-use lib.ListN.{length, getD, replicate, getD-replicate}
+use lib.ListN.{length, replicate, getD-replicate}
 use borrow.Author.Tests.{eqb-true, eqb-false}
-use Rattle.rules.specs.Factor.{Column, at, Same, same, Finer, Equivalent, addNew, labels, number, classes, universal, upFrom, equality}
+use Rattle.rules.specs.Factor.{Column, at, same, Finer, Equivalent, addNew, labels, number, classes, universal, upFrom, equality}
 use Rattle.rules.proofs.Numbering.{by-cases, length-number}
 use Rattle.rules.proofs.Supremum.{number-equivalent, equivalent-sym}
 use Rattle.rules.proofs.Classes.{classes-le, classes-lt}
@@ -20,6 +20,7 @@ use Rattle.rules.proofs.Bounds.{numbered-equal}
 pub classes-equivalent : (n : ℕ) (F G : Column) → length F ≡ n → length G ≡ n → Equivalent n F G → classes F ≡ classes G
 classes-equivalent n F G lF lG p = le-antisymm (classes-le n G F lG lF (p .from)) (classes-le n F G lF lG (p .to))
 
+-- numbering keeps the number of classes
 pub classes-number : (F : Column) → classes (number F) ≡ classes F
 classes-number F = classes-equivalent (length F) (number F) F (length-number F) refl (number-equivalent F refl)
 

@@ -3,7 +3,7 @@
 use mathlib.Core.Path.{_≡_, refl, sym, ap, ap₂, _∙_}
 use mathlib.Core.Logic.{_↔_, _⊎_, inl, inr}
 use mathlib.Core.Bool.{Bool, true, false}
-use mathlib.Core.List.{List, [], _∷_, List·Memᴰ·head, List·Memᴰ·tail}
+use mathlib.Core.List.{[], _∷_, List·Memᴰ·head, List·Memᴰ·tail}
 use Prim.Native.Nat.{ℕ, zero, suc, _+_, _-_, _≤_, _<_, zero-le, suc-le-suc}
 use native.Mathlib.Nat.{not-suc-le-zero, le-of-suc-le-suc, suc-ne-zero, suc-inj, add-zero}
 use native.Mathlib.Omega.{arith}
@@ -17,7 +17,8 @@ use Rattle.rules.proofs.Numbering.{by-cases}
 abbrev pub memberAt : Family → ℕ → Column
 memberAt S i = getD S (i - 1) []
 
-member-suc : (S : Family) (k : ℕ) → memberAt S (suc k) ≡ getD S k []
+-- place k + 1 is index k
+pub member-suc : (S : Family) (k : ℕ) → memberAt S (suc k) ≡ getD S k []
 member-suc S k = ap (λ (x : ℕ). getD S x []) (omega arith)
 
 -- ---- one member

@@ -3,16 +3,14 @@
 use mathlib.Core.Path.{_≡_, refl, sym, ap, ap₂, _∙_}
 use mathlib.Core.Logic.{_↔_, _⊎_, inl, inr}
 use mathlib.Core.Bool.{Bool, true, false, _&&_}
-use mathlib.Core.List.{List, []}
-use Prim.Native.Nat.{ℕ, zero, suc, _+_, _*_, _≤_, _<_, zero-le}
+use mathlib.Core.List.{[]}
+use Prim.Native.Nat.{ℕ, _*_, _≤_, _<_, zero-le}
 use native.Mathlib.Nat.{mul-comm, mul-zero, zero-mul, mul-pos, mul-mul-mul-comm, le-of-eq, lt-irrefl, eq-zero-or-pos, eq-of-mul-eq-mul-left}
-use native.Mathlib.Omega.{arith}
 use lib.Dec.{eqb}
-use lib.ListN.{length, getD}
+use lib.ListN.{length}
 use borrow.Author.Tests.{eqb-true, eq-eqb}
-use Rattle.rules.specs.Factor.{Column, at, Same, same, Finer, indexOf, labels, classes, infimum, supremum, every, count, classSize, overlap, Uniform, Orthogonal, orthogonal}
+use Rattle.rules.specs.Factor.{Column, at, Same, same, indexOf, labels, classes, infimum, supremum, every, count, classSize, overlap, Uniform, Orthogonal, orthogonal}
 use Rattle.rules.specs.Family.{_∈_}
-use Rattle.rules.proofs.Numbering.{by-cases}
 use Rattle.rules.proofs.Members.{clash}
 use Rattle.rules.proofs.Tests.{every-at, every-all, count-same, size-same, orthogonal-test}
 use Rattle.rules.proofs.Bounds.{infimum-same′, length-infimum′, length-supremum′, supremum-left, supremum-right}
@@ -23,7 +21,7 @@ and-both true b e = (refl, e)
 and-both false b e = clash e refl
 
 -- tests that pass together are one
-same-test : (a b : Bool) → (a ≡ true → b ≡ true) → (b ≡ true → a ≡ true) → a ≡ b
+pub same-test : (a b : Bool) → (a ≡ true → b ≡ true) → (b ≡ true → a ≡ true) → a ≡ b
 same-test true b f g = sym (f refl)
 same-test false true f g = g refl
 same-test false false f g = refl
@@ -59,6 +57,7 @@ module _ (n : ℕ) (F G : Column) (lF : length F ≡ n) (lG : length G ≡ n) wh
     abbrev around : ℕ → ℕ
     around g = count n (λ w. same K u w && eqb g (at G w))
 
+    -- a G-class that meets the class of the supremum lies inside it
     around-is : (v : ℕ) → v < n → Same K u v → around (at G v) ≡ classSize n G v
     unfolding classSize
     around-is v hv s =
@@ -66,6 +65,7 @@ module _ (n : ℕ) (F G : Column) (lF : length F ≡ n) (lG : length G ≡ n) wh
         (λ e. and-both (same K u w) _ e .1)
         (λ e. rw (eq-eqb (at K u) (at K w) (s ∙ supremum-right n F G lF lG v w hv hw (eqb-true _ _ e))) e))
 
+    -- the equation at a G-class that meets the F-class of u
     met : (w : ℕ) → w < n → Same F u w → classSize n K u * inside (at G w) ≡ classSize n F u * around (at G w)
     unfolding overlap
     met w hw s =
@@ -76,6 +76,7 @@ module _ (n : ℕ) (F G : Column) (lF : length F ≡ n) (lG : length G ≡ n) wh
         k : Same K u w
         k = supremum-left n F G lF lG u w hu hw s
 
+    -- at the others the left side is 0
     term : (g : ℕ) → classSize n K u * inside g ≤ classSize n F u * around g
     term g = go (some n (λ w. same F u w && eqb g (at G w)))
       where
@@ -85,6 +86,7 @@ module _ (n : ℕ) (F G : Column) (lF : length F ≡ n) (lG : length G ≡ n) wh
             let b : (same F u w ≡ true) × (eqb g (at G w) ≡ true) = and-both (same F u w) _ e in
             rw (eqb-true g (at G w) (b .1)) (le-of-eq (met w hw (eqb-true _ _ (b .0))))
 
+    -- over all G-classes both sides add up to the same
     sums : sum (labels eqb [] G) (λ g. classSize n K u * inside g) ≡ sum (labels eqb [] G) (λ g. classSize n F u * around g)
     unfolding classSize
     sums =
@@ -92,6 +94,7 @@ module _ (n : ℕ) (F G : Column) (lF : length F ≡ n) (lG : length G ≡ n) wh
         ∙ mul-comm (classSize n K u) (classSize n F u)
         ∙ sym (sum-scale (labels eqb [] G) (classSize n F u) around ∙ ap (λ (x : ℕ). classSize n F u * x) (count-by-class n G lG (λ w. same K u w)))
 
+    -- so the equation holds at every G-class
     product : (v : ℕ) → v < n → Same K u v → overlap n F u G v * classSize n K u ≡ classSize n F u * classSize n G v
     unfolding overlap
     product v hv s =
@@ -135,6 +138,7 @@ cancel m a b x y h p q e = go (eq-zero-or-pos a)
 
 module _ (n : ℕ) (F G : Column) (lF : length F ≡ n) (lG : length G ≡ n) (some-plot : 0 < n) (evenF : Uniform n F) (evenG : Uniform n G) (evenI : Uniform n (infimum F G)) (evenK : Uniform n (supremum F G)) where
   module _ (u : ℕ) (hu : u < n) where
+    -- the product of two numbers of classes and the two class sizes
     square : (A B : Column) → length A ≡ n → length B ≡ n → Uniform n A → Uniform n B → classes A * classes B * (classSize n A u * classSize n B u) ≡ n * n
     square A B lA lB evenA evenB =
         mul-mul-mul-comm (classes A) (classes B) (classSize n A u) (classSize n B u) ∙ ap₂ _*_ (classes-size n A lA evenA u hu) (classes-size n B lB evenB u hu)

@@ -1,7 +1,7 @@
 -- Questions 10, 12 and 13 by the cheaper tests of orthogonality.
 -- Assumes nothing.
-use mathlib.Core.Path.{_≡_, refl, sym, ap, _∙_, subst}
-use mathlib.Core.Bool.{Bool, true}
+use mathlib.Core.Path.{_≡_}
+use mathlib.Core.Bool.{true}
 use mathlib.Core.List.{List}
 use Prim.Native.Nat.{ℕ, _<_}
 use native.Mathlib.Omega.{arith}
@@ -35,6 +35,7 @@ pair-by-counts n a S h on even closed =
 -- ---- the plot family
 
 module _ (n : ℕ) (Fs : List Column) (on : (F : Column) → F ∈ Fs → length F ≡ n) (S : Family) (is : plotFamily n Fs ≡ family S) where
+  -- a plot family that is not too large is the smallest closed set, listed
   pub plot-smallest : Smallest both (generators n Fs) S
   unfolding plotFamily
   plot-smallest = go (plotFamily n Fs) (close-right both (generators n Fs)) is
@@ -43,12 +44,14 @@ module _ (n : ℕ) (Fs : List Column) (on : (F : Column) → F ∈ Fs → length
       go x (listed {R} s) e = let q : R ≡ S = cc in rw q at s
       go x (too-many m) e = let z : _≡_ {A = ℕ} 0 1 = cc in absurd (omega arith)
 
+  -- it has the infimum and the supremum of every two members
   pub plot-closed : (F G : Column) → F ∈ S → G ∈ S → (infimum F G ∈ S) × (supremum F G ∈ S)
   plot-closed F G m k = (
     to-R n Fs on S plot-smallest (infimum F G) (by-infimum (in-R n Fs on S plot-smallest F m) (in-R n Fs on S plot-smallest G k)),
     to-R n Fs on S plot-smallest (supremum F G) (by-supremum (in-R n Fs on S plot-smallest F m) (in-R n Fs on S plot-smallest G k)),
   )
 
+  -- its members are on the n plots
   pub plot-length : (F : Column) → F ∈ S → length F ≡ n
   plot-length F m = member-length n Fs on F (in-R n Fs on S plot-smallest F m)
 

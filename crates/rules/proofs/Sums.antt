@@ -3,12 +3,12 @@
 use mathlib.Core.Path.{_≡_, refl, sym, ap, ap₂, _∙_}
 use mathlib.Core.Logic.{_⊎_, inl, inr}
 use mathlib.Core.Bool.{Bool, true, false, _&&_}
-use mathlib.Core.List.{List, [], _∷_, List·Memᴰ, List·Memᴰ·head, List·Memᴰ·tail, List·Memᴰ·cases-cons, List·Memᴰ·not-nil, Memᴰ·cast}
-use Prim.Native.Nat.{ℕ, zero, suc, _+_, _*_, _≤_, _<_, zero-le, suc-le-suc}
+use mathlib.Core.List.{List, [], _∷_, List·Memᴰ·head, List·Memᴰ·tail, List·Memᴰ·cases-cons, List·Memᴰ·not-nil, Memᴰ·cast}
+use Prim.Native.Nat.{ℕ, zero, suc, _+_, _*_, _≤_, _<_}
 use native.Mathlib.Nat.{zero-add, mul-zero, zero-mul, mul-add, suc-mul, le-refl, add-le-add}
 use native.Mathlib.Omega.{arith}
 use lib.Dec.{eqb}
-use lib.ListN.{length, getD}
+use lib.ListN.{length}
 use borrow.Author.Tests.{eqb-true, eqb-false, ne-eqb}
 use Rattle.rules.specs.Factor.{Column, at, indexOf, labels, count}
 use Rattle.rules.specs.Family.{_∈_, Distinct, none-left, apart}
@@ -22,22 +22,25 @@ sum [] f = 0
 sum (x ∷ s) f = f x + sum s f
 
 module _ {A : Type 0} where
-  -- equal terms
+  -- equal terms make equal sums
   pub sum-ext : (s : List A) (f h : A → ℕ) → ((x : A) → x ∈ s → f x ≡ h x) → sum s f ≡ sum s h
   unfolding sum
   sum-ext [] f h e = refl
   sum-ext (x ∷ s) f h e = ap₂ _+_ (e x (List·Memᴰ·head refl)) (sum-ext s f h (λ y m. e y (List·Memᴰ·tail m)))
 
+  -- terms 0 make 0
   pub sum-zero : (s : List A) → sum s (λ x. 0) ≡ 0
   unfolding sum
   sum-zero [] = refl
   sum-zero (x ∷ s) = omega (arith, sum-zero s)
 
+  -- a sum of sums, term by term
   pub sum-add : (s : List A) (f h : A → ℕ) → sum s (λ x. f x + h x) ≡ sum s f + sum s h
   unfolding sum
   sum-add [] f h = refl
   sum-add (x ∷ s) f h = omega (arith, sum-add s f h)
 
+  -- a factor of all terms is a factor of the sum
   pub sum-scale : (s : List A) (c : ℕ) (f : A → ℕ) → sum s (λ x. c * f x) ≡ c * sum s f
   unfolding sum
   sum-scale [] c f = sym (mul-zero c)
@@ -49,6 +52,7 @@ module _ {A : Type 0} where
   sum-constant [] c = sym (zero-mul c)
   sum-constant (x ∷ s) c = omega (arith, sum-constant s c, suc-mul (length s) c)
 
+  -- smaller terms make a smaller sum
   pub sum-le : (s : List A) (f h : A → ℕ) → ((x : A) → x ∈ s → f x ≤ h x) → sum s f ≤ sum s h
   unfolding sum
   sum-le [] f h e = le-refl 0
@@ -91,6 +95,7 @@ unfoldable pub plots : ℕ → List ℕ
 plots zero = []
 plots (suc k) = k ∷ plots k
 
+-- they are below n
 pub in-plots : (n u : ℕ) → u ∈ plots n → u < n
 unfolding plots
 in-plots zero u m = absurd (List·Memᴰ·not-nil m)
@@ -106,6 +111,7 @@ unfolding count sum plots
 count-sum zero p = refl
 count-sum (suc k) p = by-cases (p k) (λ e. count-yes k p e ∙ rw (e, count-sum k p) (omega arith)) (λ e. count-no k p e ∙ rw (e, count-sum k p) (omega arith))
 
+-- all plots pass the test that always passes
 pub count-all : (n : ℕ) → count n (λ u. true) ≡ n
 unfolding count
 count-all zero = refl
@@ -141,6 +147,7 @@ sum-one (g ∷ s) (apart n d) x m =
 -- ---- sums over the classes of a factor
 
 module _ (n : ℕ) (G : Column) (lG : length G ≡ n) where
+  -- a plot's label is among the labels
   pub label-of : (u : ℕ) → u < n → at G u ∈ labels eqb [] G
   label-of u h = has-in (labels eqb [] G) (at G u) (has-all eqb eqb-true eqb-self G [] u 0 (rw lG h))
 
