@@ -21,4 +21,3 @@ pub mod Questions
 pub mod Demand3
 pub mod Relation
 pub mod Degrees
-pub mod Trials

@@ -4,14 +4,14 @@ use mathlib.Core.Bool.{true, false}
 use mathlib.Core.List.{List, [], _∷_, _++_}
 use Prim.Native.Nat.{ℕ}
 use lib.IntN.{ℤ, pos, _+ℤ_, _-ℤ_}
-use Rattle.rules.specs.Factor.{Column, coarser, classes}
+use Rattle.rules.specs.Factor.{Column, finer, coarser, classes}
 use Rattle.rules.specs.Family.{Family, membersOf, wellFormed}
 use Rattle.rules.specs.Lists.{forPlaces}
 use Rattle.rules.specs.Relation.{familyWithin}
 
 -- the sum of those numbers that belong to members strictly coarser than F
 unfoldable pub coarserSum : ℕ → Column → Family → List ℤ → ℤ
-unfolding coarser
+unfolding coarser finer
 coarserSum n F [] ds = pos 0
 coarserSum n F (G ∷ S) [] = pos 0
 coarserSum n F (G ∷ S) (d ∷ ds) = elim (coarser n F G) [ true ↦ d +ℤ coarserSum n F S ds | false ↦ coarserSum n F S ds ]

@@ -1,5 +1,6 @@
 -- The small trials with known outcome that are proved about the rules: one list. Places are from 1, and k is 6.
--- The claim that each trial has the outcome stated is `trials-hold` in proofs/Trials. Assumes nothing.
+-- The claim stands at the end of the file. Assumes nothing.
+use mathlib.Core.Path.{_≡_, refl}
 use mathlib.Core.List.{List, [], _∷_, _++_, map}
 use Prim.Native.Nat.{ℕ, zero, suc, _-_}
 use lib.IntN.{ℤ, pos}
@@ -116,3 +117,8 @@ observed (refuses n Fs q i j) = plotOutcome n Fs (plotTrial n Fs)
 observed (accepts n Fs cs ds) = plotOutcome n Fs (plotTrial n Fs)
 observed (names n Fs ns i name) = names n Fs ns i (bytesOf ns (nameOf n Fs i (getD (plotTrial n Fs .plot) (i - 1) [])))
 observed (treats n Fs Ts cs ss ds) = fullOutcome n Fs Ts (fullTrial n Fs Ts)
+
+-- each trial has the outcome stated
+pub trials-hold : map observed trials ≡ trials
+unfolding observed trials
+trials-hold = refl
