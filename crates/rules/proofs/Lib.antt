@@ -21,3 +21,4 @@ pub mod Questions
 pub mod Demand3
 pub mod Relation
 pub mod Degrees
+pub mod Columns

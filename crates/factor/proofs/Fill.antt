@@ -1,0 +1,45 @@
+-- Laws of an array that is filled from its start.
+-- Assumes nothing.
+use mathlib.Core.Path.{_≡_, sym, ap, _∙_}
+use mathlib.Core.List.{List, [], _∷_, _++_}
+use Prim.Native.Nat.{ℕ, zero, suc, _+_, _≤_, _<_, min}
+use native.Mathlib.Nat.{le-of-lt}
+use native.Mathlib.Numerals.{add-one}
+use native.Mathlib.Omega.{arith}
+use lib.ListN.{length, getD, take, drop, set, length-append, length-drop}
+use lib.Seq.{length-take-le, take-suc, drop-cons, set-at, append-snoc, take-nil}
+use Rattle.rules.specs.Factor.{Column, number}
+use Rattle.rules.proofs.Numbering.{length-number, number-take}
+use Rattle.factor.specs.Lent.{plotsOf, overlay}
+
+module _ {ℓ} {A : Type ℓ} where
+  -- b, with its first i elements replaced by those of s
+  abbrev pub filled : List A → List A → ℕ → List A
+  filled b s i = take i s ++ drop i b
+
+  -- a store of the next element
+  pub filled-step : (b s : List A) (i : ℕ) (d : A) → i < length s → i < length b → set (filled b s i) i (getD s i d) ≡ filled b s (i + 1)
+  filled-step b s i d h k =
+      ap (λ (r : List A). set (take i s ++ r) i (getD s i d)) (drop-cons b i d k)
+      ∙ set-at (take i s) (getD b i d) (drop (suc i) b) (getD s i d) i (length-take-le i s (le-of-lt h))
+      ∙ rw (add-one, take-suc s i d) (sym (append-snoc (take i s) (getD s i d) (drop (suc i) b)))
+
+  pub length-filled : (b s : List A) (i : ℕ) → i ≤ length s → i ≤ length b → length (filled b s i) ≡ length b
+  length-filled b s i h k = simp (length-append, length-drop, length-take-le i s h) (omega arith)
+
+  pub take-min : (m : ℕ) (l : List A) → take (min m (length l)) l ≡ take m l
+  take-min zero l =
+      let e : min 0 (length l) ≡ 0 = omega arith in
+      rw e
+  take-min (suc m) [] = take-nil (min (suc m) 0)
+  take-min (suc m) (x ∷ l) =
+      let e : min (suc m) (suc (length l)) ≡ suc (min m (length l)) = omega arith in
+      rw e (ap (λ (r : List A). x ∷ r) (take-min m l))
+
+-- the numbers of all plots of a column are written
+pub filled-number : (b : List ℕ) (F : Column) → filled b (number F) (min 240 (length F)) ≡ overlay b (number (plotsOf F))
+filled-number b F =
+    let n = min 240 (length F) in
+    let e : number (take 240 F) ≡ take n (number F) = ap number (sym (take-min 240 F)) ∙ number-take n F in
+    let l : length (take n (number F)) ≡ n = length-take-le n (number F) (rw length-number (omega arith)) in
+    sym (rw (e, l))
