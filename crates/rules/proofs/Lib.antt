@@ -2,6 +2,7 @@ pub mod Lists
 pub mod Words
 pub mod Numbering
 pub mod Walk
+pub mod Columns
 pub mod Supremum
 pub mod Bounds
 pub mod Extremes
