@@ -1,0 +1,1 @@
+// The supremum of two columns.
