@@ -1,9 +1,10 @@
 -- The plots that a function on columns treats, and what it leaves in a lent column.
 -- Assumes nothing.
-use mathlib.Core.List.{_++_}
-use Prim.Native.Nat.{ℕ, min}
+use mathlib.Core.List.{List, [], _∷_, _++_}
+use Prim.Native.Nat.{ℕ, zero, suc, min}
 use lib.ListN.{length, take, drop}
-use Rattle.rules.specs.Factor.{Column}
+use lib.Dec.{eqb}
+use Rattle.rules.specs.Factor.{Column, at, count}
 
 -- a column on the plots treated, at most 240
 abbrev pub plots : Column → ℕ
@@ -25,3 +26,20 @@ right F G = take (common F G) G
 -- a lent column with another written over its start
 abbrev pub overlay : Column → Column → Column
 overlay out F = F ++ drop (length F) out
+
+-- ---- class sizes
+
+-- the list t 0, t 1, .., t (n - 1)
+unfoldable pub tabulate : (ℕ → ℕ) → ℕ → List ℕ
+tabulate t zero = []
+tabulate t (suc n) = t 0 ∷ tabulate (λ i. t (suc i)) n
+
+-- how many of the first n plots have the label x
+unfoldable pub labelled : ℕ → Column → ℕ → ℕ
+unfolding count
+labelled n F x = count n (λ v. eqb x (at F v))
+
+-- the size of the class of each label that a byte holds
+unfoldable pub sizes : Column → List ℕ
+unfolding labelled tabulate
+sizes F = tabulate (labelled (length F) F) 256

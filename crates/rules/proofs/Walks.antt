@@ -1,9 +1,8 @@
 -- Laws for walks over the plots with a table over labels.
 -- Assumes nothing.
-use mathlib.Core.Path.{_≡_, refl, sym, ap, ap₂, _∙_}
-use mathlib.Core.Logic.{_↔_}
-use mathlib.Core.Bool.{Bool, true, false}
-use mathlib.Core.List.{List, [], _∷_}
+use mathlib.Core.Path.{_≡_, refl, sym, ap, _∙_}
+use mathlib.Core.Bool.{Bool, true, false, true≢false}
+use mathlib.Core.List.{List}
 use Prim.Native.Nat.{ℕ, zero, suc, _+_, _≤_, _<_}
 use native.Mathlib.Nat.{not-suc-le-zero}
 use native.Mathlib.Omega.{arith}
@@ -11,16 +10,29 @@ use lib.Dec.{eqb, ltb}
 use lib.ListN.{length, getD, set, replicate}
 use lib.Seq.{getD-set-same, getD-set-other}
 use borrow.Author.Tests.{eqb-true, eqb-false, ltb-true, ltb-false}
-use Rattle.rules.specs.Factor.{Column, at, Same, same, Finer, finer}
+use Rattle.rules.specs.Factor.{Column, at, Same, every, count, finer}
 use Rattle.rules.proofs.Numbering.{by-cases}
-use Rattle.rules.proofs.Members.{clash}
+use Rattle.rules.proofs.Tests.{every-at, every-all, count-yes, count-no}
 use Rattle.rules.proofs.Classes.{finer-test}
 
--- ---- a test that fails
+-- ---- tests and counts, plot by plot
 
 pub bool-false : (b : Bool) → (b ≡ true → ⊥) → b ≡ false
 bool-false true h = absurd (h refl)
 bool-false false h = refl
+
+-- one plot more passes
+pub every-more : (u : ℕ) (p : ℕ → Bool) → every u p ≡ true → p u ≡ true → every (u + 1) p ≡ true
+every-more u p e h = every-all (u + 1) p (λ v hv. by-cases (ltb v u) (λ l. every-at u p e v (ltb-true v u l)) (λ l. let r : v ≡ u = omega (arith, ltb-false v u l) in rw r h))
+
+-- one fails
+pub every-fails : (n : ℕ) (p : ℕ → Bool) (u : ℕ) → u < n → p u ≡ false → every n p ≡ false
+every-fails n p u l h = bool-false (every n p) (λ e. true≢false (sym (every-at n p e u l) ∙ h))
+
+pub count-le : (n : ℕ) (p : ℕ → Bool) → count n p ≤ n
+unfolding count
+count-le zero p = omega arith
+count-le (suc n) p = by-cases (p n) (λ e. rw (count-yes n p e) (omega (arith, count-le n p))) (λ e. rw (count-no n p e) (omega (arith, count-le n p)))
 
 -- ---- finer: one plot of each class stands for it
 

@@ -2,13 +2,10 @@
 -- Assumes nothing.
 use mathlib.Core.Path.{_≡_, refl, sym, ap, _∙_}
 use mathlib.Core.Logic.{⊎-elim}
-use mathlib.Core.List.{List}
-use Prim.Native.Nat.{ℕ, _+_, _-_, _<_, _≤_}
+use Prim.Native.Nat.{_-_, _≤_}
 use native.Mathlib.Omega.{arith}
 use denote.Ref.{now}
-use lib.ListN.{length, getD, set, replicate, length-set}
-use borrow.Author.Tests.{eqb-true, eqb-false}
-use Rattle.rules.specs.Factor.{finer}
+use lib.ListN.{length, getD, length-set}
 use Rattle.rules.proofs.Walks.{Agree, agree-start, agree-new, agree-old, agree-finer, agree-not}
 use Rattle.factor.proofs.standing.agrees.Statement.{statement}
 use Rattle.factor.proofs.standing.agrees.Tie as tie
