@@ -13,7 +13,7 @@ use Rattle.rules.specs.Factor.{Column, at, count, classSize}
 use Rattle.rules.proofs.Numbering.{by-cases}
 use Rattle.rules.proofs.Tests.{count-yes, count-no}
 use Rattle.rules.proofs.Walks.{count-le}
-use Rattle.factor.specs.Columns.{tabulate, labelled, sizes}
+use Rattle.factor.specs.Sizes.{tabulate, labelled, sizes}
 
 -- ---- lists given by their elements
 

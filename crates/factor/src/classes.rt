@@ -1,32 +1,11 @@
 // Classes of a column and their sizes.
 ghost use mathlib.Core.Path.{_≡_};
-ghost use Prim.Native.Nat.{_≤_, _<_, min};
+ghost use Prim.Native.Nat.{_≤_, _<_};
 ghost use lib.ListN.{length};
 ghost use Rattle.rules.specs.Factor.{uniform};
-ghost use Rattle.factor.specs.Columns.{plots, treated, sizes};
-
-// The most plots that are treated.
-const PLOTS: usize = 240;
-
-// The plots treated of a column with this many labels.
-pub(crate) fn column_plots(length: usize) -> usize
-    ensures { λ r. ⌜ r ≡ min 240 length ⌝ }
-{
-    if PLOTS < length {
-        return PLOTS;
-    }
-    length
-}
-
-// The plots treated of two columns with these many labels.
-pub(crate) fn common_plots(first: usize, second: usize) -> usize
-    ensures { λ r. ⌜ r ≡ min 240 (min first second) ⌝ }
-{
-    if first < second {
-        return column_plots(first);
-    }
-    column_plots(second)
-}
+ghost use Rattle.factor.specs.Lent.{plotsOf};
+ghost use Rattle.factor.specs.Sizes.{sizes};
+use crate::numbering::numbered_plots;
 
 // How many plots have each label, in one walk.
 pub(crate) fn sizes(f: &[u8]) -> [u8; 256]
@@ -43,9 +22,9 @@ pub(crate) fn sizes(f: &[u8]) -> [u8; 256]
 
 // Whether all classes have the size of the first plot's class.
 pub fn uniform(f: &[u8]) -> bool
-    ensures { λ r. ⌜ r ≡ uniform (plots (now (f .entry))) (treated (now (f .entry))) ⌝ }
+    ensures { λ r. ⌜ r ≡ uniform (length (plotsOf (now (f .entry)))) (plotsOf (now (f .entry))) ⌝ }
 {
-    let n = column_plots(f.len());
+    let n = numbered_plots(f.len());
     if n == 0 {
         return true;
     }

@@ -3,12 +3,12 @@ ghost use mathlib.Core.Path.{_≡_};
 ghost use Prim.Native.Nat.{_≤_};
 ghost use lib.ListN.{length};
 ghost use Rattle.rules.specs.Factor.{finer};
-ghost use Rattle.factor.specs.Columns.{common, left, right};
-use crate::classes::common_plots;
+ghost use Rattle.factor.specs.Standing.{testCommon};
+use crate::meet::common_plots;
 
 // Whether plots that share a class of `f` always share a class of `g`, over the common plots.
 pub fn finer(f: &[u8], g: &[u8]) -> bool
-    ensures { λ r. ⌜ r ≡ finer (common (now (f .entry)) (now (g .entry))) (left (now (f .entry)) (now (g .entry))) (right (now (f .entry)) (now (g .entry))) ⌝ }
+    ensures { λ r. ⌜ r ≡ testCommon finer (now (f .entry)) (now (g .entry)) ⌝ }
 {
     let n = common_plots(f.len(), g.len());
     agrees(&f[..n], &g[..n])

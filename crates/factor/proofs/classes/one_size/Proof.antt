@@ -11,7 +11,7 @@ use lib.ListN.{length, getD}
 use borrow.Author.Tests.{eq-eqb, ne-eqb}
 use Rattle.rules.specs.Factor.{Column, at, every, classSize, uniform}
 use Rattle.rules.proofs.Walks.{every-more, every-fails}
-use Rattle.factor.specs.Columns.{sizes}
+use Rattle.factor.specs.Sizes.{sizes}
 use Rattle.factor.proofs.Sizes.{sizes-at}
 use Rattle.factor.proofs.classes.one_size.Statement.{statement}
 use Rattle.factor.proofs.classes.one_size.Tie as tie

@@ -7,7 +7,7 @@ use native.Mathlib.Omega.{arith}
 use denote.Ref.{now}
 use lib.ListN.{length, getD, set}
 use Rattle.rules.specs.Factor.{at}
-use Rattle.factor.specs.Columns.{tabulate, labelled, sizes}
+use Rattle.factor.specs.Sizes.{tabulate, labelled, sizes}
 use Rattle.factor.proofs.Sizes.{getD-tabulate, labelled-le, sizes-start, sizes-step}
 use Rattle.factor.proofs.classes.sizes.Statement.{statement}
 use Rattle.factor.proofs.classes.sizes.Tie as tie

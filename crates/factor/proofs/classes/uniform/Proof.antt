@@ -6,16 +6,19 @@ use denote.Ref.{now}
 use lib.ListN.{length, take, length-take}
 use borrow.Author.Needs.{needs}
 use Rattle.rules.specs.Factor.{every, uniform}
+use Rattle.factor.proofs.Fill.{take-min}
 use Rattle.factor.proofs.classes.uniform.Statement.{statement}
 use Rattle.factor.proofs.classes.uniform.Tie as tie
 
-column-plots-requires : tie.Need-column-plots-requires
-column-plots-requires c κs = search needs
+numbered-plots-requires : tie.Need-numbered-plots-requires
+numbered-plots-requires c κs = search needs
 
 returns : tie.Need-returns
 unfolding uniform every
 returns c =
-    rw (sym (c .before .column-plots .ensures) ∙ c .if1 .taken)
+    let f = now (c .before .before .before .args .f) in
+    let e : length (take 240 f) ≡ 0 = length-take 240 f ∙ sym (c .before .numbered-plots .ensures) ∙ c .if1 .taken in
+    rw e
 
 slice-aggregate-one-size : tie.Need-slice-aggregate-one-size
 slice-aggregate-one-size c = simp length-take (omega arith)
@@ -27,9 +30,8 @@ returns-2 : tie.Need-returns-2
 returns-2 c =
     let b = c .before .before .before in
     let f = now (b .before .before .args .f) in
-    let n = b .column-plots .result in
-    let l : length (take n f) ≡ n = simp length-take (omega arith) in
-    rw l at (c .one-size .ensures) ∙ rw (b .column-plots .ensures)
+    let e : take (b .numbered-plots .result) f ≡ take 240 f = rw (b .numbered-plots .ensures) (take-min 240 f) in
+    rw e at (c .one-size .ensures)
 
 pub uniform-spec : {M : Type 1} → statement M
-uniform-spec = tie.close (tie.spec column-plots-requires returns slice-aggregate-one-size one-size-requires returns-2)
+uniform-spec = tie.close (tie.spec numbered-plots-requires returns slice-aggregate-one-size one-size-requires returns-2)

@@ -5,7 +5,6 @@ use native.Mathlib.Omega.{arith}
 use denote.Ref.{now}
 use lib.ListN.{length, take, length-take}
 use borrow.Author.Needs.{needs}
-use Rattle.rules.specs.Factor.{finer}
 use Rattle.factor.proofs.standing.finer.Statement.{statement}
 use Rattle.factor.proofs.standing.finer.Tie as tie
 

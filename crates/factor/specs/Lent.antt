@@ -1,0 +1,22 @@
+-- What a function over lent columns looks at and leaves. An input column is a slice, one label a plot; an output column is an array of 240 bytes.
+-- Assumes nothing.
+use mathlib.Core.List.{List, _++_}
+use Prim.Native.Nat.{ℕ, min}
+use lib.ListN.{length, take, drop}
+use Rattle.rules.specs.Factor.{Column}
+
+-- the plots of a column: at most the first 240
+abbrev pub plotsOf : Column → Column
+plotsOf F = take 240 F
+
+-- how many plots two columns have in common
+abbrev pub common : Column → Column → ℕ
+common F G = min 240 (min (length F) (length G))
+
+-- an operation on two columns over those plots
+abbrev pub onCommon : (Column → Column → Column) → Column → Column → Column
+onCommon op F G = op (take (common F G) F) (take (common F G) G)
+
+-- what an output array holds: the numbers, then what was there
+abbrev pub overlay : List ℕ → Column → List ℕ
+overlay out X = X ++ drop (length X) out

@@ -1,0 +1,19 @@
+// The limits of the rules, in one place.
+
+// plots of a sheet
+pub const PLOTS: usize = 240;
+// members of a family
+pub const MEMBERS: usize = 32;
+// columns of one kind
+pub const COLUMNS: usize = 6;
+// cells of the level table
+pub const LEVELS: usize = 2880;
+// bytes of a family buffer
+pub const FAMILY: usize = 7680;
+// bytes of a name buffer
+pub const NAME: usize = 96;
+// bytes of a sheet's text
+pub const TEXT: usize = 32768;
+
+// a level of a sheet: only a label
+pub type Level = u16;
