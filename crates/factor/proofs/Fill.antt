@@ -1,13 +1,32 @@
 -- Laws of an array that is filled from its start.
 -- Assumes nothing.
-use mathlib.Core.Path.{_≡_, ap}
-use mathlib.Core.List.{List, [], _∷_}
-use Prim.Native.Nat.{ℕ, zero, suc, min}
+use mathlib.Core.Path.{_≡_, refl, sym, ap, ap₂, _∙_}
+use mathlib.Core.List.{List, [], _∷_, _++_}
+use Prim.Native.Nat.{ℕ, zero, suc, _+_, _≤_, _<_, min}
+use native.Mathlib.Nat.{le-of-lt}
+use native.Mathlib.Numerals.{add-one}
 use native.Mathlib.Omega.{arith}
-use lib.ListN.{length, take}
-use lib.Seq.{take-nil}
+use lib.ListN.{length, getD, take, drop, set, length-append, length-take, length-drop}
+use lib.Seq.{length-take-le, take-suc, drop-cons, set-at, append-snoc, take-nil}
+use Rattle.rules.specs.Factor.{Column, number, classes}
+use Rattle.rules.proofs.Numbering.{length-number, number-take}
+use Rattle.factor.specs.Lent.{plotsOf, overlay}
 
 module _ {ℓ} {A : Type ℓ} where
+  -- b, with its first i elements replaced by those of s
+  abbrev pub filled : List A → List A → ℕ → List A
+  filled b s i = take i s ++ drop i b
+
+  -- a store of the next element
+  pub filled-step : (b s : List A) (i : ℕ) (d : A) → i < length s → i < length b → set (filled b s i) i (getD s i d) ≡ filled b s (i + 1)
+  filled-step b s i d h k =
+      ap (λ (r : List A). set (take i s ++ r) i (getD s i d)) (drop-cons b i d k)
+      ∙ set-at (take i s) (getD b i d) (drop (suc i) b) (getD s i d) i (length-take-le i s (le-of-lt h))
+      ∙ rw (add-one, take-suc s i d) (sym (append-snoc (take i s) (getD s i d) (drop (suc i) b)))
+
+  pub length-filled : (b s : List A) (i : ℕ) → i ≤ length s → i ≤ length b → length (filled b s i) ≡ length b
+  length-filled b s i h k = simp (length-append, length-drop, length-take-le i s h) (omega arith)
+
   pub take-min : (m : ℕ) (l : List A) → take (min m (length l)) l ≡ take m l
   take-min zero l =
       let e : min 0 (length l) ≡ 0 = omega arith in
