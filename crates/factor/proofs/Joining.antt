@@ -9,11 +9,13 @@ use native.Mathlib.Numerals.{add-one}
 use native.Mathlib.Omega.{arith}
 use lib.Dec.{eqb}
 use lib.ListN.{length, take, drop, set, length-set, length-map, length-replicate}
-use lib.Seq.{ext-getD, getD-set-same, getD-set-other, drop-cons, drop-length, getD-at, length-take-le}
+use lib.Seq.{ext-getD, getD-set-same, getD-set-other, drop-cons, drop-length, getD-at, length-take-le, take-at, take-all}
 use borrow.Author.Tests.{eqb-true, eqb-false, eq-eqb, ne-eqb}
-use Rattle.rules.specs.Factor.{Column, at, indexOf, relabel, joined}
+use Rattle.rules.specs.Factor.{Column, at, indexOf, relabel, joined, number, classes, supremum}
 use Rattle.rules.proofs.Numbering.{by-cases, eqb-self, has-getD, getD-place, place-yes, place-no}
 use Rattle.rules.proofs.Supremum.{length-relabel}
+use Rattle.rules.proofs.Columns.{classes-number}
+use Rattle.factor.specs.Lent.{plotsOf, overlay}
 use Rattle.factor.proofs.Fill.{filled}
 use Rattle.factor.specs.Joining.{blank, firsts, spread}
 
@@ -154,3 +156,16 @@ module _ (F G : Column) (l : length F ≡ length G) (t s z : List ℕ) (e : s �
 
       second : at s (at G u) ≡ at F first
       second = ap (λ (r : List ℕ). at r (at G u)) e ∙ firsts-at F G z l hG u (rw l at h)
+
+-- ---- the numbers of the joined labels
+
+pub number-joined : (F G : Column) (L : Column) → L ≡ joined F G (length F) → number L ≡ supremum F G
+unfolding supremum
+number-joined F G L e = ap number e
+
+pub classes-joined : (F G : Column) (L : Column) → L ≡ joined F G (length F) → classes L ≡ classes (supremum F G)
+classes-joined F G L e = sym (classes-number L) ∙ ap classes (number-joined F G L e)
+
+-- a column written over the start of another, and read back
+pub read-back : (out L : Column) (n : ℕ) → length L ≡ n → n ≤ 240 → plotsOf (take n (overlay out L)) ≡ L
+read-back out L n l h = ap (λ (x : Column). take 240 x) (take-at L (drop (length L) out) n l) ∙ take-all 240 L (omega arith)

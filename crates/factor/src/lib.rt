@@ -1,10 +1,12 @@
 // Factors as columns, one label a plot. An input column is a slice, an output column an array; at most 240 plots are treated.
 
-mod classes;
+mod join;
 mod meet;
 mod numbering;
+mod sizes;
 mod standing;
-mod supremum;
 
-pub use classes::uniform;
+pub use join::supremum;
+pub use numbering::number;
+pub use sizes::uniform;
 pub use standing::finer;

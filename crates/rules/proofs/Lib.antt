@@ -8,4 +8,5 @@ pub mod Walk
 pub mod Demand3
 pub mod Classes
 pub mod Degrees
+pub mod Columns
 pub mod Walks

@@ -12,9 +12,9 @@ use borrow.Author.Tests.{eq-eqb, ne-eqb}
 use Rattle.rules.specs.Factor.{Column, at, every, classSize, uniform}
 use Rattle.rules.proofs.Walks.{every-more, every-fails}
 use Rattle.factor.specs.Sizes.{sizes}
-use Rattle.factor.proofs.Sizes.{sizes-at}
-use Rattle.factor.proofs.classes.one_size.Statement.{statement}
-use Rattle.factor.proofs.classes.one_size.Tie as tie
+use Rattle.factor.proofs.SizeTable.{sizes-at}
+use Rattle.factor.proofs.sizes.one_size.Statement.{statement}
+use Rattle.factor.proofs.sizes.one_size.Tie as tie
 
 -- the class of plot u has the size of the first
 abbrev level : Column → ℕ → Bool

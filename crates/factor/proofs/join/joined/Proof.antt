@@ -1,4 +1,4 @@
--- `join` meets its contract: the plots passed are joined.
+-- `joined` meets its contract: the plots passed are joined.
 -- Assumes nothing.
 use mathlib.Core.Path.{_≡_, refl, sym, ap, _∙_}
 use mathlib.Core.Logic.{⊎-elim}
@@ -13,8 +13,8 @@ use Rattle.rules.specs.Factor.{Column, at, indexOf, relabel, joined}
 use Rattle.rules.proofs.Supremum.{length-relabel}
 use Rattle.factor.specs.Joining.{blank, firsts, spread}
 use Rattle.factor.proofs.Joining.{Held, length-blank, length-firsts, firsts-at, spread-own, relabel-same, join-step}
-use Rattle.factor.proofs.supremum.join.Statement.{statement}
-use Rattle.factor.proofs.supremum.join.Tie as tie
+use Rattle.factor.proofs.join.joined.Statement.{statement}
+use Rattle.factor.proofs.join.joined.Tie as tie
 
 abbrev Inv-loop : tie.InvT-loop
 Inv-loop f g first table₀ u₀ u-end table u = (u ≤ length f) × (u-end ≡ length f) × (length table ≡ 256) × (spread table f ≡ joined f g u)
@@ -142,8 +142,8 @@ returns c =
     let e : c .before .loop .u ≡ length f = omega arith in
     c .before .loop .inv .3 ∙ ap (joined f g) e
 
-pub join-spec : {M : Type 1} → statement M
-join-spec =
+pub joined-spec : {M : Type 1} → statement M
+joined-spec =
     tie.close
     (tie.spec
     Inv-loop

@@ -10,8 +10,8 @@ use lib.Seq.{take-length}
 use Rattle.factor.specs.Joining.{spread}
 use Rattle.factor.proofs.Fill.{filled, filled-step}
 use Rattle.factor.proofs.Joining.{length-spread, spread-at}
-use Rattle.factor.proofs.supremum.spread.Statement.{statement}
-use Rattle.factor.proofs.supremum.spread.Tie as tie
+use Rattle.factor.proofs.join.spread.Statement.{statement}
+use Rattle.factor.proofs.join.spread.Tie as tie
 
 abbrev Inv-loop : tie.InvT-loop
 Inv-loop f out₀ table u₀ u-end out u = (u ≤ length f) × (u-end ≡ length f) × (length out ≡ length out₀) × (out ≡ filled out₀ (spread table f) u)

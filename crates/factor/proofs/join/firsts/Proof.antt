@@ -9,8 +9,8 @@ use lib.ListN.{length, drop, set}
 use Rattle.rules.specs.Factor.{at}
 use Rattle.factor.specs.Joining.{blank, firsts}
 use Rattle.factor.proofs.Joining.{firsts-none, firsts-step}
-use Rattle.factor.proofs.supremum.firsts.Statement.{statement}
-use Rattle.factor.proofs.supremum.firsts.Tie as tie
+use Rattle.factor.proofs.join.firsts.Statement.{statement}
+use Rattle.factor.proofs.join.firsts.Tie as tie
 
 abbrev Inv-loop : tie.InvT-loop
 Inv-loop f g table₀ u₀ table u = (u ≤ length f) × (table ≡ firsts (drop u f) (drop u g) blank)

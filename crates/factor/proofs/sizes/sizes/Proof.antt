@@ -8,9 +8,9 @@ use denote.Ref.{now}
 use lib.ListN.{length, getD, set}
 use Rattle.rules.specs.Factor.{at}
 use Rattle.factor.specs.Sizes.{tabulate, labelled, sizes}
-use Rattle.factor.proofs.Sizes.{getD-tabulate, labelled-le, sizes-start, sizes-step}
-use Rattle.factor.proofs.classes.sizes.Statement.{statement}
-use Rattle.factor.proofs.classes.sizes.Tie as tie
+use Rattle.factor.proofs.SizeTable.{getD-tabulate, labelled-le, sizes-start, sizes-step}
+use Rattle.factor.proofs.sizes.sizes.Statement.{statement}
+use Rattle.factor.proofs.sizes.sizes.Tie as tie
 
 abbrev Inv-loop : tie.InvT-loop
 Inv-loop f table₀ u₀ u-end table u = (u ≤ length f) × (u-end ≡ length f) × (table ≡ tabulate (labelled u f) 256)

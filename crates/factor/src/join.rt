@@ -2,10 +2,24 @@
 ghost use mathlib.Core.Path.{_≡_};
 ghost use Prim.Native.Nat.{_≤_};
 ghost use lib.ListN.{length};
-ghost use Rattle.rules.specs.Factor.{relabel, joined};
-ghost use Rattle.factor.specs.Lent.{overlay};
+ghost use Rattle.rules.specs.Factor.{classes, relabel, joined, supremum};
+ghost use Rattle.factor.specs.Lent.{onCommon, overlay};
 ghost use Rattle.factor.specs.Joining.{blank, firsts, spread};
+use crate::meet::common_plots;
+use crate::numbering::number;
 use limits::PLOTS;
+
+// Numbers the classes of the supremum of two columns over their common plots; answers how many there are.
+pub fn supremum(f: &[u8], g: &[u8], out: &mut [u8; PLOTS]) -> usize
+    ensures answer { λ r. ⌜ r ≡ classes (onCommon supremum (now (f .entry)) (now (g .entry))) ⌝ }
+    ensures numbers { λ _. ⌜ now (out .exit) ≡ overlay (now (out .entry)) (onCommon supremum (now (f .entry)) (now (g .entry))) ⌝ }
+{
+    let n = common_plots(f.len(), g.len());
+    let table = joined(&f[..n], &g[..n]);
+    let mut column = [0u8; PLOTS];
+    spread(table, &f[..n], &mut column);
+    number(&column[..n], out)
+}
 
 // For each label of `g` the label of `f` at its first plot.
 fn firsts(f: &[u8], g: &[u8]) -> [u8; 256]
@@ -35,7 +49,7 @@ fn relabel(table: &mut [u8], a: u8, b: u8)
 }
 
 // For each label of `f` its label once each plot is joined to the first plot of its class in `g`.
-fn join(f: &[u8], g: &[u8]) -> [u8; 256]
+fn joined(f: &[u8], g: &[u8]) -> [u8; 256]
     requires { ⌜ length (now g) ≡ length (now f) ⌝ }
     ensures { λ r. ⌜ spread r (now (f .entry)) ≡ joined (now (f .entry)) (now (g .entry)) (length (now (f .entry))) ⌝ }
 {

@@ -12,8 +12,8 @@ use Rattle.rules.specs.Factor.{at, relabel}
 use Rattle.rules.proofs.Supremum.{length-relabel}
 use Rattle.factor.proofs.Fill.{filled, filled-step}
 use Rattle.factor.proofs.Joining.{next-renamed, next-kept}
-use Rattle.factor.proofs.supremum.relabel.Statement.{statement}
-use Rattle.factor.proofs.supremum.relabel.Tie as tie
+use Rattle.factor.proofs.join.relabel.Statement.{statement}
+use Rattle.factor.proofs.join.relabel.Tie as tie
 
 abbrev Inv-loop : tie.InvT-loop
 Inv-loop table₀ a b x₀ x-end table x = (x ≤ length table₀) × (x-end ≡ length table₀) × (length table ≡ length table₀) × (table ≡ filled table₀ (relabel a b table₀) x)

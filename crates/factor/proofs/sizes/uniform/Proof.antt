@@ -7,8 +7,8 @@ use lib.ListN.{length, take, length-take}
 use borrow.Author.Needs.{needs}
 use Rattle.rules.specs.Factor.{every, uniform}
 use Rattle.factor.proofs.Fill.{take-min}
-use Rattle.factor.proofs.classes.uniform.Statement.{statement}
-use Rattle.factor.proofs.classes.uniform.Tie as tie
+use Rattle.factor.proofs.sizes.uniform.Statement.{statement}
+use Rattle.factor.proofs.sizes.uniform.Tie as tie
 
 numbered-plots-requires : tie.Need-numbered-plots-requires
 numbered-plots-requires c κs = search needs
