@@ -9,7 +9,7 @@ use limits::Level;
 use limits::PLOTS;
 
 // How many plots two columns have in common.
-fn common_plots(a: usize, b: usize) -> usize
+pub fn common_plots(a: usize, b: usize) -> usize
     ensures { λ r. ⌜ r ≡ min 240 (min a b) ⌝ }
 {
     if a < b {

@@ -10,7 +10,7 @@ use lib.Dec.{eqb, ltb}
 use lib.ListN.{length, take, drop, drop-of-length-le}
 use lib.Seq.{drop-cons}
 use borrow.Author.Tests.{eqb-true, eqb-false, eq-eqb, ne-eqb, ltb-true, ltb-false}
-use Rattle.rules.specs.Factor.{Column, at, Equivalent, labels, number, classes}
+use Rattle.rules.specs.Factor.{Column, at, Equivalent, number, classes}
 use Rattle.rules.specs.Family.{alike, smaller, before}
 use Rattle.rules.proofs.Numbering.{by-cases, eqb-self, numbering-at, number-same, length-number}
 use Rattle.rules.proofs.Walk.{next}

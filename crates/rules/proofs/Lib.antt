@@ -3,6 +3,7 @@ pub mod Words
 pub mod Numbering
 pub mod Walk
 pub mod Columns
+pub mod Walks
 pub mod Supremum
 pub mod Bounds
 pub mod Extremes
@@ -22,4 +23,3 @@ pub mod Questions
 pub mod Demand3
 pub mod Relation
 pub mod Degrees
-pub mod Columns

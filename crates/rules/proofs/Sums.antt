@@ -1,6 +1,11 @@
 -- Finite sums over a list, and counts of plots as sums.
 -- Assumes nothing.
 use Rattle.rules.specs.Lists.{bit}
+use Rattle.rules.specs.Factor.{Column, at, indexOf, labels, count}
+use Rattle.rules.specs.Family.{_∈_, Distinct, none-left, apart}
+use Rattle.rules.proofs.Numbering.{by-cases, eqb-self, has-all, getD-place}
+use Rattle.rules.proofs.Tests.{count-yes, count-no}
+use Rattle.rules.proofs.Classes.{distinct-labels, labels-only, has-in, in-has}
 use mathlib.Core.Path.{_≡_, refl, sym, ap, ap₂, _∙_}
 use mathlib.Core.Logic.{_⊎_, inl, inr}
 use mathlib.Core.Bool.{Bool, true, false, _&&_}
@@ -11,11 +16,6 @@ use native.Mathlib.Omega.{arith}
 use lib.Dec.{eqb}
 use lib.ListN.{length}
 use borrow.Author.Tests.{eqb-true, eqb-false, ne-eqb}
-use Rattle.rules.specs.Factor.{Column, at, indexOf, labels, count}
-use Rattle.rules.specs.Family.{_∈_, Distinct, none-left, apart}
-use Rattle.rules.proofs.Numbering.{by-cases, eqb-self, has-all, getD-place}
-use Rattle.rules.proofs.Tests.{count-yes, count-no}
-use Rattle.rules.proofs.Classes.{distinct-labels, labels-only, has-in, in-has}
 
 -- the sum of f over the list
 unfoldable pub sum : {A : Type 0} → List A → (A → ℕ) → ℕ

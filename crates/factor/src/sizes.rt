@@ -1,0 +1,47 @@
+// Classes of a column and their sizes.
+ghost use mathlib.Core.Path.{_≡_};
+ghost use Prim.Native.Nat.{_≤_, _<_};
+ghost use lib.ListN.{length};
+ghost use Rattle.rules.specs.Factor.{uniform};
+ghost use Rattle.factor.specs.Lent.{plotsOf};
+ghost use Rattle.factor.specs.Sizes.{sizes};
+use crate::numbering::numbered_plots;
+
+// How many plots have each label, in one walk.
+pub(crate) fn sizes(f: &[u8]) -> [u8; 256]
+    requires { ⌜ length (now f) ≤ 240 ⌝ }
+    ensures { λ r. ⌜ r ≡ sizes (now (f .entry)) ⌝ }
+{
+    let mut table = [0u8; 256];
+    for u in 0..f.len() {
+        let x = f[u] as usize;
+        table[x] += 1;
+    }
+    table
+}
+
+// Whether all classes have the size of the first plot's class.
+pub fn uniform(f: &[u8]) -> bool
+    ensures { λ r. ⌜ r ≡ uniform (length (plotsOf (now (f .entry)))) (plotsOf (now (f .entry))) ⌝ }
+{
+    let n = numbered_plots(f.len());
+    if n == 0 {
+        return true;
+    }
+    one_size(&f[..n])
+}
+
+// The same for a column that has a plot.
+fn one_size(f: &[u8]) -> bool
+    requires { ⌜ (0 < length (now f)) × (length (now f) ≤ 240) ⌝ }
+    ensures { λ r. ⌜ r ≡ uniform (length (now (f .entry))) (now (f .entry)) ⌝ }
+{
+    let table = sizes(f);
+    let first = table[f[0] as usize];
+    for u in 1..f.len() {
+        if table[f[u] as usize] != first {
+            return false;
+        }
+    }
+    true
+}
