@@ -1,14 +1,14 @@
 -- Laws of an array that is filled from its start.
 -- Assumes nothing.
-use mathlib.Core.Path.{_≡_, refl, sym, ap, ap₂, _∙_}
+use mathlib.Core.Path.{_≡_, sym, ap, _∙_}
 use mathlib.Core.List.{List, [], _∷_, _++_}
 use Prim.Native.Nat.{ℕ, zero, suc, _+_, _≤_, _<_, min}
 use native.Mathlib.Nat.{le-of-lt}
 use native.Mathlib.Numerals.{add-one}
 use native.Mathlib.Omega.{arith}
-use lib.ListN.{length, getD, take, drop, set, length-append, length-take, length-drop}
+use lib.ListN.{length, getD, take, drop, set, length-append, length-drop}
 use lib.Seq.{length-take-le, take-suc, drop-cons, set-at, append-snoc, take-nil}
-use Rattle.rules.specs.Factor.{Column, number, classes}
+use Rattle.rules.specs.Factor.{Column, number}
 use Rattle.rules.proofs.Numbering.{length-number, number-take}
 use Rattle.factor.specs.Lent.{plotsOf, overlay}
 

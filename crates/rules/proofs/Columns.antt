@@ -1,20 +1,19 @@
 -- Laws for programs over columns: a look-up that tells the number of each label seen, and the number of classes.
 -- Assumes nothing.
-use mathlib.Core.Path.{_≡_, refl, sym, ap, _∙_, subst}
-use mathlib.Core.Logic.{_⊎_, inl, inr}
+use mathlib.Core.Path.{_≡_, refl, sym, ap, _∙_}
 use mathlib.Core.Bool.{Bool, true, false}
-use mathlib.Core.List.{List, [], _∷_}
-use Prim.Native.Nat.{ℕ, zero, suc, _+_, _≤_, _<_, zero-le, suc-le-suc}
+use mathlib.Core.List.{[], _∷_}
+use Prim.Native.Nat.{ℕ, suc, _≤_, _<_, zero-le, suc-le-suc}
 use native.Mathlib.Nat.{not-suc-le-zero, le-antisymm}
 use native.Mathlib.Omega.{arith}
 use lib.Dec.{eqb, ltb}
-use lib.ListN.{length, getD, take, drop, drop-of-length-le}
+use lib.ListN.{length, take, drop, drop-of-length-le}
 use lib.Seq.{drop-cons}
 use borrow.Author.Tests.{eqb-true, eqb-false, eq-eqb, ne-eqb, ltb-true, ltb-false}
-use Rattle.rules.specs.Factor.{Column, at, Same, Equivalent, indexOf, labels, numbering, number, classes}
+use Rattle.rules.specs.Factor.{Column, at, Equivalent, labels, number, classes}
 use Rattle.rules.specs.Family.{alike, smaller, before}
 use Rattle.rules.proofs.Numbering.{by-cases, eqb-self, numbering-at, number-same, length-number}
-use Rattle.rules.proofs.Walk.{next, Next}
+use Rattle.rules.proofs.Walk.{next}
 use Rattle.rules.proofs.Classes.{classes-le}
 use Rattle.rules.proofs.Members.{alike-sound}
 

@@ -1,23 +1,20 @@
 -- `write_numbers` meets its contract: the table tells the number of each label seen, and the array is filled with the numbers.
 -- Assumes nothing.
-use mathlib.Core.Path.{_≡_, refl, sym, ap, _∙_}
+use mathlib.Core.Path.{_≡_, refl, ap, _∙_}
 use mathlib.Core.Logic.{⊎-elim}
 use mathlib.Core.List.{List}
-use Prim.Native.Nat.{ℕ, _+_, _-_, _≤_, _<_, min}
+use Prim.Native.Nat.{ℕ, _-_, _≤_, _<_, min}
 use native.Mathlib.Omega.{arith}
 use borrow.Author.Needs.{needs}
 use denote.Ref.{now}
-use lib.ListN.{length, getD, take, set, replicate, length-set}
+use lib.ListN.{length, getD, take, replicate, length-set}
 use Rattle.rules.specs.Factor.{number, classes}
 use Rattle.rules.proofs.Numbering.{length-number}
 use Rattle.rules.proofs.Columns.{Tells, tells-none}
-use Rattle.factor.proofs.Fill.{filled, filled-step, length-filled, take-min, filled-number}
+use Rattle.factor.proofs.Fill.{filled, filled-step, take-min, filled-number}
 use Rattle.factor.proofs.Table.{Stepped, stepped-old, table-new, getD-zeros, classes-none}
 use Rattle.factor.proofs.numbering.write_numbers.Statement.{statement}
 use Rattle.factor.proofs.numbering.write_numbers.Tie as tie
-use Rattle.factor.proofs.numbering.write_numbers.Reads as reads
-use Rattle.factor.proofs.numbering.write_numbers.Lts as lts
-use Rattle.factor.proofs.numbering.numbered_plots.Reads as numbered-plots-reads
 
 abbrev Inv-loop : tie.InvT-loop
 Inv-loop column out₀ n numbers₀ k₀ u₀ out numbers k u =
@@ -26,54 +23,42 @@ Inv-loop column out₀ n numbers₀ k₀ u₀ out numbers k u =
 abbrev μ-loop : tie.MeasureT-loop
 μ-loop column out₀ n numbers₀ k₀ u₀ out numbers k u = n - u
 
--- src/numbering.rt:37:9
 numbered-plots-requires : tie.Need-numbered-plots-requires Inv-loop μ-loop
 numbered-plots-requires c κs = search needs
 
--- src/numbering.rt:40:5
 loop-holds : tie.Need-loop-holds Inv-loop μ-loop
 loop-holds c =
     let column = now (c .before .before .before .args .column) in
     let numbers : List ℕ = replicate 256 0 in
     (omega arith, omega arith, refl, classes-none, refl, tells-none column (λ y. getD numbers y 0) (λ y. getD-zeros 256 y), c .numbered-plots .ensures, refl)
 
--- src/numbering.rt:41:17
 shared-slice-read-x : tie.Need-shared-slice-read-x Inv-loop μ-loop
 shared-slice-read-x c = omega arith
 
--- src/numbering.rt:41:17
 cast-x : tie.Need-cast-x Inv-loop μ-loop
 cast-x c = omega (arith, c .shared-slice-known2 .given (c .before .before .loop .u))
 
--- src/numbering.rt:42:12
 array-read-if1 : tie.Need-array-read-if1 Inv-loop μ-loop
 array-read-if1 c = omega (arith, c .shared-slice-known2 .given (c .before .before .loop .u))
 
--- src/numbering.rt:43:13
 add-k : tie.Need-add-k Inv-loop μ-loop
 add-k c = omega arith
 
--- src/numbering.rt:44:26
 cast-numbers : tie.Need-cast-numbers Inv-loop μ-loop
 cast-numbers c = omega arith
 
--- src/numbering.rt:44:13
 array-write-numbers : tie.Need-array-write-numbers Inv-loop μ-loop
 array-write-numbers c = omega (arith, c .before .shared-slice-known2 .given (c .before .before .before .loop .u))
 
--- src/numbering.rt:46:18
 array-read-out : tie.Need-array-read-out Inv-loop μ-loop
 array-read-out c = omega (arith, c .before .shared-slice-known2 .given (c .before .before .before .loop .u))
 
--- src/numbering.rt:46:9
 slice-write-out : tie.Need-slice-write-out Inv-loop μ-loop
 slice-write-out c = omega arith
 
--- src/numbering.rt:40:9
 add-u : tie.Need-add-u Inv-loop μ-loop
 add-u c = omega arith
 
--- src/numbering.rt:40:5
 loop-less : tie.Need-loop-less Inv-loop μ-loop
 loop-less c = omega arith
 
@@ -89,7 +74,6 @@ stepped c =
     (λ w. rw (w .1, w .2) (stepped-old column u h (λ y. getD (b .loop .numbers) y 0) (b .loop .inv .5) (b .loop .k) (b .loop .inv .3) (w .0 .left)))
     (c .if1 .came)
 
--- src/numbering.rt:40:5
 loop-again : tie.Need-loop-again Inv-loop μ-loop
 loop-again c =
     let b = c .before .before .before in
@@ -110,11 +94,9 @@ loop-again c =
       simp length-set (b .loop .inv .7),
     )
 
--- src/numbering.rt:32:1
 same-length : tie.Need-same-length Inv-loop μ-loop
 same-length c = c .before .loop .inv .7
 
--- src/numbering.rt:32:1
 returns : tie.Need-returns Inv-loop μ-loop
 returns c =
     let b = c .before in

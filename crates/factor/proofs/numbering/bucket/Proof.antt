@@ -1,0 +1,18 @@
+use borrow.Author.Needs.{needs}
+use mathlib.Core.Path.{refl}
+use Rattle.factor.specs.Seen.{bucketOf}
+use Rattle.factor.proofs.numbering.bucket.Statement.{statement}
+use Rattle.factor.proofs.numbering.bucket.Tie as tie
+
+mul-result : tie.Need-mul-result
+mul-result c = search needs
+
+add-result : tie.Need-add-result
+add-result c = search needs
+
+returns : tie.Need-returns
+unfolding bucketOf
+returns c = refl
+
+pub bucket-spec : {M : Type 1} → statement M
+bucket-spec = tie.close (tie.spec mul-result add-result returns)

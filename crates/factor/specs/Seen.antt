@@ -1,0 +1,24 @@
+-- The labels seen, chained by buckets: class c has a label, and the class before it in its bucket. Class 0 ends a chain.
+-- Assumes nothing.
+use mathlib.Core.Bool.{true, false}
+use mathlib.Core.List.{List}
+use Prim.Native.Nat.{ℕ, zero, suc, _+_, _*_, _/_, _%_, _<_, _≤_}
+use lib.Dec.{eqb}
+use lib.ListN.{getD}
+
+-- the bucket of a label
+unfoldable pub bucketOf : ℕ → ℕ
+bucketOf x = (x / 256 * 633 + x % 256) % 1024
+
+-- the class labelled x among c and at most m − 1 classes chained from it, or 0
+unfoldable pub lookUp : List ℕ → List ℕ → ℕ → ℕ → ℕ → ℕ
+lookUp labels chain x zero c = 0
+lookUp labels chain x (suc m) zero = 0
+lookUp labels chain x (suc m) (suc c) = elim (eqb (getD labels (suc c) 0) x) [
+  | true ↦ suc c
+  | false ↦ lookUp labels chain x m (getD chain (suc c) 0)
+]
+
+-- each of the classes 1 to k is chained to an earlier one
+abbrev pub Descends : List ℕ → ℕ → Type 0
+Descends chain k = (c : ℕ) → 0 < c → c ≤ k → getD chain c 0 < c

@@ -1,0 +1,49 @@
+// The order of members.
+ghost use mathlib.Core.Path.{_≡_};
+ghost use Rattle.rules.specs.Family.{alike, smaller, before};
+use crate::numbering::classes;
+
+// Whether two columns are equal.
+pub fn alike(f: &[u8], g: &[u8]) -> bool
+    ensures { λ r. ⌜ r ≡ alike (now (f .entry)) (now (g .entry)) ⌝ }
+{
+    let n = f.len();
+    if n != g.len() {
+        return false;
+    }
+    for u in 0..n {
+        if f[u] != g[u] {
+            return false;
+        }
+    }
+    true
+}
+
+// Whether `f` has the smaller number at the first plot where the columns differ.
+pub fn smaller(f: &[u8], g: &[u8]) -> bool
+    ensures { λ r. ⌜ r ≡ smaller (now (f .entry)) (now (g .entry)) ⌝ }
+{
+    for u in 0..f.len() {
+        if g.len() <= u {
+            return false;
+        }
+        let x = f[u];
+        let y = g[u];
+        if x != y {
+            return x < y;
+        }
+    }
+    f.len() < g.len()
+}
+
+// Whether `f` stands before `g`: fewer classes, and at a tie the smaller column.
+pub fn before(f: &[u8], g: &[u8]) -> bool
+    ensures { λ r. ⌜ r ≡ before (now (f .entry)) (now (g .entry)) ⌝ }
+{
+    let a = classes(f);
+    let b = classes(g);
+    if a == b {
+        return smaller(f, g);
+    }
+    a < b
+}
