@@ -10,3 +10,9 @@ pub mod Classes
 pub mod Degrees
 pub mod Columns
 pub mod Walks
+pub mod Bounds
+pub mod Sums
+pub mod Orthogonality
+pub mod First
+pub mod ClassCount
+pub mod Questions
