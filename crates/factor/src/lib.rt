@@ -18,3 +18,4 @@ pub use order::before;
 pub use order::smaller;
 pub use sizes::uniform;
 pub use standing::finer;
+pub use standing::orthogonal;

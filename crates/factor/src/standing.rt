@@ -2,10 +2,13 @@
 ghost use mathlib.Core.Path.{_≡_};
 ghost use Prim.Native.Nat.{_*_, _≤_};
 ghost use lib.ListN.{length};
-ghost use Rattle.rules.specs.Factor.{finer};
+ghost use Rattle.rules.specs.Factor.{finer, orthogonal};
 ghost use Rattle.factor.specs.Standing.{testCommon, balanced};
+use crate::join::supremum;
 use crate::meet::common_plots;
+use crate::meet::infimum;
 use crate::sizes::sizes;
+use limits::PLOTS;
 
 // Whether plots that share a class of `f` always share a class of `g`, over the common plots.
 pub fn finer(f: &[u8], g: &[u8]) -> bool
@@ -13,6 +16,18 @@ pub fn finer(f: &[u8], g: &[u8]) -> bool
 {
     let n = common_plots(f.len(), g.len());
     agrees(&f[..n], &g[..n])
+}
+
+// Whether two columns are orthogonal over their common plots.
+pub fn orthogonal(f: &[u8], g: &[u8]) -> bool
+    ensures { λ r. ⌜ r ≡ testCommon orthogonal (now (f .entry)) (now (g .entry)) ⌝ }
+{
+    let n = common_plots(f.len(), g.len());
+    let mut below = [0u8; PLOTS];
+    infimum(f, g, &mut below);
+    let mut above = [0u8; PLOTS];
+    supremum(f, g, &mut above);
+    balanced(&below[..n], &above[..n], &f[..n], &g[..n])
 }
 
 // One walk: `first[x]` is a plot of the class `x`, once it has one; later plots must agree with it.
