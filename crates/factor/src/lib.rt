@@ -3,6 +3,7 @@
 mod meet;
 mod numbering;
 mod order;
+mod plots;
 
 pub use meet::infimum;
 pub use numbering::classes;

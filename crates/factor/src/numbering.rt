@@ -1,10 +1,11 @@
 // Numbering by first appearance.
 ghost use mathlib.Core.Path.{_≡_};
-ghost use Prim.Native.Nat.{_≤_, min};
+ghost use Prim.Native.Nat.{_≤_};
 ghost use Rattle.rules.specs.Factor.{number, classes};
 ghost use Rattle.rules.specs.Family.{alike};
 ghost use Rattle.factor.specs.Lent.{plotsOf, overlay};
 ghost use Rattle.factor.specs.Seen.{bucketOf, lookUp, Descends};
+use crate::plots::numbered_plots;
 use limits::Level;
 use limits::PLOTS;
 
@@ -13,16 +14,6 @@ const NUMBERS: usize = PLOTS + 1;
 
 // Buckets that labels are sorted into.
 const BUCKETS: usize = 1024;
-
-// How many of `n` plots are numbered.
-pub fn numbered_plots(n: usize) -> usize
-    ensures { λ r. ⌜ r ≡ min 240 n ⌝ }
-{
-    if n < PLOTS {
-        return n;
-    }
-    PLOTS
-}
 
 // Numbers the plots of a column by first appearance; answers the number of classes.
 pub fn number(column: &[u8], out: &mut [u8; PLOTS]) -> usize
@@ -80,12 +71,13 @@ pub fn is_numbered(column: &[u8]) -> bool
     true
 }
 
-// The bucket of a label: labels that differ little in their two bytes lie in different buckets.
+// The bucket of a label. Labels that are pairs of bytes, from 1 to a and from 1 to b, lie in different buckets where
+// a × b is at most 384.
 fn bucket(x: Level) -> usize
     ensures { λ r. ⌜ r ≡ bucketOf x ⌝ }
 {
     let wide = x as usize;
-    (wide / 256 * 633 + wide % 256) % BUCKETS
+    (wide / 256 * 749 + wide % 256) % BUCKETS
 }
 
 // The class labelled `x` among those chained from `start`, or 0.
@@ -104,6 +96,7 @@ fn look_up(labels: &[Level; NUMBERS], chain: &[u8; NUMBERS], start: usize, x: Le
 }
 
 // Numbers the plots of a column of levels by first appearance; answers the number of classes.
+// Class c has its label and the class before it in its bucket; `last` has the latest class of each bucket.
 pub fn number_levels(levels: &[Level], out: &mut [u8; PLOTS]) -> usize
     ensures answer { λ r. ⌜ r ≡ classes (plotsOf (now (levels .entry))) ⌝ }
     ensures numbers { λ _. ⌜ now (out .exit) ≡ overlay (now (out .entry)) (number (plotsOf (now (levels .entry)))) ⌝ }
