@@ -6,6 +6,8 @@ pub const PLOTS: usize = 240;
 pub const MEMBERS: usize = 32;
 // columns of one kind
 pub const COLUMNS: usize = 6;
+// the interaction level k
+pub const INTERACTION: usize = 6;
 // cells of the level table
 pub const LEVELS: usize = 2880;
 // bytes of a family buffer
