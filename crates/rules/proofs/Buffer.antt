@@ -88,7 +88,7 @@ column-at n b i (suc m) zero h = rw add-zero
 column-at n b i (suc m) (suc k) h = column-at n b (suc i) m k (le-of-suc-le-suc h) ∙ ap (λ (x : ℕ). take n (drop (240 * x) b)) (suc-across i k)
 
 -- one column more at the end
-columns-snoc : (n : ℕ) (b : List ℕ) (i m : ℕ) → columnsFrom n b i (suc m) ≡ columnsFrom n b i m ++ take n (drop (240 * (i + m)) b) ∷ []
+pub columns-snoc : (n : ℕ) (b : List ℕ) (i m : ℕ) → columnsFrom n b i (suc m) ≡ columnsFrom n b i m ++ take n (drop (240 * (i + m)) b) ∷ []
 unfolding columnsFrom
 columns-snoc n b i zero = rw add-zero
 columns-snoc n b i (suc m) =

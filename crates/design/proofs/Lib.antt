@@ -1,0 +1,9 @@
+pub mod Search
+pub mod Asked
+pub mod Order
+pub mod Common
+pub mod Placing
+pub mod Start
+pub mod Work
+pub mod Judge
+pub mod Answered

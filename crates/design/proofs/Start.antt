@@ -1,0 +1,233 @@
+-- Laws of the columns that a family starts from: each is placed in turn, and none twice.
+-- Assumes nothing.
+use mathlib.Core.Path.{_≡_, refl, sym, ap, _∙_, subst}
+use mathlib.Core.Logic.{_⊎_, inl, inr}
+use mathlib.Core.List.{List, [], _∷_, _++_, map, map-append, List·Memᴰ·head, List·Memᴰ·not-nil, List·Memᴰ·append-cases, List·Memᴰ·eq-of-singleton, Memᴰ·cast, Memᴰ·append-left, Memᴰ·append-right}
+use Prim.Native.Nat.{ℕ, zero, suc, _+_, _*_, _-_, _≤_, _<_}
+use native.Mathlib.Nat.{not-suc-le-zero, le-of-suc-le-suc, add-zero, zero-add}
+use native.Mathlib.Numerals.{add-one}
+use native.Mathlib.Omega.{arith}
+use lib.ListN.{length, take, drop, replicate, length-append, length-drop, length-map}
+use lib.Seq.{length-take-le, take-all, take-at}
+use Rattle.rules.specs.Factor.{Column, number, classes, universal, upFrom, equality}
+use Rattle.rules.specs.Family.{Family, _∈_, Distinct, none-left, columnsFrom, membersOf}
+use Rattle.rules.specs.Closing.{plotGenerators}
+use Rattle.rules.proofs.WorkList.{member-in, distinct-more}
+use Rattle.rules.proofs.Buffer.{length-columns, columns-snoc, length-members}
+use Rattle.rules.proofs.Numbering.{length-number}
+use Rattle.rules.proofs.ClassCount.{classes-number, classes-most}
+use Rattle.factor.specs.Lent.{plotsOf, overlay}
+use Rattle.design.specs.State.{columnIn, Held, Placed, full, old, new, grownTo, Begun}
+use Rattle.design.proofs.Placing.{grown-new, grown-old, part-column}
+
+-- ---- E
+
+-- one number more
+up-snoc : (n i : ℕ) → upFrom i (suc n) ≡ upFrom i n ++ (i + n) ∷ []
+unfolding upFrom
+up-snoc zero i = ap (λ (x : ℕ). x ∷ []) (sym (add-zero i))
+up-snoc (suc n) i = ap (λ (l : Column). i ∷ l) (up-snoc n (suc i) ∙ ap (λ (x : ℕ). upFrom (suc i) n ++ x ∷ []) (across i n))
+  where
+    across : (i n : ℕ) → suc i + n ≡ i + suc n
+    across i n = omega arith
+
+-- E on one plot more
+pub equality-more : (n : ℕ) → equality (n + 1) ≡ equality n ++ (n + 1) ∷ []
+unfolding equality
+equality-more n =
+    let e : n + 1 ≡ 1 + n = omega arith in
+    ap equality (add-one n) ∙ up-snoc n 1 ∙ ap (λ (x : ℕ). upFrom 1 n ++ x ∷ []) (sym e)
+
+-- ---- placing
+
+module _ (n : ℕ) (store counts : List ℕ) (size : ℕ) (h : Held n store counts size) (less : size < 32) (F : Column) where
+  abbrev S : Family
+  S = membersOf n store size
+
+  ends : length S ≡ size
+  ends = length-members n (h .most) store size
+
+  -- the store after F is placed among S: its members are those of S, and F
+  pub record After (r : ℕ) (after counts′ : List ℕ) : Type 0 where
+    pub family : Family
+    pub held : Held n after counts′ (grownTo size r)
+    pub members : membersOf n after (grownTo size r) ≡ family
+    pub most : grownTo size r ≤ size + 1
+    pub distinct : Distinct S → Distinct family
+    pub only : (G : Column) → G ∈ family → (G ∈ S) ⊎ (G ≡ F)
+    pub stays : (G : Column) → G ∈ S → G ∈ family
+    pub placed : F ∈ family
+
+  -- what placing answers, where there is room
+  pub after-placed : (r : ℕ) (after counts′ : List ℕ) → Placed n S F r after counts′ → After r after counts′
+  after-placed r after counts′ (full e l m) = absurd (impossible l)
+    where
+      impossible : length S ≡ 32 → ⊥
+      impossible l = let q : 32 < 32 = omega (arith, ends) in omega arith
+  after-placed r after counts′ (old l m k e) =
+      let g : grownTo size r ≡ length S = grown-old size r (λ q. omega (arith, ends)) ∙ sym ends in
+      record {
+        family = S;
+        held = rw g k;
+        members = ap (membersOf n after) g ∙ e;
+        most = omega (arith, ends);
+        distinct = λ d. d;
+        only = λ G i. inl i;
+        stays = λ G i. i;
+        placed = Memᴰ·cast (sym m) (member-in S r l);
+      }
+  after-placed r after counts′ (new e l m k q) =
+      let g : grownTo size r ≡ suc r = grown-new size r (e ∙ ends) ∙ omega (arith, ends) in
+      record {
+        family = S ++ F ∷ [];
+        held = rw g k;
+        members = ap (membersOf n after) g ∙ q;
+        most = omega (arith, ends);
+        distinct = λ d. distinct-more d m;
+        only = λ G i. last G (List·Memᴰ·append-cases S i);
+        stays = λ G i. Memᴰ·append-left _ i;
+        placed = Memᴰ·append-right S (List·Memᴰ·head refl);
+      }
+    where
+      last : (G : Column) → (G ∈ S) ⊎ (G ∈ F ∷ []) → (G ∈ S) ⊎ (G ≡ F)
+      last G (inl i) = inl i
+      last G (inr i) = inr (List·Memᴰ·eq-of-singleton i)
+
+-- no member yet
+pub held-none : (n : ℕ) (store counts : List ℕ) → 1 ≤ n → n ≤ 240 → length store ≡ 7680 → length counts ≡ 32 → Held n store counts 0
+held-none n store counts a b c d = record { some = a; most = b; room = c; places = d; few = omega arith; counted = λ i h. absurd (not-suc-le-zero h) }
+
+-- no column yet
+pub begun-none : (n : ℕ) (store counts : List ℕ) → Held n store counts 0 → Begun n [] store counts 0
+unfolding membersOf columnsFrom
+begun-none n store counts h = record {
+  held = h;
+  most = omega arith;
+  distinct = none-left;
+  numbered = λ F m. absurd (List·Memᴰ·not-nil m);
+  only = λ F m. m;
+  given = λ F m. m;
+}
+
+module _ (n : ℕ) (As : List Column) (store counts : List ℕ) (size : ℕ) (b : Begun n As store counts size) (less : size < 32) (F : Column) (numbered : number F ≡ F)
+    (r : ℕ) (after counts′ : List ℕ) (p : Placed n (membersOf n store size) F r after counts′) where
+  -- a column more
+  pub begun-more : Begun n (As ++ F ∷ []) after counts′ (grownTo size r)
+  begun-more =
+      let a = after-placed n store counts size (b .held) less F r after counts′ p in
+      record {
+        held = a .held;
+        most = rw (length-append As (F ∷ [])) (omega (arith, a .most, b .most));
+        distinct = rw (a .members) (a .distinct (b .distinct));
+        numbered = λ G m. is-numbered G (a .only G (rw (a .members) at m));
+        only = λ G m. is-given G (a .only G (rw (a .members) at m));
+        given = λ G m. rw (a .members) (is-placed a G (List·Memᴰ·append-cases As m));
+      }
+    where
+      is-numbered : (G : Column) → (G ∈ membersOf n store size) ⊎ (G ≡ F) → number G ≡ G
+      is-numbered G (inl i) = b .numbered G i
+      is-numbered G (inr e) = rw e numbered
+
+      is-given : (G : Column) → (G ∈ membersOf n store size) ⊎ (G ≡ F) → G ∈ As ++ F ∷ []
+      is-given G (inl i) = Memᴰ·append-left _ (b .only G i)
+      is-given G (inr e) = Memᴰ·append-right As (List·Memᴰ·head e)
+
+      is-placed : (a : After n store counts size (b .held) less F r after counts′) (G : Column) → (G ∈ As) ⊎ (G ∈ F ∷ []) → G ∈ a .family
+      is-placed a G (inl i) = a .stays G (b .given G i)
+      is-placed a G (inr i) = Memᴰ·cast (List·Memᴰ·eq-of-singleton i) (a .placed)
+
+-- the first column of all
+pub first-placed : (n : ℕ) (store counts : List ℕ) → Held n store counts 0 → (F : Column) (r : ℕ) (after counts′ : List ℕ) → Placed n (membersOf n store 0) F r after counts′ → grownTo 0 r ≡ 1
+first-placed n store counts h F r after counts′ p = go p
+  where
+    ends-0 : length (membersOf n store 0) ≡ 0
+    ends-0 = length-members n (h .most) store 0
+
+    go : Placed n (membersOf n store 0) F r after counts′ → grownTo 0 r ≡ 1
+    go (full e l m) = absurd (let q : 32 ≡ 0 = sym l ∙ ends-0 in omega arith)
+    go (old l m k e) = absurd (let q : r < 0 = rw ends-0 at l in omega arith)
+    go (new e l m k q) = grown-new 0 r (e ∙ ends-0)
+
+-- ---- columns lent as parts of arrays
+
+-- the contract of placing reads the number of plots from the lent column: here it is n
+pub placed-on : (n : ℕ) (store : List ℕ) (size : ℕ) (X F : Column) (r : ℕ) (after counts′ : List ℕ) → X ≡ F → length F ≡ n → Placed (length X) (membersOf (length X) store size) X r after counts′
+    → Placed n (membersOf n store size) F r after counts′
+placed-on n store size X F r after counts′ e l p =
+    subst (λ (k : ℕ). Placed k (membersOf k store size) F r after counts′) l (subst (λ (Y : Column). Placed (length Y) (membersOf (length Y) store size) Y r after counts′) e p)
+
+-- the same of a store
+pub held-on : (n : ℕ) (store counts : List ℕ) (size : ℕ) (X F : Column) → X ≡ F → length F ≡ n → Held n store counts size → Held (length X) store counts size
+held-on n store counts size X F e l h = subst (λ (k : ℕ). Held k store counts size) (sym (ap length e ∙ l)) h
+
+-- the first n of 240 ones are U
+pub take-ones : (n : ℕ) → n ≤ 240 → take {A = ℕ} n (replicate 240 1) ≡ universal n
+unfolding universal
+take-ones n h = go n 240 h
+  where
+    go : (n m : ℕ) → n ≤ m → take {A = ℕ} n (replicate m 1) ≡ replicate n 1
+    go zero m h = refl
+    go (suc n) zero h = absurd (not-suc-le-zero h)
+    go (suc n) (suc m) h = ap (λ (l : Column). 1 ∷ l) (go n m (le-of-suc-le-suc h))
+
+-- ---- a column of the level table, numbered into an array
+
+module _ (n c : ℕ) (levels : List ℕ) (small : n ≤ 240) (fits : 240 * c + 240 ≤ length levels) where
+  abbrev pub lentColumn : Column
+  lentColumn = take (240 * c + n - 240 * c) (drop (240 * c) levels)
+
+  abbrev G : Column
+  G = columnIn n levels c
+
+  length-column : length G ≡ n
+  length-column = length-take-le n (drop (240 * c) levels) (rw length-drop (omega arith))
+
+  lent-plots : plotsOf lentColumn ≡ G
+  lent-plots = ap plotsOf (part-column n levels c) ∙ take-all 240 G (rw length-column small)
+
+  -- it is on n plots
+  pub length-numbered : length (number G) ≡ n
+  length-numbered = length-number G ∙ length-column
+
+  -- its number of classes, and that this is small
+  pub classes-numbered : (k : ℕ) → k ≡ classes (plotsOf lentColumn) → (k ≡ classes (number G)) × (k ≤ 240)
+  classes-numbered k e =
+      let q : k ≡ classes G = e ∙ ap classes lent-plots in
+      (q ∙ sym (classes-number G), omega (arith, classes-most G, length-column))
+
+  module _ (out after : List ℕ) (e : after ≡ overlay out (number (plotsOf lentColumn))) where
+    written : after ≡ overlay out (number G)
+    written = e ∙ ap (λ (X : Column). overlay out (number X)) lent-plots
+
+    -- the array starts with its numbers
+    pub take-numbered : take n after ≡ number G
+    take-numbered = ap (λ (l : List ℕ). take n l) written ∙ take-at (number G) _ n length-numbered
+
+    -- the array is long enough
+    pub long-numbered : n ≤ length after
+    long-numbered = rw (written, length-append) (omega (arith, length-numbered))
+
+-- ---- U, E and the plot columns
+
+module _ (n : ℕ) (levels : List ℕ) where
+  -- what the family of the first j plot columns starts from
+  abbrev pub firstOf : ℕ → List Column
+  firstOf j = plotGenerators n (columnsFrom n levels 0 j)
+
+  -- U and E alone
+  pub first-none : firstOf 0 ≡ universal n ∷ equality n ∷ []
+  unfolding plotGenerators columnsFrom
+  first-none = refl
+
+  -- a plot column more
+  pub first-more : (j : ℕ) → firstOf (j + 1) ≡ firstOf j ++ number (columnIn n levels j) ∷ []
+  unfolding plotGenerators
+  first-more j =
+      ap (λ (Fs : List Column). universal n ∷ equality n ∷ map number Fs)
+      (ap (columnsFrom n levels 0) (add-one j) ∙ columns-snoc n levels 0 j ∙ ap (λ (i : ℕ). columnsFrom n levels 0 j ++ columnIn n levels i ∷ []) (zero-add j))
+      ∙ ap (λ (l : List Column). universal n ∷ equality n ∷ l) (map-append number (columnsFrom n levels 0 j) (columnIn n levels j ∷ []))
+
+  -- how many they are
+  pub length-first : (j : ℕ) → length (firstOf j) ≡ j + 2
+  unfolding plotGenerators
+  length-first j = ap (λ (k : ℕ). suc (suc k)) (length-map (columnsFrom n levels 0 j) number ∙ length-columns n levels 0 j) ∙ omega arith

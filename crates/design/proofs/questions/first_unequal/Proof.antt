@@ -1,0 +1,106 @@
+-- `first_unequal` meets its contract: the first place is that of what is left to search.
+-- Assumes nothing.
+use mathlib.Core.Path.{_≡_, sym, _∙_}
+use mathlib.Core.Bool.{Bool, true, false}
+use Prim.Native.Nat.{ℕ, _-_, _≤_}
+use native.Mathlib.Omega.{arith}
+use denote.Ref.{now}
+use borrow.Author.Needs.{needs}
+use borrow.Author.Tests.{not-true, not-false}
+use Rattle.rules.specs.Factor.{uniform}
+use Rattle.rules.specs.Family.{membersOf}
+use Rattle.rules.specs.Design.{firstFailing}
+use Rattle.design.specs.State.{columnIn}
+use Rattle.design.specs.Search.{firstFrom}
+use Rattle.design.proofs.Search.{from-on, from-here, from-end}
+use Rattle.design.proofs.Asked.{unequal-start, uniform-part}
+use Rattle.design.proofs.questions.first_unequal.Statement.{statement}
+use Rattle.design.proofs.questions.first_unequal.Tie as tie
+
+abbrev Inv-loop : tie.InvT-loop
+Inv-loop family n size i₀ i = (i ≤ size) × (firstFailing (uniform n) 1 (membersOf n family size) ≡ firstFrom (λ k. uniform n (columnIn n family k)) i (size - i))
+
+abbrev μ-loop : tie.MeasureT-loop
+μ-loop family n size i₀ i = size - i
+
+loop-holds : tie.Need-loop-holds Inv-loop μ-loop
+loop-holds c =
+    let s = c .before .args in
+    (omega arith, unequal-start (s .n) (now (s .family)) (s .size) (omega arith))
+
+mul-at : tie.Need-mul-at Inv-loop μ-loop
+mul-at c = omega arith
+
+add-end : tie.Need-add-end Inv-loop μ-loop
+add-end c = omega arith
+
+sub-uniform : tie.Need-sub-uniform Inv-loop μ-loop
+sub-uniform c = omega arith
+
+part-uniform-start : tie.Need-part-uniform-start Inv-loop μ-loop
+part-uniform-start c = omega arith
+
+part-uniform-end : tie.Need-part-uniform-end Inv-loop μ-loop
+part-uniform-end c = omega arith
+
+uniform-requires : tie.Need-uniform-requires Inv-loop μ-loop
+uniform-requires c κs = search needs
+
+add-result : tie.Need-add-result Inv-loop μ-loop
+add-result c = omega arith
+
+-- the member at i passes the test that the call answers
+tested : (c : tie.After-uniform Inv-loop μ-loop) → c .uniform .result ≡ uniform (c .before .before .before .before .before .args .n) (columnIn (c .before .before .before .before .before .args .n) (now (c .before .before .before .before .before .args .family)) (c .before .before .before .loop .i))
+tested c =
+    let b = c .before .before .before in
+    let s = b .before .before .args in
+    c .uniform .ensures ∙ uniform-part (s .n) (now (s .family)) (b .loop .i) (omega arith) (omega arith)
+
+returns : tie.Need-returns Inv-loop μ-loop
+returns c =
+    let b = c .before .before .before .before in
+    let s = b .before .before .args in
+    let t : ℕ → Bool = λ k. uniform (s .n) (columnIn (s .n) (now (s .family)) k) in
+    let e : t (b .loop .i) ≡ false = sym (tested (c .before)) ∙ not-true _ (c .if1 .taken) in
+    sym (b .loop .inv .1 ∙ from-here t (b .loop .i) (s .size) (omega arith) e)
+
+add-i : tie.Need-add-i Inv-loop μ-loop
+add-i c = omega arith
+
+loop-less : tie.Need-loop-less Inv-loop μ-loop
+loop-less c = omega arith
+
+loop-again : tie.Need-loop-again Inv-loop μ-loop
+loop-again c =
+    let b = c .before .before .before .before in
+    let s = b .before .before .args in
+    let t : ℕ → Bool = λ k. uniform (s .n) (columnIn (s .n) (now (s .family)) k) in
+    let e : t (b .loop .i) ≡ true = sym (tested (c .before)) ∙ not-false _ (c .if1 .left) in
+    (omega arith, b .loop .inv .1 ∙ from-on t (b .loop .i) (s .size) (omega arith) e)
+
+returns-2 : tie.Need-returns-2 Inv-loop μ-loop
+returns-2 c =
+    let b = c .before in
+    let s = b .before .before .args in
+    let t : ℕ → Bool = λ k. uniform (s .n) (columnIn (s .n) (now (s .family)) k) in
+    sym (b .loop .inv .1 ∙ from-end t (b .loop .i) (s .size) (omega arith))
+
+pub first-unequal-spec : {M : Type 1} → statement M
+first-unequal-spec =
+    tie.close
+    (tie.spec
+    Inv-loop
+    μ-loop
+    loop-holds
+    mul-at
+    add-end
+    sub-uniform
+    part-uniform-start
+    part-uniform-end
+    uniform-requires
+    add-result
+    returns
+    add-i
+    loop-less
+    loop-again
+    returns-2)

@@ -1,0 +1,5 @@
+pub mod State
+pub mod Search
+pub mod Judging
+pub mod Answers
+pub mod Treatments

@@ -1,0 +1,105 @@
+-- What the steps of closing keep: members in the order of their discovery, their numbers of classes, and the places of each pair's infimum and supremum.
+-- Members and pairs are counted from 0 here. Assumes nothing.
+use mathlib.Core.Path.{_≡_}
+use mathlib.Core.Logic.{_⊎_}
+use mathlib.Core.Bool.{Bool, true, false}
+use mathlib.Core.List.{List, [], _∷_, _++_, map}
+use Prim.Native.Nat.{ℕ, suc, _+_, _*_, _≤_, _<_}
+use lib.Dec.{eqb}
+use lib.ListN.{length, getD, take, drop}
+use Rattle.rules.specs.Factor.{Column, number, classes, infimum, supremum}
+use Rattle.rules.specs.Family.{Family, _∈_, Distinct, before, membersOf, insertAll}
+use Rattle.rules.specs.Closing.{both, onlySupremum, tooMany, family, close}
+use Rattle.rules.specs.Relation.{memberAt}
+use Rattle.rules.proofs.WorkList.{Found, Combined}
+
+-- ---- members in a store
+
+-- the column at place i of a store
+abbrev pub columnIn : ℕ → List ℕ → ℕ → Column
+columnIn n store i = take n (drop (240 * i) store)
+
+-- the store has room, and holds `size` members on n plots with their numbers of classes
+pub record Held (n : ℕ) (store counts : List ℕ) (size : ℕ) : Type 0 where
+  pub some : 1 ≤ n
+  pub most : n ≤ 240
+  pub room : length store ≡ 7680
+  pub places : length counts ≡ 32
+  pub few : size ≤ 32
+  pub counted : (i : ℕ) → i < size → getD counts i 0 ≡ classes (columnIn n store i)
+
+-- What placing the column F among the members S answers: r is its place.
+pub data Placed (n : ℕ) (S : Family) (F : Column) (r : ℕ) (store counts : List ℕ) : Type 0 where
+  -- it is new, and there is no room
+  full : r ≡ 32 → length S ≡ 32 → (F ∈ S → ⊥) → Placed n S F r store counts
+  -- it is a member
+  old : r < length S → memberAt S r ≡ F → Held n store counts (length S) → membersOf n store (length S) ≡ S → Placed n S F r store counts
+  -- it is new, and stands at the end
+  new : r ≡ length S → r < 32 → (F ∈ S → ⊥) → Held n store counts (suc r) → membersOf n store (suc r) ≡ S ++ F ∷ [] → Placed n S F r store counts
+
+-- the size once a column stands at a place
+abbrev pub grownTo : ℕ → ℕ → ℕ
+grownTo size place = elim (eqb place size) [ true ↦ size + 1 | false ↦ size ]
+
+-- ---- the columns that a family starts from
+
+-- the members are the columns As, none twice
+pub record Begun (n : ℕ) (As : List Column) (store counts : List ℕ) (size : ℕ) : Type 0 where
+  pub held : Held n store counts size
+  pub most : size ≤ length As
+  pub distinct : Distinct (membersOf n store size)
+  pub numbered : (F : Column) → F ∈ membersOf n store size → number F ≡ F
+  pub only : (F : Column) → F ∈ membersOf n store size → F ∈ As
+  pub given : (F : Column) → F ∈ As → F ∈ membersOf n store size
+
+-- ---- closing
+
+-- what two members make
+abbrev pub makeOf : Bool → Column → Column → List Column
+makeOf true = both
+makeOf false = onlySupremum
+
+-- the tables have the places of the pair's infimum, where infima are asked for, and of its supremum
+pub record Recorded (infima : Bool) (S : Family) (meets joins : List ℕ) (b a : ℕ) : Type 0 where
+  pub meet : infima ≡ true → (getD meets (32 * b + a) 0 < length S) × (memberAt S (getD meets (32 * b + a) 0) ≡ infimum (memberAt S b) (memberAt S a))
+  pub join : (getD joins (32 * b + a) 0 < length S) × (memberAt S (getD joins (32 * b + a) 0) ≡ supremum (memberAt S b) (memberAt S a))
+
+-- Closing is under way: all pairs b, a < b with b < i are combined, and for b = i those with a < j.
+pub record Work (n : ℕ) (infima : Bool) (Gs : List Column) (store counts meets joins : List ℕ) (size i j : ℕ) : Type 0 where
+  pub held : Held n store counts size
+  pub meet-cells : length meets ≡ 1024
+  pub join-cells : length joins ≡ 1024
+  pub numbered : (F : Column) → F ∈ membersOf n store size → number F ≡ F
+  pub found : Found (makeOf infima) Gs (membersOf n store size)
+  pub given : (G : Column) → G ∈ Gs → G ∈ membersOf n store size
+  pub combined : Combined (makeOf infima) Gs (membersOf n store size) i j
+  pub rows : (b a : ℕ) → a < b → b < i → Recorded infima (membersOf n store size) meets joins b a
+  pub row : (a : ℕ) → a < j → Recorded infima (membersOf n store size) meets joins i a
+
+-- what a step leaves, whatever it works towards: 33 where the family is too large, or a store that has not shrunk
+abbrev pub Kept : ℕ → List ℕ → List ℕ → ℕ → ℕ → Type 0
+Kept n store counts size r = (r ≡ 33) ⊎ (Held n store counts r × (size ≤ r))
+
+-- a step to the pair i, j: the new size, or 33 where the family is too large
+pub data Stepped (n : ℕ) (infima : Bool) (Gs : List Column) (store counts meets joins : List ℕ) (r i j : ℕ) : Type 0 where
+  over : r ≡ 33 → close (makeOf infima) Gs ≡ tooMany → Stepped n infima Gs store counts meets joins r i j
+  on : Work n infima Gs store counts meets joins r i j → Stepped n infima Gs store counts meets joins r i j
+
+-- all pairs are combined: the members are those of the closed family
+pub data Closed (n : ℕ) (infima : Bool) (Gs : List Column) (store counts meets joins : List ℕ) (r : ℕ) : Type 0 where
+  exceeded : r ≡ 33 → close (makeOf infima) Gs ≡ tooMany → Closed n infima Gs store counts meets joins r
+  complete : Work n infima Gs store counts meets joins r r 0 → close (makeOf infima) Gs ≡ family (insertAll (membersOf n store r) []) → Closed n infima Gs store counts meets joins r
+
+-- ---- the order of members
+
+-- the first of the first i places of the order whose member F stands before, or i
+pub record RankOf (n : ℕ) (store order : List ℕ) (F : Column) (i r : ℕ) : Type 0 where
+  pub most : r ≤ i
+  pub passed : (p : ℕ) → p < r → before F (columnIn n store (getD order p 0)) ≡ false
+  pub stops : r < i → before F (columnIn n store (getD order r 0)) ≡ true
+
+-- the first of 32 entries are places of members, and put the members in order
+pub record Sorted (S : Family) (order : List ℕ) : Type 0 where
+  pub entries : length order ≡ 32
+  pub places : (i : ℕ) → i < length S → getD order i 0 < length S
+  pub members : map (λ (i : ℕ). memberAt S i) (take (length S) order) ≡ insertAll S []

@@ -1,0 +1,57 @@
+-- What the steps towards the treatment families keep.
+-- Members are counted from 0 here. Assumes nothing.
+use mathlib.Core.Path.{_≡_}
+use mathlib.Core.Bool.{true, false}
+use mathlib.Core.List.{List, [], _∷_, _++_, map}
+use Prim.Native.Nat.{ℕ, _≤_, _<_}
+use lib.Dec.{ltb}
+use lib.ListN.{length, getD}
+use Rattle.rules.specs.Factor.{Column}
+use Rattle.rules.specs.Family.{Family, membersOf, insertAll, written}
+use Rattle.rules.specs.Closing.{onlySupremum, tooMany, family, close, infimumAll, firstTreatmentFamily}
+use Rattle.design.specs.State.{Begun}
+
+-- the choices of fewer than k columns
+unfoldable pub shorter : ℕ → List (List Column) → List (List Column)
+shorter k [] = []
+shorter k (C ∷ Cs) = elim (ltb (length C) k) [ true ↦ C ∷ shorter k Cs | false ↦ shorter k Cs ]
+
+-- the choices, and those of fewer than k columns with T in front
+unfoldable pub extended : ℕ → Column → List (List Column) → List (List Column)
+unfolding shorter
+extended k T Cs = Cs ++ map (λ (C : List Column). T ∷ C) (shorter k Cs)
+
+-- room for the infima of 64 choices and for how many columns each has
+pub record Room (n : ℕ) (infima lengths : List ℕ) : Type 0 where
+  pub some : 1 ≤ n
+  pub most : n ≤ 240
+  pub bytes : length infima ≡ 15360
+  pub cells : length lengths ≡ 64
+
+-- the infima of the choices Cs are written, with how many columns each has
+pub record Infima (n : ℕ) (infima lengths : List ℕ) (total : ℕ) (Cs : List (List Column)) : Type 0 where
+  pub room : Room n infima lengths
+  pub count : length Cs ≡ total
+  pub few : total ≤ 64
+  pub columns : membersOf n infima total ≡ map (infimumAll n) Cs
+  pub sizes : (e : ℕ) → e < total → getD lengths e 0 ≡ length (getD Cs e [])
+
+-- the columns Gs are placed, or they are more than 32
+pub data AllPlaced (n : ℕ) (Gs : List Column) (store counts : List ℕ) (r : ℕ) : Type 0 where
+  over : r ≡ 33 → close onlySupremum Gs ≡ tooMany → AllPlaced n Gs store counts r
+  on : Begun n Gs store counts r → AllPlaced n Gs store counts r
+
+-- the first treatment family is written, or it is too large
+pub data FirstFamily (n k : ℕ) (Ts : List Column) (before after : List ℕ) (r : ℕ) : Type 0 where
+  too-many : r ≡ 33 → firstTreatmentFamily n k Ts ≡ tooMany → FirstFamily n k Ts before after r
+  listed : (S : Family) → firstTreatmentFamily n k Ts ≡ family S → r ≡ length S → r ≤ 32 → after ≡ written before 0 S → FirstFamily n k Ts before after r
+
+-- the columns As are placed, or more than 32 of them differ
+pub data Placing (n : ℕ) (As : List Column) (store counts : List ℕ) (r : ℕ) : Type 0 where
+  exceeded : r ≡ 33 → 32 < length (insertAll As []) → Placing n As store counts r
+  begun : Begun n As store counts r → Placing n As store counts r
+
+-- the final treatment family is written, or it is too large and nothing is written
+pub data FinalFamily (R : Family) (before after : List ℕ) (r : ℕ) : Type 0 where
+  too-many : r ≡ 33 → 32 < length R → after ≡ before → FinalFamily R before after r
+  listed : r ≡ length R → r ≤ 32 → after ≡ written before 0 R → FinalFamily R before after r
