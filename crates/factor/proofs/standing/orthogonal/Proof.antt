@@ -8,8 +8,7 @@ use lib.ListN.{length, take, drop, replicate, length-take}
 use lib.Seq.{take-at}
 use borrow.Author.Needs.{needs}
 use Rattle.rules.specs.Factor.{Column, infimum, supremum, orthogonal}
-use Rattle.rules.proofs.Numbering.{length-infimum}
-use Rattle.rules.proofs.Supremum.{length-supremum}
+use Rattle.rules.proofs.Bounds.{length-infimum′, length-supremum′}
 use Rattle.rules.proofs.Orthogonality.{orthogonal-test-plots}
 use Rattle.factor.specs.Lent.{onCommon, overlay}
 use Rattle.factor.specs.Standing.{balanced}
@@ -64,10 +63,10 @@ module _ (c : tie.After-supremum) where
       ∙ take-at (op f g) (drop (length (op f g)) (replicate 240 0)) n l
 
   long-infimum : length (infimum f g) ≡ n
-  long-infimum = length-infimum f g (long-f ∙ sym long-g) ∙ long-f
+  long-infimum = length-infimum′ n f g long-f long-g
 
   long-supremum : length (supremum f g) ≡ n
-  long-supremum = length-supremum f g (long-f ∙ sym long-g) ∙ long-f
+  long-supremum = length-supremum′ n f g long-f long-g
 
   lower : take n below ≡ infimum f g
   lower = start-of infimum below (c .before .before .infimum .ensures .1) long-infimum
