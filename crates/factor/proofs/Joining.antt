@@ -9,7 +9,7 @@ use native.Mathlib.Numerals.{add-one}
 use native.Mathlib.Omega.{arith}
 use lib.Dec.{eqb}
 use lib.ListN.{length, take, drop, set, length-set, length-map, length-replicate}
-use lib.Seq.{ext-getD, getD-set-same, getD-set-other, drop-cons, drop-length, getD-at, length-take-le, take-at, take-all}
+use lib.Seq.{ext-getD, getD-set-same, getD-set-other, drop-cons, drop-length, getD-at, length-take-le}
 use borrow.Author.Tests.{eqb-true, eqb-false, eq-eqb, ne-eqb}
 use Rattle.rules.specs.Factor.{Column, at, indexOf, relabel, joined, number, classes, supremum}
 use Rattle.rules.proofs.Numbering.{by-cases, eqb-self, has-getD, getD-place, place-yes, place-no}
@@ -17,6 +17,7 @@ use Rattle.rules.proofs.Supremum.{length-relabel}
 use Rattle.rules.proofs.Columns.{classes-number}
 use Rattle.factor.specs.Lent.{plotsOf, overlay}
 use Rattle.factor.proofs.Fill.{filled}
+use Rattle.factor.proofs.Lent.{plots-all, take-overlay}
 use Rattle.factor.specs.Joining.{blank, firsts, spread}
 
 -- every label has an entry in the table
@@ -168,4 +169,4 @@ classes-joined F G L e = sym (classes-number L) ∙ ap classes (number-joined F 
 
 -- a column written over the start of another, and read back
 pub read-back : (out L : Column) (n : ℕ) → length L ≡ n → n ≤ 240 → plotsOf (take n (overlay out L)) ≡ L
-read-back out L n l h = ap (λ (x : Column). take 240 x) (take-at L (drop (length L) out) n l) ∙ take-all 240 L (omega arith)
+read-back out L n l h = ap plotsOf (take-overlay out L n l) ∙ plots-all L (omega arith)

@@ -14,7 +14,7 @@ abbrev pub common : Column → Column → ℕ
 common F G = min 240 (min (length F) (length G))
 
 -- an operation on two columns over those plots
-abbrev pub onCommon : (Column → Column → Column) → Column → Column → Column
+abbrev pub onCommon : {A : Type 0} → (Column → Column → A) → Column → Column → A
 onCommon op F G = op (take (common F G) F) (take (common F G) G)
 
 -- what an output array holds: the numbers, then what was there

@@ -8,7 +8,7 @@ use lib.ListN.{getD}
 
 -- the bucket of a label
 unfoldable pub bucketOf : ℕ → ℕ
-bucketOf x = (x / 256 * 633 + x % 256) % 1024
+bucketOf x = (x / 256 * 749 + x % 256) % 1024
 
 -- the class labelled x among c and at most m − 1 classes chained from it, or 0
 unfoldable pub lookUp : List ℕ → List ℕ → ℕ → ℕ → ℕ → ℕ

@@ -5,8 +5,8 @@ ghost use lib.ListN.{length};
 ghost use Rattle.rules.specs.Factor.{classes, relabel, joined, supremum};
 ghost use Rattle.factor.specs.Lent.{onCommon, overlay};
 ghost use Rattle.factor.specs.Joining.{blank, firsts, spread};
-use crate::meet::common_plots;
 use crate::numbering::number;
+use crate::plots::common_plots;
 use limits::PLOTS;
 
 // Numbers the classes of the supremum of two columns over their common plots; answers how many there are.

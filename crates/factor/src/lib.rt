@@ -4,6 +4,7 @@ mod join;
 mod meet;
 mod numbering;
 mod order;
+mod plots;
 mod sizes;
 mod standing;
 

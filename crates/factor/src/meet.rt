@@ -1,24 +1,14 @@
 // The infimum of two factors.
 ghost use mathlib.Core.Path.{_≡_};
-ghost use Prim.Native.Nat.{min};
 ghost use Rattle.rules.specs.Factor.{classes, infimum};
 ghost use Rattle.factor.specs.Lent.{onCommon, overlay};
 use crate::numbering::number_levels;
-use crate::numbering::numbered_plots;
+use crate::plots::common_plots;
 use limits::Level;
 use limits::PLOTS;
 
-// How many plots two columns have in common.
-pub fn common_plots(a: usize, b: usize) -> usize
-    ensures { λ r. ⌜ r ≡ min 240 (min a b) ⌝ }
-{
-    if a < b {
-        return numbered_plots(a);
-    }
-    numbered_plots(b)
-}
-
 // Numbers the classes of the infimum of two columns over their common plots; answers how many there are.
+// One number for the two labels of a plot makes it the numbering of a column.
 pub fn infimum(f: &[u8], g: &[u8], out: &mut [u8; PLOTS]) -> usize
     ensures answer { λ r. ⌜ r ≡ classes (onCommon infimum (now (f .entry)) (now (g .entry))) ⌝ }
     ensures numbers { λ _. ⌜ now (out .exit) ≡ overlay (now (out .entry)) (onCommon infimum (now (f .entry)) (now (g .entry))) ⌝ }

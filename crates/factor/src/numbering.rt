@@ -1,39 +1,27 @@
 // Numbering by first appearance.
 ghost use mathlib.Core.Path.{_≡_};
-ghost use Prim.Native.Nat.{_≤_, min};
-ghost use lib.ListN.{length};
+ghost use Prim.Native.Nat.{_≤_};
 ghost use Rattle.rules.specs.Factor.{number, classes};
 ghost use Rattle.rules.specs.Family.{alike};
 ghost use Rattle.factor.specs.Lent.{plotsOf, overlay};
 ghost use Rattle.factor.specs.Seen.{bucketOf, lookUp, Descends};
+use crate::plots::numbered_plots;
 use limits::Level;
 use limits::PLOTS;
 
-// How many of `n` plots are numbered.
-pub fn numbered_plots(n: usize) -> usize
-    ensures { λ r. ⌜ r ≡ min 240 n ⌝ }
-{
-    if n < PLOTS {
-        return n;
-    }
-    PLOTS
-}
+// Class numbers: 1 to 240, and 0 for none.
+const NUMBERS: usize = PLOTS + 1;
+
+// Buckets that labels are sorted into.
+const BUCKETS: usize = 1024;
 
 // Numbers the plots of a column by first appearance; answers the number of classes.
 pub fn number(column: &[u8], out: &mut [u8; PLOTS]) -> usize
     ensures answer { λ r. ⌜ r ≡ classes (plotsOf (now (column .entry))) ⌝ }
     ensures numbers { λ _. ⌜ now (out .exit) ≡ overlay (now (out .entry)) (number (plotsOf (now (column .entry)))) ⌝ }
 {
-    write_numbers(column, out)
-}
-
-// The same on a slice with room for 240 plots.
-fn write_numbers(column: &[u8], out: &mut [u8]) -> usize
-    requires { ⌜ length (now out) ≡ 240 ⌝ }
-    ensures answer { λ r. ⌜ r ≡ classes (plotsOf (now (column .entry))) ⌝ }
-    ensures numbers { λ _. ⌜ now (out .exit) ≡ overlay (now (out .entry)) (number (plotsOf (now (column .entry)))) ⌝ }
-{
     let n = numbered_plots(column.len());
+    let room: &mut [u8] = out;
     let mut numbers = [0u8; 256];
     let mut k: usize = 0;
     for u in 0..n {
@@ -42,7 +30,7 @@ fn write_numbers(column: &[u8], out: &mut [u8]) -> usize
             k += 1;
             numbers[x] = k as u8;
         }
-        out[u] = numbers[x];
+        room[u] = numbers[x];
     }
     k
 }
@@ -83,16 +71,17 @@ pub fn is_numbered(column: &[u8]) -> bool
     true
 }
 
-// The bucket of a label: labels that differ little in their two bytes lie in different buckets.
+// The bucket of a label. Labels that are pairs of bytes, from 1 to a and from 1 to b, lie in different buckets where
+// a × b is at most 384.
 fn bucket(x: Level) -> usize
     ensures { λ r. ⌜ r ≡ bucketOf x ⌝ }
 {
     let wide = x as usize;
-    (wide / 256 * 633 + wide % 256) % 1024
+    (wide / 256 * 749 + wide % 256) % BUCKETS
 }
 
 // The class labelled `x` among those chained from `start`, or 0.
-fn look_up(labels: &[Level; 241], chain: &[u8; 241], start: usize, x: Level) -> usize
+fn look_up(labels: &[Level; NUMBERS], chain: &[u8; NUMBERS], start: usize, x: Level) -> usize
     requires { ⌜ (start ≤ 240) × Descends (now chain) start ⌝ }
     ensures { λ r. ⌜ r ≡ lookUp (now (labels .entry)) (now (chain .entry)) x 241 start ⌝ }
 {
@@ -107,23 +96,16 @@ fn look_up(labels: &[Level; 241], chain: &[u8; 241], start: usize, x: Level) -> 
 }
 
 // Numbers the plots of a column of levels by first appearance; answers the number of classes.
+// Class c has its label and the class before it in its bucket; `last` has the latest class of each bucket.
 pub fn number_levels(levels: &[Level], out: &mut [u8; PLOTS]) -> usize
     ensures answer { λ r. ⌜ r ≡ classes (plotsOf (now (levels .entry))) ⌝ }
     ensures numbers { λ _. ⌜ now (out .exit) ≡ overlay (now (out .entry)) (number (plotsOf (now (levels .entry)))) ⌝ }
 {
-    write_level_numbers(levels, out)
-}
-
-// The same on a slice with room for 240 plots.
-fn write_level_numbers(levels: &[Level], out: &mut [u8]) -> usize
-    requires { ⌜ length (now out) ≡ 240 ⌝ }
-    ensures answer { λ r. ⌜ r ≡ classes (plotsOf (now (levels .entry))) ⌝ }
-    ensures numbers { λ _. ⌜ now (out .exit) ≡ overlay (now (out .entry)) (number (plotsOf (now (levels .entry)))) ⌝ }
-{
     let n = numbered_plots(levels.len());
-    let mut labels: [Level; 241] = [0; 241];
-    let mut chain = [0u8; 241];
-    let mut last = [0u8; 1024];
+    let room: &mut [u8] = out;
+    let mut labels: [Level; NUMBERS] = [0; NUMBERS];
+    let mut chain = [0u8; NUMBERS];
+    let mut last = [0u8; BUCKETS];
     let mut k: usize = 0;
     for u in 0..n {
         let x = levels[u];
@@ -137,7 +119,7 @@ fn write_level_numbers(levels: &[Level], out: &mut [u8]) -> usize
             last[b] = k as u8;
             c = k;
         }
-        out[u] = c as u8;
+        room[u] = c as u8;
     }
     k
 }

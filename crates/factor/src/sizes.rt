@@ -5,7 +5,7 @@ ghost use lib.ListN.{length};
 ghost use Rattle.rules.specs.Factor.{uniform};
 ghost use Rattle.factor.specs.Lent.{plotsOf};
 ghost use Rattle.factor.specs.Sizes.{sizes};
-use crate::numbering::numbered_plots;
+use crate::plots::numbered_plots;
 
 // How many plots have each label, in one walk.
 pub(crate) fn sizes(f: &[u8]) -> [u8; 256]

@@ -5,8 +5,8 @@ ghost use lib.ListN.{length};
 ghost use Rattle.rules.specs.Factor.{finer, orthogonal};
 ghost use Rattle.factor.specs.Standing.{testCommon, balanced};
 use crate::join::supremum;
-use crate::meet::common_plots;
 use crate::meet::infimum;
+use crate::plots::common_plots;
 use crate::sizes::sizes;
 use limits::PLOTS;
 

@@ -1,4 +1,4 @@
--- `write_level_numbers` meets its contract: the chains hold the labels seen, and the array is filled with the numbers.
+-- `number_levels` meets its contract: the chains hold the labels seen, and the array is filled with the numbers.
 -- Assumes nothing.
 use mathlib.Core.Path.{_≡_, refl, sym, ap, _∙_}
 use mathlib.Core.Logic.{⊎-elim}
@@ -12,21 +12,21 @@ use Rattle.rules.proofs.Numbering.{length-number}
 use Rattle.factor.specs.Seen.{bucketOf, lookUp}
 use Rattle.factor.proofs.Fill.{filled, filled-step, take-min, filled-number}
 use Rattle.factor.proofs.Chain.{Seen, seen-none, seen-old, seen-new, look, look-le, bucket-less}
-use Rattle.factor.proofs.numbering.write_level_numbers.Statement.{statement}
-use Rattle.factor.proofs.numbering.write_level_numbers.Tie as tie
+use Rattle.factor.proofs.numbering.number_levels.Statement.{statement}
+use Rattle.factor.proofs.numbering.number_levels.Tie as tie
 
 abbrev Inv-loop : tie.InvT-loop
-Inv-loop levels out₀ n labels₀ chain₀ last₀ k₀ u₀ out labels chain last k u =
-    (u ≤ n) × (k ≤ u) × (n ≡ min 240 (length levels)) × (out ≡ filled out₀ (number levels) u) × (length out ≡ length out₀) × Seen levels u labels chain last k
+Inv-loop levels n room₀ labels₀ chain₀ last₀ k₀ u₀ room labels chain last k u =
+    (u ≤ n) × (k ≤ u) × (room ≡ filled room₀ (number levels) u) × (length room ≡ 240) × Seen levels u labels chain last k
 
 abbrev μ-loop : tie.MeasureT-loop
-μ-loop levels out₀ n labels₀ chain₀ last₀ k₀ u₀ out labels chain last k u = n - u
+μ-loop levels n room₀ labels₀ chain₀ last₀ k₀ u₀ room labels chain last k u = n - u
 
 numbered-plots-requires : tie.Need-numbered-plots-requires Inv-loop μ-loop
 numbered-plots-requires c κs = search needs
 
 loop-holds : tie.Need-loop-holds Inv-loop μ-loop
-loop-holds c = (omega arith, omega arith, c .numbered-plots .ensures, refl, refl, seen-none (now (c .before .before .before .args .levels)))
+loop-holds c = (omega arith, omega arith, refl, search needs, seen-none (now (c .before .before .before .args .levels)))
 
 mul-x : tie.Need-mul-x Inv-loop μ-loop
 mul-x c = omega arith
@@ -43,13 +43,13 @@ array-read-start c = rw (c .bucket .ensures) (bucket-less _)
 cast-look-up : tie.Need-cast-look-up Inv-loop μ-loop
 cast-look-up c =
     let b = c .before .before .before .before .before in
-    omega (arith, b .loop .inv .5 .heads (c .before .before .bucket .result))
+    omega (arith, b .loop .inv .4 .heads (c .before .before .bucket .result))
 
 look-up-requires : tie.Need-look-up-requires Inv-loop μ-loop
 look-up-requires c κs =
     let b = c .before .before .before .before .before in
-    let l = b .loop .inv .5 .heads (c .before .before .bucket .result) in
-    (omega arith, λ d p h. b .loop .inv .5 .descends d p (omega arith))
+    let l = b .loop .inv .4 .heads (c .before .before .bucket .result) in
+    (omega arith, λ d p h. b .loop .inv .4 .descends d p (omega arith))
 
 add-k : tie.Need-add-k Inv-loop μ-loop
 add-k c = omega arith
@@ -87,7 +87,7 @@ stepped c =
     let h : u < length levels = omega arith in
     let e = c .before .before .before .before .bucket .ensures in
     let q : c .before .look-up .result ≡ look labels chain last x = c .before .look-up .ensures ∙ ap (λ (i : ℕ). lookUp labels chain x 241 (getD last i 0)) e in
-    let seen = b .loop .inv .5 in
+    let seen = b .loop .inv .4 in
     let l = seen .heads (bucketOf x) in
     let m = look-le labels chain x k (seen .descends) 241 (getD last (bucketOf x) 0) l in
     ⊎-elim
@@ -100,11 +100,11 @@ stepped c =
     (rw (w .1, w .2, w .3, w .4) (n .0), w .5 ∙ q ∙ n .1, omega arith, omega arith))
     (c .if1 .came)
 
-cast-out : tie.Need-cast-out Inv-loop μ-loop
-cast-out c = omega (arith, stepped (c .before) .3)
+cast-room : tie.Need-cast-room Inv-loop μ-loop
+cast-room c = omega (arith, stepped (c .before) .3)
 
-slice-write-out : tie.Need-slice-write-out Inv-loop μ-loop
-slice-write-out c = omega arith
+slice-write-room : tie.Need-slice-write-room Inv-loop μ-loop
+slice-write-room c = omega arith
 
 add-u : tie.Need-add-u Inv-loop μ-loop
 add-u c = omega arith
@@ -121,11 +121,8 @@ loop-again c =
     let u = b .loop .u in
     let t = stepped (c .before) in
     let h : u < length (number levels) = rw length-number (omega arith) in
-    let l : u < length out = omega arith in
-    (omega arith, t .2, b .loop .inv .2, rw (t .1, b .loop .inv .3) (filled-step out (number levels) u 0 h l), simp length-set (b .loop .inv .4), t .0)
-
-same-length : tie.Need-same-length Inv-loop μ-loop
-same-length c = c .before .loop .inv .4
+    let l : u < length out = omega (arith, b .before .room .given) in
+    (omega arith, t .2, rw (t .1, b .loop .inv .2) (filled-step out (number levels) u 0 h l), simp length-set (b .loop .inv .3), t .0)
 
 returns : tie.Need-returns Inv-loop μ-loop
 returns c =
@@ -133,10 +130,10 @@ returns c =
     let s = b .before .before .before .before in
     let levels = now (s .args .levels) in
     let e : b .loop .u ≡ min 240 (length levels) = omega arith in
-    (b .loop .inv .5 .count ∙ rw (e, take-min), b .loop .inv .3 ∙ rw e (filled-number (now (s .args .out)) levels))
+    (b .loop .inv .4 .count ∙ rw (e, take-min), b .loop .inv .2 ∙ rw e (filled-number (now (s .args .out)) levels))
 
-pub write-level-numbers-spec : {M : Type 1} → statement M
-write-level-numbers-spec =
+pub number-levels-spec : {M : Type 1} → statement M
+number-levels-spec =
     tie.close
     (tie.spec
     Inv-loop
@@ -155,10 +152,9 @@ write-level-numbers-spec =
     array-write-chain
     cast-last
     array-write-last
-    cast-out
-    slice-write-out
+    cast-room
+    slice-write-room
     add-u
     loop-less
     loop-again
-    same-length
     returns)

@@ -1,0 +1,24 @@
+// How much of a lent column is looked at.
+ghost use mathlib.Core.Path.{_≡_};
+ghost use Prim.Native.Nat.{min};
+use limits::PLOTS;
+
+// How many of `n` plots are numbered.
+pub fn numbered_plots(n: usize) -> usize
+    ensures { λ r. ⌜ r ≡ min 240 n ⌝ }
+{
+    if n < PLOTS {
+        return n;
+    }
+    PLOTS
+}
+
+// How many plots two columns have in common.
+pub fn common_plots(a: usize, b: usize) -> usize
+    ensures { λ r. ⌜ r ≡ min 240 (min a b) ⌝ }
+{
+    if a < b {
+        return numbered_plots(a);
+    }
+    numbered_plots(b)
+}
