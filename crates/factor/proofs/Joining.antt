@@ -9,7 +9,7 @@ use native.Mathlib.Numerals.{add-one}
 use native.Mathlib.Omega.{arith}
 use lib.Dec.{eqb}
 use lib.ListN.{length, take, drop, set, length-set, length-map, length-replicate}
-use lib.Seq.{ext-getD, getD-set-same, getD-set-other, drop-cons, drop-length, getD-at, length-take-le, take-at, take-all}
+use lib.Seq.{ext-getD, getD-set-same, getD-set-other, drop-cons, drop-length, getD-at, length-take-le}
 use borrow.Author.Tests.{eqb-true, eqb-false, eq-eqb, ne-eqb}
 use Rattle.rules.specs.Factor.{Column, at, indexOf, relabel, joined, number, classes, supremum}
 use Rattle.rules.proofs.Numbering.{by-cases, eqb-self, has-getD, getD-place, place-yes, place-no}
@@ -17,24 +17,28 @@ use Rattle.rules.proofs.Supremum.{length-relabel}
 use Rattle.rules.proofs.Columns.{classes-number}
 use Rattle.factor.specs.Lent.{plotsOf, overlay}
 use Rattle.factor.proofs.Fill.{filled}
+use Rattle.factor.proofs.Lent.{plots-all, take-overlay}
 use Rattle.factor.specs.Joining.{blank, firsts, spread}
 
 -- every label has an entry in the table
 abbrev pub Held : Column → List ℕ → Type 0
 Held F t = (v : ℕ) → v < length F → at F v < length t
 
+-- one entry for each label that a byte holds
 pub length-blank : length blank ≡ 256
 unfolding blank
 length-blank = length-replicate {A = ℕ} 256 0
 
 -- ---- the first plot of each class
 
+-- entering labels leaves the length
 pub length-firsts : (F G : Column) (t : List ℕ) → length (firsts F G t) ≡ length t
 unfolding firsts
 length-firsts [] G t = refl
 length-firsts (x ∷ F) [] t = refl
 length-firsts (x ∷ F) (y ∷ G) t = length-set (firsts F G t) y x ∙ length-firsts F G t
 
+-- the entry of a plot's G-label is the F-label of the first plot that has it
 pub firsts-at : (F G : Column) (t : List ℕ) → length F ≡ length G → Held G t → (v : ℕ) → v < length G → at (firsts F G t) (at G v) ≡ at F (indexOf eqb G (at G v))
 unfolding firsts
 firsts-at F [] t l h v k = absurd (not-suc-le-zero k)
@@ -50,10 +54,12 @@ firsts-at (x ∷ F) (y ∷ G) t l h (suc v) k =
 
 -- a walk from the last plot to the first
 module _ (F G : Column) (t : List ℕ) where
+  -- no plot yet
   pub firsts-none : t ≡ firsts (drop (length F) F) (drop (length F) G) t
   unfolding firsts
   firsts-none = rw (drop-length F)
 
+  -- one plot more
   pub firsts-step : (u : ℕ) → 0 < u → u ≤ length F → u ≤ length G → set (firsts (drop u F) (drop u G) t) (at G (u - 1)) (at F (u - 1)) ≡ firsts (drop (u - 1) F) (drop (u - 1) G) t
   unfolding firsts
   firsts-step u h hF hG =
@@ -63,15 +69,18 @@ module _ (F G : Column) (t : List ℕ) where
 
 -- ---- entries of labels
 
+-- one entry a plot
 pub length-spread : (t : List ℕ) (F : Column) → length (spread t F) ≡ length F
 unfolding spread
 length-spread t F = length-map F (at t)
 
-pub at-map : (f : ℕ → ℕ) (L : Column) (u : ℕ) → u < length L → at (map f L) u ≡ f (at L u)
+-- an element of a mapped list
+at-map : (f : ℕ → ℕ) (L : Column) (u : ℕ) → u < length L → at (map f L) u ≡ f (at L u)
 at-map f [] u h = absurd (not-suc-le-zero h)
 at-map f (x ∷ L) zero h = refl
 at-map f (x ∷ L) (suc u) h = at-map f L u (le-of-suc-le-suc h)
 
+-- the entry of one plot's label
 pub spread-at : (t : List ℕ) (F : Column) (u : ℕ) → u < length F → at (spread t F) u ≡ at t (at F u)
 unfolding spread
 spread-at t F u h = at-map (at t) F u h
@@ -85,18 +94,21 @@ spread-own F t h =
 
 -- ---- relabelling a table
 
--- the label that x gets
-unfoldable pub rename : ℕ → ℕ → ℕ → ℕ
+-- the label that x gets where a becomes b
+unfoldable rename : ℕ → ℕ → ℕ → ℕ
 rename a b x = elim (eqb x a) [ true ↦ b | false ↦ x ]
 
-pub rename-yes : (a b x : ℕ) → x ≡ a → rename a b x ≡ b
+-- a becomes b
+rename-yes : (a b x : ℕ) → x ≡ a → rename a b x ≡ b
 unfolding rename
 rename-yes a b x e = rw (eq-eqb x a e, rename)
 
-pub rename-no : (a b x : ℕ) → (x ≡ a → ⊥) → rename a b x ≡ x
+-- every other label stays
+rename-no : (a b x : ℕ) → (x ≡ a → ⊥) → rename a b x ≡ x
 unfolding rename
 rename-no a b x e = rw (ne-eqb x a e, rename)
 
+-- relabelling a list is renaming its elements
 relabel-map : (a b : ℕ) (L : Column) → relabel a b L ≡ map (rename a b) L
 unfolding relabel
 relabel-map a b [] = refl
@@ -105,7 +117,8 @@ relabel-map a b (x ∷ L) =
     (λ e. rw (e, relabel) (ap₂ (λ (y : ℕ) (l : Column). y ∷ l) (sym (rename-yes a b x (eqb-true x a e))) (relabel-map a b L)))
     (λ e. rw (e, relabel) (ap₂ (λ (y : ℕ) (l : Column). y ∷ l) (sym (rename-no a b x (eqb-false x a e))) (relabel-map a b L)))
 
-pub relabel-at : (a b : ℕ) (L : Column) (u : ℕ) → u < length L → at (relabel a b L) u ≡ rename a b (at L u)
+-- one relabelled element
+relabel-at : (a b : ℕ) (L : Column) (u : ℕ) → u < length L → at (relabel a b L) u ≡ rename a b (at L u)
 relabel-at a b L u h = rw (relabel-map a b L) (at-map (rename a b) L u h)
 
 -- the next entry of a list that is relabelled from its start
@@ -130,6 +143,7 @@ relabel-same a (x ∷ L) =
     (λ e. rw (e, relabel) (ap₂ (λ (y : ℕ) (l : Column). y ∷ l) (sym (eqb-true x a e)) (relabel-same a L)))
     (λ e. rw (e, relabel) (ap (λ (l : Column). x ∷ l) (relabel-same a L)))
 
+-- relabelling the table relabels the column
 spread-relabel : (a b : ℕ) (t : List ℕ) (F : Column) → Held F t → spread (relabel a b t) F ≡ relabel a b (spread t F)
 unfolding spread
 spread-relabel a b t F h = go F h ∙ sym (relabel-map a b (map (at t) F))
@@ -159,13 +173,15 @@ module _ (F G : Column) (l : length F ≡ length G) (t s z : List ℕ) (e : s �
 
 -- ---- the numbers of the joined labels
 
+-- numbered, they are the supremum
 pub number-joined : (F G : Column) (L : Column) → L ≡ joined F G (length F) → number L ≡ supremum F G
 unfolding supremum
 number-joined F G L e = ap number e
 
+-- they have its number of classes
 pub classes-joined : (F G : Column) (L : Column) → L ≡ joined F G (length F) → classes L ≡ classes (supremum F G)
 classes-joined F G L e = sym (classes-number L) ∙ ap classes (number-joined F G L e)
 
 -- a column written over the start of another, and read back
 pub read-back : (out L : Column) (n : ℕ) → length L ≡ n → n ≤ 240 → plotsOf (take n (overlay out L)) ≡ L
-read-back out L n l h = ap (λ (x : Column). take 240 x) (take-at L (drop (length L) out) n l) ∙ take-all 240 L (omega arith)
+read-back out L n l h = ap plotsOf (take-overlay out L n l) ∙ plots-all L (omega arith)

@@ -17,11 +17,13 @@ use Rattle.factor.specs.Sizes.{tabulate, labelled, sizes}
 
 -- ---- lists given by their elements
 
+-- n elements
 pub length-tabulate : (t : ℕ → ℕ) (n : ℕ) → length (tabulate t n) ≡ n
 unfolding tabulate
 length-tabulate t zero = refl
 length-tabulate t (suc n) = ap suc (length-tabulate (λ i. t (suc i)) n)
 
+-- the element at i
 pub getD-tabulate : (t : ℕ → ℕ) (n i : ℕ) → i < n → getD (tabulate t n) i 0 ≡ t i
 unfolding tabulate
 getD-tabulate t zero i h = absurd (not-suc-le-zero h)
@@ -41,6 +43,7 @@ set-tabulate t s n i y h e other =
 
 -- ---- sizes
 
+-- no label has more plots than there are
 pub labelled-le : (n : ℕ) (F : Column) (x : ℕ) → labelled n F x ≤ n
 unfolding labelled
 labelled-le n F x = count-le n (λ v. eqb x (at F v))

@@ -3,13 +3,12 @@
 use mathlib.Core.Bool.{Bool}
 use Prim.Native.Nat.{ℕ, _*_}
 use lib.Dec.{eqb}
-use lib.ListN.{take}
 use Rattle.rules.specs.Factor.{Column, every, classSize}
-use Rattle.factor.specs.Lent.{common}
+use Rattle.factor.specs.Lent.{common, onCommon}
 
 -- a test of two columns over their common plots
 abbrev pub testCommon : (ℕ → Column → Column → Bool) → Column → Column → Bool
-testCommon test F G = test (common F G) (take (common F G) F) (take (common F G) G)
+testCommon test F G = onCommon (test (common F G)) F G
 
 -- for each plot the sizes of its classes in A and B make the product that those in F and G make
 unfoldable pub balanced : ℕ → Column → Column → Column → Column → Bool

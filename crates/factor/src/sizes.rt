@@ -1,4 +1,4 @@
-// Classes of a column and their sizes.
+// Sizes of the classes of a column.
 ghost use mathlib.Core.Path.{_≡_};
 ghost use Prim.Native.Nat.{_≤_, _<_};
 ghost use lib.ListN.{length};
@@ -20,7 +20,7 @@ pub(crate) fn sizes(f: &[u8]) -> [u8; 256]
     table
 }
 
-// Whether all classes have the size of the first plot's class.
+// Whether all classes have one size.
 pub fn uniform(f: &[u8]) -> bool
     ensures { λ r. ⌜ r ≡ uniform (length (plotsOf (now (f .entry)))) (plotsOf (now (f .entry))) ⌝ }
 {
@@ -31,7 +31,7 @@ pub fn uniform(f: &[u8]) -> bool
     one_size(&f[..n])
 }
 
-// The same for a column that has a plot.
+// The same for a column that has a plot: each class has the size of the first plot's class.
 fn one_size(f: &[u8]) -> bool
     requires { ⌜ (0 < length (now f)) × (length (now f) ≤ 240) ⌝ }
     ensures { λ r. ⌜ r ≡ uniform (length (now (f .entry))) (now (f .entry)) ⌝ }

@@ -30,7 +30,7 @@ pub fn orthogonal(f: &[u8], g: &[u8]) -> bool
     balanced(&below[..n], &above[..n], &f[..n], &g[..n])
 }
 
-// One walk: `first[x]` is a plot of the class `x`, once it has one; later plots must agree with it.
+// The same for two columns of one length, in one walk: `first[x]` is a plot with the label `x`, once there is one; later plots with that label must agree with it.
 fn agrees(f: &[u8], g: &[u8]) -> bool
     requires { ⌜ (length (now f) ≤ 240) × (length (now g) ≡ length (now f)) ⌝ }
     ensures { λ r. ⌜ r ≡ finer (length (now (f .entry))) (now (f .entry)) (now (g .entry)) ⌝ }
@@ -67,6 +67,7 @@ fn balanced(a: &[u8], b: &[u8], f: &[u8], g: &[u8]) -> bool
     true
 }
 
+// The product of two sizes.
 fn product(x: u8, y: u8) -> u16
     ensures { λ r. ⌜ r ≡ x * y ⌝ }
 {

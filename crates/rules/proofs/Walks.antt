@@ -17,6 +17,7 @@ use Rattle.rules.proofs.Classes.{finer-test}
 
 -- ---- tests and counts, plot by plot
 
+-- a test that does not pass
 pub bool-false : (b : Bool) → (b ≡ true → ⊥) → b ≡ false
 bool-false true h = absurd (h refl)
 bool-false false h = refl
@@ -29,6 +30,7 @@ every-more u p e h = every-all (u + 1) p (λ v hv. by-cases (ltb v u) (λ l. eve
 pub every-fails : (n : ℕ) (p : ℕ → Bool) (u : ℕ) → u < n → p u ≡ false → every n p ≡ false
 every-fails n p u l h = bool-false (every n p) (λ e. true≢false (sym (every-at n p e u l) ∙ h))
 
+-- a count is at most the number of plots
 pub count-le : (n : ℕ) (p : ℕ → Bool) → count n p ≤ n
 unfolding count
 count-le zero p = omega arith
@@ -42,6 +44,7 @@ pub record Agree (F G : Column) (u : ℕ) (t : List ℕ) : Type 0 where
   pub alongF : (v : ℕ) → v < u → Same F (getD t (at F v) 0) v
   pub alongG : (v : ℕ) → v < u → Same G (getD t (at F v) 0) v
 
+-- no plot yet
 pub agree-start : (F G : Column) (k : ℕ) → Agree F G 0 (replicate k 0)
 agree-start F G k = record {
   below = λ x. rw (zeros k x) (omega arith);

@@ -40,7 +40,7 @@ add-if2 c = omega arith
 returns-2 : tie.Need-returns-2 Inv-loop μ-loop
 returns-2 c =
     let b = c .before .before .before .before in
-    sym (up-wrong (now (b .before .args .column)) (b .loop .u) (omega arith) (b .loop .k) (b .loop .inv .3) (b .loop .inv .2) (c .if2 .taken))
+    sym (up-wrong (now (b .before .args .column)) (b .loop .u) (omega arith) (b .loop .k) (b .loop .inv .3) (b .loop .inv .2) (omega arith))
 
 add-u : tie.Need-add-u Inv-loop μ-loop
 add-u c = omega arith

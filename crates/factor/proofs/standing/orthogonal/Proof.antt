@@ -4,15 +4,14 @@ use mathlib.Core.Path.{_≡_, sym, ap, ap₂, _∙_}
 use Prim.Native.Nat.{ℕ}
 use native.Mathlib.Omega.{arith}
 use denote.Ref.{now}
-use lib.ListN.{length, take, drop, replicate, length-take}
-use lib.Seq.{take-at}
+use lib.ListN.{length, take, replicate, length-take}
 use borrow.Author.Needs.{needs}
 use Rattle.rules.specs.Factor.{Column, infimum, supremum, orthogonal}
-use Rattle.rules.proofs.Numbering.{length-infimum}
-use Rattle.rules.proofs.Supremum.{length-supremum}
+use Rattle.rules.proofs.Bounds.{length-infimum′, length-supremum′}
 use Rattle.rules.proofs.Orthogonality.{orthogonal-test-plots}
 use Rattle.factor.specs.Lent.{onCommon, overlay}
-use Rattle.factor.specs.Standing.{balanced}
+use Rattle.factor.specs.Standing.{testCommon, balanced}
+use Rattle.factor.proofs.Lent.{take-overlay}
 use Rattle.factor.proofs.standing.orthogonal.Statement.{statement}
 use Rattle.factor.proofs.standing.orthogonal.Tie as tie
 
@@ -61,13 +60,13 @@ module _ (c : tie.After-supremum) where
   start-of : (op : Column → Column → Column) (out : Column) → out ≡ overlay (replicate 240 0) (onCommon op F G) → length (op f g) ≡ n → take n out ≡ op f g
   start-of op out e l =
       ap (take n) (e ∙ ap (λ (m : ℕ). overlay (replicate 240 0) (op (take m F) (take m G))) (sym (plots .common-plots .ensures)))
-      ∙ take-at (op f g) (drop (length (op f g)) (replicate 240 0)) n l
+      ∙ take-overlay (replicate 240 0) (op f g) n l
 
   long-infimum : length (infimum f g) ≡ n
-  long-infimum = length-infimum f g (long-f ∙ sym long-g) ∙ long-f
+  long-infimum = length-infimum′ n f g long-f long-g
 
   long-supremum : length (supremum f g) ≡ n
-  long-supremum = length-supremum f g (long-f ∙ sym long-g) ∙ long-f
+  long-supremum = length-supremum′ n f g long-f long-g
 
   lower : take n below ≡ infimum f g
   lower = start-of infimum below (c .before .before .infimum .ensures .1) long-infimum
@@ -80,6 +79,14 @@ module _ (c : tie.After-supremum) where
 
   long-above : length (take n above) ≡ n
   long-above = ap length upper ∙ long-supremum
+
+  by-plots : balanced (length (take n below)) (take n below) (take n above) f g ≡ testCommon orthogonal F G
+  unfolding balanced
+  by-plots =
+      ap (λ (m : ℕ). balanced m (take n below) (take n above) f g) long-below
+      ∙ ap₂ (λ (A B : Column). balanced n A B f g) lower upper
+      ∙ sym (orthogonal-test-plots n f g long-f long-g)
+      ∙ ap (λ (m : ℕ). orthogonal m (take m F) (take m G)) (plots .common-plots .ensures)
 
 array-share-prefix-below : tie.Need-array-share-prefix-below
 array-share-prefix-below c = omega (arith, long-below c, length-take (n c) (below c))
@@ -105,14 +112,7 @@ balanced-requires c κs =
     (omega (arith, long-below k), long-above k ∙ sym (long-below k), long-f k ∙ sym (long-below k), long-g k ∙ sym (long-below k))
 
 returns : tie.Need-returns
-unfolding balanced
-returns c =
-    let k = c .before .before .before .before .before in
-    c .balanced .ensures
-    ∙ ap (λ (m : ℕ). balanced m (take (n k) (below k)) (take (n k) (above k)) (f k) (g k)) (long-below k)
-    ∙ ap₂ (λ (A B : Column). balanced (n k) A B (f k) (g k)) (lower k) (upper k)
-    ∙ sym (orthogonal-test-plots (n k) (f k) (g k) (long-f k) (long-g k))
-    ∙ ap (λ (m : ℕ). orthogonal m (take m (F k)) (take m (G k))) (plots k .common-plots .ensures)
+returns c = c .balanced .ensures ∙ by-plots (c .before .before .before .before .before)
 
 pub orthogonal-spec : {M : Type 1} → statement M
 orthogonal-spec =
