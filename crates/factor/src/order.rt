@@ -3,7 +3,7 @@ ghost use mathlib.Core.Path.{_≡_};
 ghost use Rattle.rules.specs.Family.{alike, smaller, before};
 use crate::numbering::classes;
 
-// Whether two columns are equal.
+// Whether two columns are equal. The walk goes to the end, so that many plots are compared at a time.
 pub fn alike(f: &[u8], g: &[u8]) -> bool
     ensures { λ r. ⌜ r ≡ alike (now (f .entry)) (now (g .entry)) ⌝ }
 {
@@ -11,12 +11,13 @@ pub fn alike(f: &[u8], g: &[u8]) -> bool
     if n != g.len() {
         return false;
     }
+    let mut same = true;
     for u in 0..n {
         if f[u] != g[u] {
-            return false;
+            same = false;
         }
     }
-    true
+    same
 }
 
 // Whether `f` has the smaller number at the first plot where the columns differ.

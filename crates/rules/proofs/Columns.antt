@@ -1,21 +1,21 @@
 -- Laws for programs over columns: a look-up that tells the number of each label seen, and the number of classes.
 -- Assumes nothing.
 use mathlib.Core.Path.{_≡_, refl, sym, ap, _∙_}
-use mathlib.Core.Bool.{Bool, true, false}
-use mathlib.Core.List.{[], _∷_}
+use mathlib.Core.Bool.{true, false}
+use mathlib.Core.List.{[]}
 use Prim.Native.Nat.{ℕ, suc, _≤_, _<_, zero-le, suc-le-suc}
 use native.Mathlib.Nat.{not-suc-le-zero, le-antisymm}
 use native.Mathlib.Omega.{arith}
 use lib.Dec.{eqb, ltb}
 use lib.ListN.{length, take, drop, drop-of-length-le}
-use lib.Seq.{drop-cons}
+use lib.Seq.{drop-cons, ext-getD}
 use borrow.Author.Tests.{eqb-true, eqb-false, eq-eqb, ne-eqb, ltb-true, ltb-false}
 use Rattle.rules.specs.Factor.{Column, at, Equivalent, number, classes}
 use Rattle.rules.specs.Family.{alike, smaller, before}
 use Rattle.rules.proofs.Numbering.{by-cases, eqb-self, numbering-at, number-same, length-number}
 use Rattle.rules.proofs.Walk.{next}
 use Rattle.rules.proofs.Classes.{classes-le}
-use Rattle.rules.proofs.Members.{alike-sound}
+use Rattle.rules.proofs.Members.{alike-sound, alike-self}
 
 -- numbers start from 1
 pub number-positive : (F : Column) (u : ℕ) → u < length F → 0 < at (number F) u
@@ -86,28 +86,16 @@ classes-number F = classes-equivalent (number F) F (length-number F) record {
 
 -- ---- two columns, plot by plot
 
--- a test that goes on while the labels are equal, and ends with z where they differ
-module _ (t : Column → Column → Bool) (z : ℕ → ℕ → Bool)
-    (yes : (x y : ℕ) (F G : Column) → eqb x y ≡ true → t (x ∷ F) (y ∷ G) ≡ t F G) (no : (x y : ℕ) (F G : Column) → eqb x y ≡ false → t (x ∷ F) (y ∷ G) ≡ z x y)
-    (F G : Column) (u : ℕ) (hF : u < length F) (hG : u < length G) where
-  pub drop-equal : at F u ≡ at G u → t (drop u F) (drop u G) ≡ t (drop (suc u) F) (drop (suc u) G)
-  drop-equal e = rw (drop-cons F u 0, drop-cons G u 0) (yes (at F u) (at G u) (drop (suc u) F) (drop (suc u) G) (eq-eqb _ _ e))
-
-  pub drop-differ : (at F u ≡ at G u → ⊥) → t (drop u F) (drop u G) ≡ z (at F u) (at G u)
-  drop-differ e = rw (drop-cons F u 0, drop-cons G u 0) (no (at F u) (at G u) (drop (suc u) F) (drop (suc u) G) (ne-eqb _ _ e))
-
 module _ (F G : Column) (u : ℕ) (hF : u < length F) (hG : u < length G) where
-  pub alike-equal : at F u ≡ at G u → alike (drop u F) (drop u G) ≡ alike (drop (suc u) F) (drop (suc u) G)
-  unfolding alike
-  alike-equal = drop-equal alike (λ x y. false) (λ x y F G e. rw (e, alike)) (λ x y F G e. rw (e, alike)) F G u hF hG
-
+  -- the columns agree at plot u
   pub smaller-equal : at F u ≡ at G u → smaller (drop u F) (drop u G) ≡ smaller (drop (suc u) F) (drop (suc u) G)
   unfolding smaller
-  smaller-equal = drop-equal smaller ltb (λ x y F G e. rw (e, smaller)) (λ x y F G e. rw (e, smaller)) F G u hF hG
+  smaller-equal e = rw (drop-cons F u 0, drop-cons G u 0, eq-eqb (at F u) (at G u) e, smaller)
 
+  -- they differ
   pub smaller-differ : (at F u ≡ at G u → ⊥) → smaller (drop u F) (drop u G) ≡ ltb (at F u) (at G u)
   unfolding smaller
-  smaller-differ = drop-differ smaller ltb (λ x y F G e. rw (e, smaller)) (λ x y F G e. rw (e, smaller)) F G u hF hG
+  smaller-differ e = rw (drop-cons F u 0, drop-cons G u 0, ne-eqb (at F u) (at G u) e, smaller)
 
 -- a column that ends is smaller than one that goes on
 pub smaller-ends : (F G : Column) (u : ℕ) → length F ≤ u → smaller (drop u F) (drop u G) ≡ ltb u (length G)
@@ -126,6 +114,10 @@ tie-smaller F G e = rw (eq-eqb (classes F) (classes G) e, before)
 pub count-decides : (F G : Column) → (classes F ≡ classes G → ⊥) → before F G ≡ ltb (classes F) (classes G)
 unfolding before
 count-decides F G e = rw (ne-eqb (classes F) (classes G) e, before)
+
+-- columns that are equal at each plot are alike
+pub alike-equal : (F G : Column) → length F ≡ length G → ((u : ℕ) → u < length F → at F u ≡ at G u) → alike F G ≡ true
+alike-equal F G l e = rw (ext-getD 0 F G l e) (alike-self G)
 
 -- columns that differ at a plot or in length are not alike
 pub unlike : (F G : Column) → (F ≡ G → ⊥) → alike F G ≡ false

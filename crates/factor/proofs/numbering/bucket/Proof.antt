@@ -1,3 +1,5 @@
+-- `bucket` meets its contract.
+-- Assumes nothing.
 use borrow.Author.Needs.{needs}
 use mathlib.Core.Path.{refl}
 use Rattle.factor.specs.Seen.{bucketOf}

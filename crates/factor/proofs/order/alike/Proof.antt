@@ -1,41 +1,39 @@
--- `alike` meets its contract: what is left of the columns is alike exactly when they are.
+-- `alike` meets its contract: the plots passed are equal, or the columns differ.
 -- Assumes nothing.
 use mathlib.Core.Path.{_≡_, refl, sym, ap, _∙_}
+use mathlib.Core.Logic.{⊎-elim}
+use mathlib.Core.Bool.{true, false}
 use mathlib.Core.List.{List}
-use Prim.Native.Nat.{ℕ, _-_, _≤_}
-use native.Mathlib.Numerals.{add-one}
+use Prim.Native.Nat.{ℕ, _-_, _≤_, _<_}
 use native.Mathlib.Omega.{arith}
+use borrow.Author.Count.{below-none, below-more}
 use denote.Ref.{now}
-use lib.ListN.{length, drop, getD, drop-of-length-le}
-use Rattle.rules.specs.Family.{alike}
+use lib.ListN.{length, getD}
+use Rattle.rules.specs.Factor.{at}
+use Rattle.rules.proofs.Numbering.{by-cases}
+use Rattle.rules.proofs.Members.{clash}
 use Rattle.rules.proofs.Columns.{alike-equal, unlike}
 use Rattle.factor.proofs.order.alike.Statement.{statement}
 use Rattle.factor.proofs.order.alike.Tie as tie
 
 abbrev Inv-loop : tie.InvT-loop
-Inv-loop f g n u₀ u =
-    (u ≤ n) × (alike (drop u f) (drop u g) ≡ alike f g)
+Inv-loop f g n same₀ u₀ same u =
+    (u ≤ n) × (same ≡ true → (p : ℕ) → p < u → at f p ≡ at g p) × (same ≡ false → f ≡ g → ⊥)
 
 abbrev μ-loop : tie.MeasureT-loop
-μ-loop f g n u₀ u = n - u
+μ-loop f g n same₀ u₀ same u = n - u
 
 returns : tie.Need-returns Inv-loop μ-loop
 returns c = sym (unlike (now (c .before .args .f)) (now (c .before .args .g)) (λ e. c .if1 .taken (ap length e)))
 
 loop-holds : tie.Need-loop-holds Inv-loop μ-loop
-loop-holds c = (omega arith, refl)
+loop-holds c = (omega arith, λ e. below-none _, λ e. clash refl e)
 
 shared-slice-read-if2 : tie.Need-shared-slice-read-if2 Inv-loop μ-loop
 shared-slice-read-if2 c = omega arith
 
 shared-slice-read-if2-2 : tie.Need-shared-slice-read-if2-2 Inv-loop μ-loop
 shared-slice-read-if2-2 c = omega arith
-
-returns-2 : tie.Need-returns-2 Inv-loop μ-loop
-returns-2 c =
-    let b = c .before .before .before .before in
-    let s = b .before .before .args in
-    sym (unlike (now (s .f)) (now (s .g)) (λ e. c .if2 .taken (ap (λ (l : List ℕ). getD l (b .loop .u) 0) e)))
 
 add-u : tie.Need-add-u Inv-loop μ-loop
 add-u c = omega arith
@@ -46,17 +44,20 @@ loop-less c = omega arith
 loop-again : tie.Need-loop-again Inv-loop μ-loop
 loop-again c =
     let b = c .before .before .before .before in
-    let s = b .before .before .args in
-    (omega arith, rw add-one (sym (alike-equal (now (s .f)) (now (s .g)) (b .loop .u) (omega arith) (omega arith) (c .if2 .left)) ∙ b .loop .inv .1))
+    ⊎-elim
+    (λ w. (omega arith, λ e. clash e (w .1), λ e q. w .0 .taken (ap (λ (l : List ℕ). getD l (b .loop .u) 0) q)))
+    (λ w. (omega arith, λ e. below-more _ _ (b .loop .inv .1 (sym (w .1) ∙ e)) (w .0 .left), λ e. b .loop .inv .2 (sym (w .1) ∙ e)))
+    (c .if2 .came)
 
-returns-3 : tie.Need-returns-3 Inv-loop μ-loop
-unfolding alike
-returns-3 c =
+returns-2 : tie.Need-returns-2 Inv-loop μ-loop
+returns-2 c =
     let b = c .before in
     let s = b .before .before .args in
-    let hf : length (now (s .f)) ≤ b .loop .u = omega arith in
-    let hg : length (now (s .g)) ≤ b .loop .u = omega arith in
-    rw (drop-of-length-le (now (s .f)) hf, drop-of-length-le (now (s .g)) hg) at (b .loop .inv .1)
+    let f = now (s .f) in
+    let g = now (s .g) in
+    by-cases (b .loop .same)
+    (λ e. e ∙ sym (alike-equal f g (omega arith) (λ p h. b .loop .inv .1 e p (omega arith))))
+    (λ e. e ∙ sym (unlike f g (b .loop .inv .2 e)))
 
 pub alike-spec : {M : Type 1} → statement M
 alike-spec =
@@ -68,8 +69,7 @@ alike-spec =
     loop-holds
     shared-slice-read-if2
     shared-slice-read-if2-2
-    returns-2
     add-u
     loop-less
     loop-again
-    returns-3)
+    returns-2)
