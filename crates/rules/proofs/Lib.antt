@@ -8,3 +8,4 @@ pub mod Walk
 pub mod Demand3
 pub mod Classes
 pub mod Degrees
+pub mod Sheet

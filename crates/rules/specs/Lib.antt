@@ -2,4 +2,5 @@ pub mod Factor
 pub mod Family
 pub mod Structure
 pub mod Treatment
+pub mod Sheet
 pub mod Trials

@@ -1,0 +1,2 @@
+// The sheet reader: the only way from text to a level table.
+mod field;
