@@ -54,6 +54,14 @@ module _ (f : List ℕ) where
   unfolding isLevel
   level-is e d h k = rw (e, d, le-leb 1 (decimal f) h, le-leb (decimal f) levelMost k)
 
+  pub level-least : isLevel f ≡ true → 1 ≤ decimal f
+  unfolding isLevel
+  level-least e = leb-true 1 (decimal f) (and-left (leb 1 (decimal f)) (leb (decimal f) levelMost) (and-right (noLeadingZero f && all digit f) (within 1 levelMost (decimal f)) e))
+
+  pub level-most : isLevel f ≡ true → decimal f ≤ levelMost
+  unfolding isLevel
+  level-most e = leb-true (decimal f) levelMost (and-right (leb 1 (decimal f)) (leb (decimal f) levelMost) (and-right (noLeadingZero f && all digit f) (within 1 levelMost (decimal f)) e))
+
 -- ---- names
 
 pub lengths-differ : (xs ys : List ℕ) → (length xs ≡ length ys → ⊥) → sameBytes xs ys ≡ false

@@ -1,1 +1,3 @@
 pub mod Walk
+pub mod Stops
+pub mod RowLaws

@@ -12,7 +12,8 @@ use lib.ListN.{length, getD, take, drop, drop-of-length-le, length-take}
 use lib.Seq.{slice, slice-cons, slice-empty, drop-cons}
 use borrow.Author.Tests.{eq-eqb, ne-eqb, eqb-true, eqb-false, le-leb, lt-leb}
 use Rattle.rules.specs.Sheet.{all, digit, decimal, decimalFrom, noLeadingZero, isLevel, levelMost, sameBytes}
-use Rattle.rules.proofs.Sheet.{level-leading, level-digit, level-large, level-none, level-is}
+use Rattle.rules.proofs.Sheet.{level-leading, level-digit, level-large, level-none, level-is, level-least}
+use Rattle.rules.proofs.Numbering.{by-cases}
 use Rattle.sheet.specs.Walk.{fieldOf, levelOf}
 
 -- ---- a byte more of a field
@@ -71,3 +72,16 @@ module _ (f : List ℕ) where
       go : (v : ℕ) → decimal f ≡ v → levelOf f ≡ decimal f
       go zero z = no-level (level-none f z) ∙ sym z
       go (suc v) z = rw (level-is f e d (omega arith) k, levelOf)
+
+  pub level-some : isLevel f ≡ true → levelOf f ≡ decimal f
+  unfolding levelOf
+  level-some e = rw (e, levelOf)
+
+  pub level-not : levelOf f ≡ 0 → isLevel f ≡ false
+  level-not z = by-cases (isLevel f) (λ e. absurd (no (level-least f e) (sym (level-some e) ∙ z))) (λ e. e)
+    where
+      no : 1 ≤ decimal f → decimal f ≡ 0 → ⊥
+      no h e = omega arith
+
+  pub level-yes : (levelOf f ≡ 0 → ⊥) → isLevel f ≡ true
+  level-yes n = by-cases (isLevel f) (λ e. e) (λ e. absurd (n (no-level e)))

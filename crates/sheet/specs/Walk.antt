@@ -5,7 +5,7 @@ use mathlib.Core.List.{List, [], _∷_}
 use Prim.Native.Nat.{ℕ, zero, suc, _+_}
 use lib.Dec.{eqb, leb, ltb}
 use lib.ListN.{length, getD, drop}
-use Rattle.rules.specs.Sheet.{Field, tab, newline, upTo, has, isLevel, decimal, decimalFrom, plotMark, treatmentMark}
+use Rattle.rules.specs.Sheet.{Field, tab, newline, upTo, has, fields, isLevel, isRow, decimal, decimalFrom, plotMark, treatmentMark}
 
 -- the field that xs starts with: the bytes before the first tab or newline
 unfoldable pub fieldOf : List ℕ → Field
@@ -20,3 +20,25 @@ levelOf f = elim (isLevel f) [ true ↦ decimal f | false ↦ 0 ]
 -- p or t
 abbrev pub isMark : ℕ → Bool
 isMark x = eqb x plotMark || eqb x treatmentMark
+
+-- ---- later lines
+
+-- xs starts with a level and then the byte `stop`
+unfoldable pub levelThere : ℕ → List ℕ → Bool
+unfolding fieldOf isLevel
+levelThere stop xs = ltb (length (fieldOf xs)) (length xs) && eqb (getD xs (length (fieldOf xs)) 0) stop && isLevel (fieldOf xs)
+
+-- the place after them, when xs stands at `at`; 0 where they are not there
+unfoldable pub levelEnd : ℕ → ℕ → List ℕ → ℕ
+unfolding levelThere fieldOf
+levelEnd stop at xs = elim (levelThere stop xs) [ true ↦ at + suc (length (fieldOf xs)) | false ↦ 0 ]
+
+-- xs starts with a line of n levels
+unfoldable pub rowThere : ℕ → List ℕ → Bool
+unfolding has isRow fields upTo
+rowThere n xs = has newline xs && isRow n (fields (upTo newline xs))
+
+-- the place after it
+unfoldable pub rowEnd : ℕ → ℕ → List ℕ → ℕ
+unfolding rowThere upTo
+rowEnd n at xs = elim (rowThere n xs) [ true ↦ at + suc (length (upTo newline xs)) | false ↦ 0 ]

@@ -1,2 +1,3 @@
 // The sheet reader: the only way from text to a level table.
 mod field;
+mod rows;
