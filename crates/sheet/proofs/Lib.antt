@@ -1,3 +1,4 @@
 pub mod Walk
 pub mod Stops
 pub mod RowLaws
+pub mod StoreLaws

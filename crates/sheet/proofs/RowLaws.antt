@@ -58,7 +58,7 @@ module _ (s at : ℕ) (xs : List ℕ) where
   level-end-off e = rw (e, levelEnd)
 
   -- no such byte after the field
-  not-there : (length (fieldOf xs) < length xs → getD xs (length (fieldOf xs)) 0 ≡ s → ⊥) → levelThere s xs ≡ false
+  pub not-there : (length (fieldOf xs) < length xs → getD xs (length (fieldOf xs)) 0 ≡ s → ⊥) → levelThere s xs ≡ false
   unfolding levelThere
   not-there n =
       by-cases (ltb (length (fieldOf xs)) (length xs))
@@ -101,7 +101,7 @@ module _ (text : List ℕ) (start e s : ℕ) (d : e ≡ start + length (fieldOf 
 -- ---- a line
 
 -- a line of more than one level: the first one and a tab, and the others
-row-turn : (m : ℕ) (xs : List ℕ) → rowThere (suc (suc m)) xs ≡ levelThere 9 xs && rowThere (suc m) (drop (suc (length (fieldOf xs))) xs)
+pub row-turn : (m : ℕ) (xs : List ℕ) → rowThere (suc (suc m)) xs ≡ levelThere 9 xs && rowThere (suc m) (drop (suc (length (fieldOf xs))) xs)
 unfolding rowThere levelThere isRow all
 row-turn m xs = go (stop xs)
   where
@@ -121,7 +121,7 @@ row-turn m xs = go (stop xs)
     go (at-end r) = rw (r .ends, le-ltb _ _ (r .all-of-it))
 
 -- a line of one level: the level and a newline
-row-last : (xs : List ℕ) → rowThere 1 xs ≡ levelThere 10 xs
+pub row-last : (xs : List ℕ) → rowThere 1 xs ≡ levelThere 10 xs
 unfolding rowThere levelThere isRow all
 row-last xs = go (stop xs)
   where

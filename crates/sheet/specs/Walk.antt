@@ -2,10 +2,11 @@
 -- Assumes nothing.
 use mathlib.Core.Bool.{Bool, true, false, not, _&&_, _||_}
 use mathlib.Core.List.{List, [], _∷_}
-use Prim.Native.Nat.{ℕ, zero, suc, _+_}
+use mathlib.Core.Path.{_≡_}
+use Prim.Native.Nat.{ℕ, zero, suc, _+_, _≤_, _<_}
 use lib.Dec.{eqb, leb, ltb}
 use lib.ListN.{length, getD, drop}
-use Rattle.rules.specs.Sheet.{Field, tab, newline, upTo, has, fields, isLevel, isRow, decimal, decimalFrom, plotMark, treatmentMark}
+use Rattle.rules.specs.Sheet.{Field, tab, newline, levelCells, plotsMost, fieldsMost, all, upTo, has, fields, lines, isLevel, isRow, isPlotLine, decimal, decimalFrom, plotMark, treatmentMark}
 
 -- the field that xs starts with: the bytes before the first tab or newline
 unfoldable pub fieldOf : List ℕ → Field
@@ -42,3 +43,27 @@ rowThere n xs = has newline xs && isRow n (fields (upTo newline xs))
 unfoldable pub rowEnd : ℕ → ℕ → List ℕ → ℕ
 unfolding rowThere upTo
 rowEnd n at xs = elim (rowThere n xs) [ true ↦ at + suc (length (upTo newline xs)) | false ↦ 0 ]
+
+-- ---- storing
+
+-- a column of the level table
+abbrev pub isPlace : ℕ → Bool
+isPlace c = ltb c fieldsMost
+
+-- what storing asks: columns of the level table, a plot, and the form of what is read
+pub record StoreRow (text : List ℕ) (start : ℕ) (columns : List ℕ) (n u cells : ℕ) : Type 0 where
+  pub some : 1 ≤ n
+  pub size : length columns ≡ n
+  pub places : all isPlace columns ≡ true
+  pub plot : u < plotsMost
+  pub room : levelCells ≤ cells
+  pub form : rowThere n (drop start text) ≡ true
+
+pub record StoreAll (text : List ℕ) (start : ℕ) (columns : List ℕ) (n plots cells : ℕ) : Type 0 where
+  pub some : 1 ≤ n
+  pub size : length columns ≡ n
+  pub places : all isPlace columns ≡ true
+  pub plots-are : plots ≡ length (lines (drop start text))
+  pub few : plots ≤ plotsMost
+  pub room : levelCells ≤ cells
+  pub form : all (isPlotLine n) (lines (drop start text)) ≡ true

@@ -1,10 +1,10 @@
 // The later lines.
 use crate::field;
 ghost use mathlib.Core.Path.{_≡_};
-ghost use Prim.Native.Nat.{_+_, _≤_};
-ghost use lib.ListN.{length, drop};
-ghost use Rattle.rules.specs.Sheet.{lines};
-ghost use Rattle.sheet.specs.Walk.{levelEnd, rowEnd};
+ghost use Prim.Native.Nat.{suc, _+_, _≤_};
+ghost use lib.ListN.{length, take, drop};
+ghost use Rattle.rules.specs.Sheet.{newline, upTo, fields, lines, withPlot, withPlots};
+ghost use Rattle.sheet.specs.Walk.{levelEnd, rowEnd, StoreAll, StoreRow};
 ghost use Rattle.sheet.specs.Answers.{judged};
 
 // Whether every later line has the form, and how many there are.
@@ -63,4 +63,46 @@ fn level_end(text: &[u8], start: usize, stop: u8) -> usize
         return 0;
     }
     e + 1
+}
+
+// Writes the levels of all lines from `start` on, which have the form: `plots` lines of `n` levels.
+pub fn store(
+    text: &[u8],
+    start: usize,
+    columns: &[usize],
+    n: usize,
+    plots: usize,
+    levels: &mut [u16],
+)
+    requires { ⌜ StoreAll (now text) start (take n (now columns)) n plots (length (now levels)) ⌝ }
+    ensures { λ _. ⌜ now (levels .exit) ≡ withPlots (take n (now (columns .entry))) 0 (lines (drop start (now (text .entry)))) (now (levels .entry)) ⌝ }
+{
+    let mut at = start;
+    for u in 0..plots {
+        at = store_row(text, at, columns, n, u, levels);
+    }
+}
+
+// Writes the levels of plot `u`, whose line starts at `start`; answers where the next line starts.
+fn store_row(
+    text: &[u8],
+    start: usize,
+    columns: &[usize],
+    n: usize,
+    u: usize,
+    levels: &mut [u16],
+) -> usize
+    requires { ⌜ StoreRow (now text) start (take n (now columns)) n u (length (now levels)) ⌝ }
+    ensures { λ r. ⌜ r ≡ start + suc (length (upTo newline (drop start (now (text .entry))))) ⌝ }
+    ensures { λ _. ⌜ now (levels .exit) ≡ withPlot (take n (now (columns .entry))) u (fields (upTo newline (drop start (now (text .entry))))) (now (levels .entry)) ⌝ }
+{
+    let mut at = start;
+    for i in 0..n {
+        let e = field::end_of(text, at);
+        let level = field::level_of(text, at, e);
+        let column = columns[i];
+        levels[240 * column + u] = level;
+        at = e + 1;
+    }
+    at
 }
