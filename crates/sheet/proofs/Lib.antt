@@ -2,3 +2,4 @@ pub mod Walk
 pub mod Stops
 pub mod RowLaws
 pub mod StoreLaws
+pub mod HeaderLaws

@@ -26,7 +26,7 @@ eqb-suc a b =
     (λ e. ne-eqb (suc a) (suc b) (λ z. eqb-false a b e (omega arith)) ∙ sym e)
 
 -- a line has a field
-fields-some : (xs : List ℕ) → 1 ≤ length (fields xs)
+pub fields-some : (xs : List ℕ) → 1 ≤ length (fields xs)
 unfolding fields widen
 fields-some [] = omega arith
 fields-some (x ∷ xs) = by-cases (eqb x 9) (λ e. rw (e, fields) (omega arith)) (λ e. rw (e, fields) (wide (fields xs)))
