@@ -265,19 +265,18 @@ unfoldable pub counts : List ℕ → Outcome
 unfolding laterLines header countKind
 counts text = read (length (laterLines text)) (countKind plotMark (header text)) (countKind treatmentMark (header text))
 
--- "The first "no" gives its number."
-unfoldable pub reading : List ℕ → List ℕ → Outcome
+-- questions 3 to 5
+unfoldable pub readingFrom3 : List ℕ → Outcome
 unfolding question3 question4 question5 counts
-reading text levels = elim (question1 levels) [
-  | false ↦ refused 1
-  | true ↦ elim (question2 text) [
-    | false ↦ refused 2
-    | true ↦ elim (question3 text) [
-      | false ↦ refused 3
-      | true ↦ elim (question4 text) [ false ↦ refused 4 | true ↦ elim (question5 text) [ false ↦ refused 5 | true ↦ counts text ] ]
-    ]
-  ]
+readingFrom3 text = elim (question3 text) [
+  | false ↦ refused 3
+  | true ↦ elim (question4 text) [ false ↦ refused 4 | true ↦ elim (question5 text) [ false ↦ refused 5 | true ↦ counts text ] ]
 ]
+
+-- questions 1 to 5: "The first "no" gives its number."
+unfoldable pub reading : List ℕ → List ℕ → Outcome
+unfolding readingFrom3
+reading text levels = elim (question1 levels) [ false ↦ refused 1 | true ↦ elim (question2 text) [ false ↦ refused 2 | true ↦ readingFrom3 text ] ]
 
 -- The level table after a reading. "After 1 to 8 .. no lent memory has changed"; "Cells that no plot or column uses are not touched."
 unfoldable pub levelsAfter : Outcome → List ℕ → List ℕ → List ℕ

@@ -12,7 +12,7 @@ use lib.ListN.{length, getD, take, drop, set, length-drop}
 use lib.Seq.{slice, drop-drop, getD-drop, drop-cons, set-at, length-take-le, take-suc, append-snoc, take-all, take-at}
 use borrow.Author.Tests.{eq-eqb, ne-eqb, eqb-true, eqb-false, lt-ltb, ltb-true, ltb-false, le-leb, lt-leb, leb-true}
 use Rattle.rules.specs.Sheet.{Field, newline, plotMark, treatmentMark, upTo, has, fields, all, isName, isColumn, isKind, countKind, sameBytes, nameOf, newName, namesDiffer, header, columnsAfter, within, isHeader, question3}
-use Rattle.rules.proofs.Sheet.{and-false, and-left, and-right}
+use Rattle.rules.proofs.Sheet.{and-false, and-left, and-right, fields-some, kind-yes, kind-no, column-plot, column-treatment, kinds-all}
 use Rattle.rules.proofs.Members.{clash}
 use Rattle.rules.proofs.Numbering.{by-cases}
 use Rattle.sheet.specs.Walk.{fieldOf, isPlace}
@@ -20,7 +20,6 @@ use Rattle.sheet.specs.Answers.{noHeader, marked, headed}
 use Rattle.sheet.specs.declared.header.Header.{Header}
 use Rattle.sheet.proofs.Stops.{AtTab, AtNewline, AtEnd, Stop, at-tab, at-newline, at-end, stop, slice-field}
 use Rattle.sheet.proofs.Walk.{slice-next, slice-none, field-tab, field-newline, field-on}
-use Rattle.sheet.proofs.RowLaws.{fields-some}
 
 -- ---- the place e where the field that starts at `at` ends
 
@@ -85,27 +84,6 @@ module _ (text : List ℕ) (at e : ℕ) (d : e ≡ at + length (fieldOf (drop at
 -- counting a field changes p and t to p′ and t′
 abbrev pub Tally : Field → ℕ → ℕ → ℕ → ℕ → Type 0
 Tally f p t p′ t′ = (F : List Field) → (p + countKind 112 (f ∷ F) ≡ p′ + countKind 112 F) × (t + countKind 116 (f ∷ F) ≡ t′ + countKind 116 F)
-
-kind-yes : (m : ℕ) (f : Field) (F : List Field) → isKind m f ≡ true → countKind m (f ∷ F) ≡ suc (countKind m F)
-unfolding countKind
-kind-yes m f F e = rw (e, countKind)
-
-kind-no : (m : ℕ) (f : Field) (F : List Field) → isKind m f ≡ false → countKind m (f ∷ F) ≡ countKind m F
-unfolding countKind
-kind-no m f F e = rw (e, countKind)
-
--- a column that is no plot column is a treatment column
-column-plot : (f : Field) → isColumn f ≡ true → getD f 0 0 ≡ 112 → (isKind 112 f ≡ true) × (isKind 116 f ≡ false)
-unfolding isColumn isKind
-column-plot [] e b = clash e refl
-column-plot (x ∷ xs) e b = (eq-eqb x 112 b, ne-eqb x 116 (λ z. omega arith))
-
-column-treatment : (f : Field) → isColumn f ≡ true → (getD f 0 0 ≡ 112 → ⊥) → (isKind 112 f ≡ false) × (isKind 116 f ≡ true)
-unfolding isColumn isKind
-column-treatment [] e b = clash e refl
-column-treatment (x ∷ []) e b = clash e refl
-column-treatment (x ∷ y ∷ name) e b =
-    (ne-eqb x 112 b, rw (ne-eqb x 112 b) at (and-left (eqb x 112 || eqb x 116) (eqb y 58) (and-left ((eqb x 112 || eqb x 116) && eqb y 58) (isName name) e)))
 
 pub tally-plot : (f : Field) (p t : ℕ) → isColumn f ≡ true → getD f 0 0 ≡ 112 → Tally f p t (p + 1) t
 tally-plot f p t e b F =
@@ -287,11 +265,6 @@ filled-all b s n e =
     let l : length (take n s) ≡ n = rw (take-all n s h) e in
     take-at (take n s) (drop n b) n l ∙ take-all n s h
 
-pub length-columns : (p t : ℕ) (fs : List Field) → length (columnsAfter p t fs) ≡ length fs
-unfolding columnsAfter
-length-columns p t [] = refl
-length-columns p t (f ∷ fs) = by-cases (isKind 112 f) (λ e. rw (e, columnsAfter) (ap suc (length-columns (suc p) t fs))) (λ e. rw (e, columnsAfter) (ap suc (length-columns p (suc t) fs)))
-
 -- the field f takes column c, and p′ and t′ are the counts after it
 abbrev pub Takes : Field → ℕ → ℕ → ℕ → ℕ → ℕ → Type 0
 Takes f p t c p′ t′ = (F : List Field) → columnsAfter p t (f ∷ F) ≡ c ∷ columnsAfter p′ t′ F
@@ -371,17 +344,6 @@ pub heads-inside : (m : ℕ) (text : List ℕ) (at p t : ℕ) (L : List ℕ) →
 heads-inside m text at p t L l = inside text at (at + length (fieldOf (drop at text))) refl (l .0)
 
 -- ---- question 3
-
--- every column is of one of the two kinds
-pub kinds-all : (fs : List Field) → all isColumn fs ≡ true → countKind 112 fs + countKind 116 fs ≡ length fs
-unfolding all countKind
-kinds-all [] a = refl
-kinds-all (f ∷ fs) a =
-    let g = and-left (isColumn f) (all isColumn fs) a in
-    let k = kinds-all fs (and-right (isColumn f) (all isColumn fs) a) in
-    by-cases (eqb (getD f 0 0) 112)
-    (λ b. let s = tally-plot f 0 0 g (eqb-true _ _ b) fs in omega arith)
-    (λ b. let s = tally-treatment f 0 0 g (eqb-false _ _ b) fs in omega arith)
 
 pub headed-no : (text : List ℕ) → question3 text ≡ false → headed text ≡ noHeader
 unfolding headed

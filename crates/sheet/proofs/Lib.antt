@@ -3,3 +3,4 @@ pub mod Stops
 pub mod RowLaws
 pub mod StoreLaws
 pub mod HeaderLaws
+pub mod QuestionLaws

@@ -13,7 +13,7 @@ use borrow.Author.Tests.{eq-eqb, ne-eqb, eqb-true, eqb-false, lt-ltb, le-ltb, lt
 use Rattle.rules.specs.Sheet.{Field, Line, upTo, past, has, fields, widen, lines, all, isLevel, isRow, isPlotLine}
 use Rattle.rules.proofs.Numbering.{by-cases}
 use Rattle.rules.proofs.Members.{clash}
-use Rattle.rules.proofs.Sheet.{and-false}
+use Rattle.rules.proofs.Sheet.{and-false, fields-some}
 use Rattle.sheet.specs.Walk.{fieldOf, levelOf, levelThere, levelEnd, rowThere, rowEnd}
 use Rattle.sheet.specs.Answers.{judged}
 use Rattle.sheet.proofs.Stops.{AtTab, AtNewline, AtEnd, Stop, at-tab, at-newline, at-end, stop, slice-field, past-drop, lines-cons}
@@ -24,16 +24,6 @@ eqb-suc a b =
     by-cases (eqb a b)
     (λ e. eq-eqb (suc a) (suc b) (ap suc (eqb-true a b e)) ∙ sym e)
     (λ e. ne-eqb (suc a) (suc b) (λ z. eqb-false a b e (omega arith)) ∙ sym e)
-
--- a line has a field
-pub fields-some : (xs : List ℕ) → 1 ≤ length (fields xs)
-unfolding fields widen
-fields-some [] = omega arith
-fields-some (x ∷ xs) = by-cases (eqb x 9) (λ e. rw (e, fields) (omega arith)) (λ e. rw (e, fields) (wide (fields xs)))
-  where
-    wide : (fs : List Field) → 1 ≤ length (widen x fs)
-    wide [] = omega arith
-    wide (f ∷ fs) = omega arith
 
 -- ---- a level
 

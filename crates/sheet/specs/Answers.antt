@@ -4,7 +4,10 @@ use mathlib.Core.Bool.{Bool, true, false, _&&_}
 use mathlib.Core.List.{List, [], _∷_}
 use Prim.Native.Nat.{ℕ, suc, _+_}
 use lib.ListN.{length}
-use Rattle.rules.specs.Sheet.{Line, newline, plotMark, treatmentMark, all, has, upTo, isColumn, countKind, header, isPlotLine, question3}
+use Rattle.rules.specs.Sheet.{Line, newline, plotMark, treatmentMark, all, has, upTo, isColumn, countKind, header, isPlotLine, question3, Outcome, read, refused}
+use Rattle.sheet.specs.declared.Counts.{Counts}
+use Rattle.sheet.specs.declared.Reading.{Reading}
+use Rattle.sheet.specs.declared.Reading.the-variants.{Read, Refused}
 use Rattle.sheet.specs.declared.header.Header.{Header}
 use Rattle.sheet.specs.declared.rows.Rows.{Rows}
 
@@ -31,3 +34,8 @@ headed text = elim (question3 text) [
   | true ↦ record { end = suc (length (upTo newline text)); «plot_columns» = countKind plotMark (header text); «treatment_columns» = countKind treatmentMark (header text) }
   | false ↦ noHeader
 ]
+
+-- the paper's number and values for each case of the reader's answer
+abbrev pub outcomeOf : Reading → Outcome
+outcomeOf (Read c) = read (c .plots) (c .«plot_columns») (c .«treatment_columns»)
+outcomeOf (Refused q) = refused q

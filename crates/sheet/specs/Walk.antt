@@ -6,7 +6,7 @@ use mathlib.Core.Path.{_≡_}
 use Prim.Native.Nat.{ℕ, zero, suc, _+_, _≤_, _<_}
 use lib.Dec.{eqb, leb, ltb}
 use lib.ListN.{length, getD, drop}
-use Rattle.rules.specs.Sheet.{Field, tab, newline, levelCells, plotsMost, fieldsMost, all, upTo, has, fields, lines, isLevel, isRow, isPlotLine, decimal, decimalFrom, plotMark, treatmentMark}
+use Rattle.rules.specs.Sheet.{Field, tab, newline, levelCells, plotsMost, fieldsMost, all, upTo, has, fields, lines, isLevel, isRow, isPlotLine, decimal, decimalFrom, plotMark, treatmentMark, header, laterLines, question3, question4}
 
 -- the field that xs starts with: the bytes before the first tab or newline
 unfoldable pub fieldOf : List ℕ → Field
@@ -67,3 +67,13 @@ pub record StoreAll (text : List ℕ) (start : ℕ) (columns : List ℕ) (n plot
   pub few : plots ≤ plotsMost
   pub room : levelCells ≤ cells
   pub form : all (isPlotLine n) (lines (drop start text)) ≡ true
+
+-- what writing asks: questions 3 to 5 said yes, and the walks' place and counts
+pub record Accepted (text : List ℕ) (at n plots cells : ℕ) : Type 0 where
+  pub header-form : question3 text ≡ true
+  pub lines-form : question4 text ≡ true
+  pub place : at ≡ suc (length (upTo newline text))
+  pub size : n ≡ length (header text)
+  pub plots-are : plots ≡ length (laterLines text)
+  pub few : plots ≤ plotsMost
+  pub room : levelCells ≤ cells

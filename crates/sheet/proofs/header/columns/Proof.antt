@@ -13,7 +13,8 @@ use lib.ListN.{length, getD, take, drop, set, length-set, replicate, length-repl
 use lib.Seq.{drop-drop, getD-drop}
 use Rattle.rules.specs.Sheet.{has, header, columnsAfter}
 use Rattle.sheet.specs.Walk.{fieldOf}
-use Rattle.sheet.proofs.HeaderLaws.{Heads, heads-start, heads-turn, heads-inside, Takes, plot-here, treatment-here, filled, filled-step, filled-all, length-columns}
+use Rattle.sheet.proofs.HeaderLaws.{Heads, heads-start, heads-turn, heads-inside, Takes, plot-here, treatment-here, filled, filled-step, filled-all}
+use Rattle.rules.proofs.Sheet.{length-columns}
 use Rattle.sheet.proofs.header.columns.Statement.{statement}
 use Rattle.sheet.proofs.header.columns.Tie as tie
 
