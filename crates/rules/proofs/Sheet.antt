@@ -3,13 +3,16 @@
 use mathlib.Core.Path.{_≡_, refl, sym, ap, ap₂, _∙_}
 use mathlib.Core.Bool.{Bool, true, false, not, _&&_, _||_}
 use mathlib.Core.List.{List, [], _∷_, _++_}
-use Prim.Native.Nat.{ℕ, zero, suc, _+_, _-_, _*_, _≤_, _<_}
+use Prim.Native.Nat.{ℕ, zero, suc, _+_, _-_, _*_, _/_, _%_, _≤_, _<_}
 use native.Mathlib.Omega.{arith}
-use native.Mathlib.Nat.{not-suc-le-zero, le-of-suc-le-suc}
+use native.Mathlib.Nat.{not-suc-le-zero, le-of-suc-le-suc, add-zero, zero-add}
+use lib.Arith.{lt-of-le-ne}
 use lib.Dec.{eqb, leb, ltb}
-use lib.ListN.{length, getD, drop}
-use borrow.Author.Tests.{eq-eqb, ne-eqb, eqb-true, eqb-false, le-leb, lt-leb, leb-true, leb-false, lt-ltb}
-use Rattle.rules.specs.Sheet.{all, within, digit, decimal, decimalFrom, noLeadingZero, isLevel, levelMost, sameBytes, Field, newline, fieldsMost, kindMost, plotMark, treatmentMark, upTo, has, fields, widen, isName, isColumn, isKind, countKind, namesDiffer, isHeader, header, columnsAfter, question3, levelCells, textMost, refused, reading, readingFrom3}
+use lib.ListN.{length, getD, take, drop, set, replicate, length-set, length-take}
+use lib.Seq.{getD-set-same, getD-set-other, set-out, getD-take, getD-drop}
+use borrow.Author.Tests.{eq-eqb, ne-eqb, eqb-true, eqb-false, le-leb, lt-leb, leb-true, lt-ltb, ltb-true, ltb-false}
+use Rattle.rules.specs.Family.{columnsFrom, nonzero, allNonzero}
+use Rattle.rules.specs.Sheet.{levelCells, textMost, plotsMost, kindMost, fieldsMost, levelMost, within, all, newline, tab, upTo, past, has, Line, extend, lines, fields, Field, widen, digit, isName, sameBytes, plotMark, treatmentMark, isColumn, isKind, countKind, newName, namesDiffer, isHeader, header, decimalFrom, decimal, noLeadingZero, isLevel, isRow, isPlotLine, laterLines, columnsAfter, withPlot, withPlots, joined, digitsBefore, decimalOf, question1, question2, question3, question4, question5, Outcome, read, refused, counts, readingFrom3, reading, levelsAfter}
 use Rattle.rules.proofs.Numbering.{by-cases}
 use Rattle.rules.proofs.Members.{clash}
 
@@ -27,6 +30,10 @@ pub and-right : (a b : Bool) → a && b ≡ true → b ≡ true
 and-right true b e = e
 and-right false true e = refl
 and-right false false e = e
+
+pub not-yes : (a : Bool) → not a ≡ true → a ≡ false
+not-yes true e = sym e
+not-yes false e = refl
 
 -- ---- levels
 
@@ -190,3 +197,324 @@ module _ (text levels : List ℕ) where
   pub text-fits : levelCells ≤ length levels → 1 ≤ length text → length text ≤ textMost → reading text levels ≡ readingFrom3 text
   unfolding reading
   text-fits l h k = rw (le-leb levelCells (length levels) l, le-leb 1 (length text) h, le-leb (length text) textMost k, reading)
+
+-- ---- what a reading tells
+
+pub record Accepts (text levels : List ℕ) (n p t : ℕ) : Type 0 where
+  pub table-fits : levelCells ≤ length levels
+  pub header-good : HeaderForm text
+  pub lines-good : all (isPlotLine (length (header text))) (laterLines text) ≡ true
+  pub plots : n ≡ length (laterLines text)
+  pub plots-some : 1 ≤ n
+  pub plots-few : n ≤ plotsMost
+  pub plot-columns : p ≡ countKind plotMark (header text)
+  pub treatment-columns : t ≡ countKind treatmentMark (header text)
+
+three : (a b c n p t : ℕ) → read a b c ≡ read n p t → (n ≡ a) × (p ≡ b) × (t ≡ c)
+three a b c n p t e = (cc, cc, cc)
+
+not-read : {P : Type 0} (q n p t : ℕ) → refused q ≡ read n p t → P
+not-read q n p t e = let z : _≡_ {A = ℕ} 0 1 = cc in absurd (no z)
+  where
+    no : _≡_ {A = ℕ} 0 1 → ⊥
+    no z = omega arith
+
+-- Question 6's counts never refuse a table that was read.
+pub read-accepts : (text levels : List ℕ) (n p t : ℕ) → reading text levels ≡ read n p t → Accepts text levels n p t
+unfolding reading readingFrom3 counts question4 question5
+read-accepts text levels n p t e =
+    by-cases (question1 levels)
+    (λ q1. by-cases (question2 text)
+    (λ q2. by-cases (question3 text)
+    (λ q3. by-cases (question4 text)
+    (λ q4. by-cases (question5 text)
+    (λ q5. accepts q1 q3 q4 q5 (three _ _ _ n p t (sym (rw (q1, q2, q3, q4, q5, reading, readingFrom3)) ∙ e)))
+    (λ q5. not-read 5 n p t (sym (rw (q1, q2, q3, q4, q5, reading, readingFrom3)) ∙ e)))
+    (λ q4. not-read 4 n p t (sym (rw (q1, q2, q3, q4, reading, readingFrom3)) ∙ e)))
+    (λ q3. not-read 3 n p t (sym (rw (q1, q2, q3, reading, readingFrom3)) ∙ e)))
+    (λ q2. not-read 2 n p t (sym (rw (q1, q2, reading)) ∙ e)))
+    (λ q1. not-read 1 n p t (sym (rw (q1, reading)) ∙ e))
+  where
+    accepts : question1 levels ≡ true → question3 text ≡ true → question4 text ≡ true → question5 text ≡ true
+        → (n ≡ length (laterLines text)) × (p ≡ countKind plotMark (header text)) × (t ≡ countKind treatmentMark (header text)) → Accepts text levels n p t
+    accepts q1 q3 q4 q5 k = record {
+      table-fits = leb-true levelCells (length levels) q1;
+      header-good = header-form text q3;
+      lines-good = q4;
+      plots = k .0;
+      plots-some = rw (k .0) (leb-true 1 (length (laterLines text)) (and-left (leb 1 (length (laterLines text))) (leb (length (laterLines text)) plotsMost) q5));
+      plots-few = rw (k .0) (leb-true (length (laterLines text)) plotsMost (and-right (leb 1 (length (laterLines text))) (leb (length (laterLines text)) plotsMost) q5));
+      plot-columns = k .1;
+      treatment-columns = k .2;
+    }
+
+-- ---- the cells that are written
+
+-- storing a level leaves no zero where there was none
+set-keeps : (T : List ℕ) (j v i : ℕ) → 1 ≤ v → 1 ≤ getD T i 0 → 1 ≤ getD (set T j v) i 0
+set-keeps T j v i h k =
+    by-cases (eqb i j)
+    (λ e. by-cases (ltb j (length T))
+    (λ l. rw (eqb-true i j e, getD-set-same T j v 0 (ltb-true j (length T) l)) h)
+    (λ l. rw (set-out T j v (ltb-false j (length T) l)) k))
+    (λ e. rw (getD-set-other T j i v 0 (eqb-false i j e)) k)
+
+plot-keeps : (cs : List ℕ) (u : ℕ) (fs : List Field) (T : List ℕ) (i : ℕ) → all isLevel fs ≡ true → 1 ≤ getD T i 0 → 1 ≤ getD (withPlot cs u fs T) i 0
+unfolding withPlot all
+plot-keeps [] u fs T i a h = h
+plot-keeps (c ∷ cs) u [] T i a h = h
+plot-keeps (c ∷ cs) u (f ∷ fs) T i a h =
+    plot-keeps cs u fs (set T (240 * c + u) (decimal f)) i (and-right (isLevel f) (all isLevel fs) a)
+    (set-keeps T (240 * c + u) (decimal f) i (level-least f (and-left (isLevel f) (all isLevel fs) a)) h)
+
+pub length-withPlot : (cs : List ℕ) (u : ℕ) (fs : List Field) (T : List ℕ) → length (withPlot cs u fs T) ≡ length T
+unfolding withPlot
+length-withPlot [] u fs T = refl
+length-withPlot (c ∷ cs) u [] T = refl
+length-withPlot (c ∷ cs) u (f ∷ fs) T = length-withPlot cs u fs (set T (240 * c + u) (decimal f)) ∙ length-set T (240 * c + u) (decimal f)
+
+-- a line's cell in each of the columns is written
+plot-hits : (cs : List ℕ) (u : ℕ) (fs : List Field) (T : List ℕ) (c : ℕ) → all isLevel fs ≡ true → length fs ≡ length cs → has c cs ≡ true → 240 * c + u < length T
+    → 1 ≤ getD (withPlot cs u fs T) (240 * c + u) 0
+unfolding withPlot all has
+plot-hits [] u fs T c a l h k = clash h refl
+plot-hits (d ∷ cs) u [] T c a l h k = absurd (no l)
+  where
+    no : 0 ≡ suc (length cs) → ⊥
+    no z = omega arith
+plot-hits (d ∷ cs) u (f ∷ fs) T c a l h k =
+    by-cases (eqb d c)
+    (λ e. let q = eqb-true d c e in
+    plot-keeps cs u fs (set T (240 * d + u) (decimal f)) (240 * c + u) (and-right (isLevel f) (all isLevel fs) a)
+    (rw (q, getD-set-same T (240 * c + u) (decimal f) 0 k) (level-least f (and-left (isLevel f) (all isLevel fs) a))))
+    (λ e. plot-hits cs u fs (set T (240 * d + u) (decimal f)) c (and-right (isLevel f) (all isLevel fs) a) (suc-injective l) (rw (e, has) at h)
+    (rw (length-set T (240 * d + u) (decimal f)) k))
+  where
+    suc-injective : suc (length fs) ≡ suc (length cs) → length fs ≡ length cs
+    suc-injective z = omega arith
+
+-- the fields of a plot line
+row-levels : (n : ℕ) (l : Line) → isPlotLine n l ≡ true → (length (fields (l .bytes)) ≡ n) × (all isLevel (fields (l .bytes)) ≡ true)
+unfolding isPlotLine isRow
+row-levels n l e =
+    let r = and-right (l .ended) (eqb (length (fields (l .bytes))) n && all isLevel (fields (l .bytes))) e in (
+      eqb-true (length (fields (l .bytes))) n (and-left (eqb (length (fields (l .bytes))) n) (all isLevel (fields (l .bytes))) r),
+      and-right (eqb (length (fields (l .bytes))) n) (all isLevel (fields (l .bytes))) r,
+    )
+
+module _ (cs : List ℕ) where
+  plots-keep : (u : ℕ) (ls : List Line) (T : List ℕ) (i : ℕ) → all (isPlotLine (length cs)) ls ≡ true → 1 ≤ getD T i 0 → 1 ≤ getD (withPlots cs u ls T) i 0
+  unfolding withPlots all
+  plots-keep u [] T i a h = h
+  plots-keep u (l ∷ ls) T i a h =
+      let r = row-levels (length cs) l (and-left (isPlotLine (length cs) l) (all (isPlotLine (length cs)) ls) a) in
+      plots-keep (suc u) ls (withPlot cs u (fields (l .bytes)) T) i (and-right (isPlotLine (length cs) l) (all (isPlotLine (length cs)) ls) a)
+      (plot-keeps cs u (fields (l .bytes)) T i (r .1) h)
+
+  plots-hit : (u : ℕ) (ls : List Line) (T : List ℕ) (c v : ℕ) → all (isPlotLine (length cs)) ls ≡ true → has c cs ≡ true → v < length ls → 240 * c + (u + v) < length T
+      → 1 ≤ getD (withPlots cs u ls T) (240 * c + (u + v)) 0
+  unfolding withPlots all
+  plots-hit u [] T c v a h l k = absurd (not-suc-le-zero l)
+  plots-hit u (x ∷ ls) T c zero a h l k =
+      let r = row-levels (length cs) x (and-left (isPlotLine (length cs) x) (all (isPlotLine (length cs)) ls) a) in
+      rw add-zero (plots-keep (suc u) ls (withPlot cs u (fields (x .bytes)) T) (240 * c + u) (and-right (isPlotLine (length cs) x) (all (isPlotLine (length cs)) ls) a)
+      (plot-hits cs u (fields (x .bytes)) T c (r .1) (r .0) h (omega arith)))
+  plots-hit u (x ∷ ls) T c (suc v) a h l k =
+      let e : u + suc v ≡ suc u + v = omega arith in
+      rw e (plots-hit (suc u) ls (withPlot cs u (fields (x .bytes)) T) c v (and-right (isPlotLine (length cs) x) (all (isPlotLine (length cs)) ls) a) h (le-of-suc-le-suc l)
+      (rw (length-withPlot cs u (fields (x .bytes)) T) (omega arith)))
+
+-- each column of a kind is among those that the header takes
+has-here : (c : ℕ) (cs : List ℕ) → has c (c ∷ cs) ≡ true
+unfolding has
+has-here c cs = rw (eq-eqb c c refl, has)
+
+has-later : (c d : ℕ) (cs : List ℕ) → has c cs ≡ true → has c (d ∷ cs) ≡ true
+unfolding has
+has-later c d cs h = by-cases (eqb d c) (λ e. rw (e, has)) (λ e. rw (e, has) h)
+
+plot-column : (p t : ℕ) (fs : List Field) (c : ℕ) → all isColumn fs ≡ true → p ≤ c → c < p + countKind plotMark fs → has c (columnsAfter p t fs) ≡ true
+unfolding all columnsAfter countKind
+plot-column p t [] c a h k = absurd (no h k)
+  where
+    no : p ≤ c → c < p + 0 → ⊥
+    no h k = omega arith
+plot-column p t (f ∷ fs) c a h k =
+    let r = and-right (isColumn f) (all isColumn fs) a in
+    by-cases (isKind plotMark f)
+    (λ e. let y = kind-yes plotMark f fs e in
+    by-cases (eqb p c)
+    (λ q. rw (e, columnsAfter, eqb-true p c q) (has-here c (columnsAfter (suc c) t fs)))
+    (λ q. let n = eqb-false p c q in
+    let low : suc p ≤ c = lt-of-le-ne h n in
+    rw (e, columnsAfter) (has-later c p (columnsAfter (suc p) t fs) (plot-column (suc p) t fs c r low (omega arith)))))
+    (λ e. let y = kind-no plotMark f fs e in
+    rw (e, columnsAfter) (has-later c (6 + t) (columnsAfter p (suc t) fs) (plot-column p (suc t) fs c r h (omega arith))))
+
+treatment-column : (p t : ℕ) (fs : List Field) (c : ℕ) → all isColumn fs ≡ true → 6 + t ≤ c → c < 6 + t + countKind treatmentMark fs → has c (columnsAfter p t fs) ≡ true
+unfolding all columnsAfter countKind
+treatment-column p t [] c a h k = absurd (no h k)
+  where
+    no : 6 + t ≤ c → c < 6 + t + 0 → ⊥
+    no h k = omega arith
+treatment-column p t (f ∷ fs) c a h k =
+    let g = and-left (isColumn f) (all isColumn fs) a in
+    let r = and-right (isColumn f) (all isColumn fs) a in
+    by-cases (eqb (getD f 0 0) 112)
+    (λ b. let q = column-plot f g (eqb-true _ _ b) in
+    let y = kind-no treatmentMark f fs (q .1) in
+    rw (q .0, columnsAfter) (has-later c p (columnsAfter (suc p) t fs) (treatment-column (suc p) t fs c r h (omega arith))))
+    (λ b. let q = column-treatment f g (eqb-false _ _ b) in
+    let y = kind-yes treatmentMark f fs (q .1) in
+    by-cases (eqb (6 + t) c)
+    (λ z. rw (q .0, columnsAfter, eqb-true (6 + t) c z) (has-here c (columnsAfter p (suc t) fs)))
+    (λ z. let low : suc (6 + t) ≤ c = lt-of-le-ne h (eqb-false (6 + t) c z) in
+    rw (q .0, columnsAfter) (has-later c (6 + t) (columnsAfter p (suc t) fs) (treatment-column p (suc t) fs c r (omega arith) (omega arith)))))
+
+-- ---- no used cell is zero
+
+nonzero-all : (F : List ℕ) → ((u : ℕ) → u < length F → 1 ≤ getD F u 0) → nonzero F ≡ true
+unfolding nonzero
+nonzero-all [] h = refl
+nonzero-all (x ∷ F) h =
+    let k = h 0 (omega arith) in
+    rw (ne-eqb x 0 (λ z. absurd (no z (h 0 (omega arith)))), nonzero) (nonzero-all F (λ u l. h (suc u) (omega arith)))
+  where
+    no : x ≡ 0 → 1 ≤ x → ⊥
+    no z k = omega arith
+
+columns-nonzero : (n : ℕ) (T : List ℕ) (c m : ℕ) → ((d u : ℕ) → c ≤ d → d < c + m → u < n → 1 ≤ getD T (240 * d + u) 0) → allNonzero (columnsFrom n T c m) ≡ true
+unfolding allNonzero columnsFrom
+columns-nonzero n T c zero h = refl
+columns-nonzero n T c (suc m) h =
+    rw (nonzero-all (take n (drop (240 * c) T)) here, allNonzero) (columns-nonzero n T (suc c) m (λ d u a b l. h d u (omega arith) (omega arith) l))
+  where
+    here : (u : ℕ) → u < length (take n (drop (240 * c) T)) → 1 ≤ getD (take n (drop (240 * c) T)) u 0
+    here u l =
+        let k : u < n = omega (arith, length-take n (drop (240 * c) T)) in
+        rw (getD-take n (drop (240 * c) T) u 0 k, getD-drop (240 * c) T u 0) (h c u (omega arith) (omega arith) k)
+
+-- Question 7 never refuses a table that was read, of the plot columns or of the treatment columns.
+module _ (text levels : List ℕ) (n p t : ℕ) (e : reading text levels ≡ read n p t) where
+  abbrev table : List ℕ
+  table = levelsAfter (reading text levels) text levels
+
+  after : table ≡ withPlots (columnsAfter 0 0 (header text)) 0 (laterLines text) levels
+  unfolding levelsAfter
+  after = rw e
+
+  used : (c u : ℕ) → has c (columnsAfter 0 0 (header text)) ≡ true → c < fieldsMost → u < n → 1 ≤ getD table (240 * c + u) 0
+  used c u h k l =
+      let a = read-accepts text levels n p t e in
+      let s : length (columnsAfter 0 0 (header text)) ≡ length (header text) = length-columns 0 0 (header text) in
+      let g : all (isPlotLine (length (columnsAfter 0 0 (header text)))) (laterLines text) ≡ true = rw s (a .lines-good) in
+      let v : u < length (laterLines text) = omega (arith, a .plots) in
+      let w : 240 * c + (0 + u) < length levels = omega (arith, a .plots-few, a .table-fits) in
+      rw (after, ← zero-add u) (plots-hit (columnsAfter 0 0 (header text)) 0 (laterLines text) levels c u g h v w)
+
+  pub plot-levels-nonzero : allNonzero (columnsFrom n table 0 p) ≡ true
+  plot-levels-nonzero =
+      columns-nonzero n table 0 p
+      (λ c u a b l.
+      let s = read-accepts text levels n p t e in
+      used c u (plot-column 0 0 (header text) c (s .header-good .columns) a (omega (arith, s .plot-columns))) (omega (arith, s .plot-columns, s .header-good .plots)) l)
+
+  pub treatment-levels-nonzero : allNonzero (columnsFrom n table 6 t) ≡ true
+  treatment-levels-nonzero =
+      columns-nonzero n table 6 t
+      (λ c u a b l.
+      let s = read-accepts text levels n p t e in
+      used c u (treatment-column 0 0 (header text) c (s .header-good .columns) (omega arith) (omega (arith, s .treatment-columns))) (omega (arith, s .treatment-columns, s .header-good .treatments)) l)
+
+-- ---- what is printed is read back
+
+pub fields-one : (f : Field) → has tab f ≡ false → fields f ≡ f ∷ []
+unfolding fields widen has
+fields-one [] h = refl
+fields-one (x ∷ f) h =
+    by-cases (eqb x tab)
+    (λ e. clash (rw (e, has)) h)
+    (λ e. rw (e, fields, fields-one f (rw (e, has) at h)))
+
+pub fields-more : (f : Field) (xs : List ℕ) → has tab f ≡ false → fields (f ++ tab ∷ xs) ≡ f ∷ fields xs
+unfolding fields widen has
+fields-more [] xs h = refl
+fields-more (x ∷ f) xs h =
+    by-cases (eqb x tab)
+    (λ e. clash (rw (e, has)) h)
+    (λ e. rw (e, fields, fields-more f xs (rw (e, has) at h)))
+
+-- no field has a tab
+abbrev pub free : ℕ → Field → Bool
+free b f = not (has b f)
+
+pub fields-joined : (f : Field) (fs : List Field) → all (free tab) (f ∷ fs) ≡ true → fields (joined (f ∷ fs)) ≡ f ∷ fs
+unfolding joined all
+fields-joined f [] a = fields-one f (not-yes (has tab f) (and-left (free tab f) true a))
+fields-joined f (g ∷ fs) a =
+    fields-more f (joined (g ∷ fs)) (not-yes (has tab f) (and-left (free tab f) (all (free tab) (g ∷ fs)) a))
+    ∙ ap (λ (r : List Field). f ∷ r) (fields-joined g fs (and-right (free tab f) (all (free tab) (g ∷ fs)) a))
+
+pub lines-more : (l xs : List ℕ) → has newline l ≡ false → lines (l ++ newline ∷ xs) ≡ record { bytes = l; ended = true } ∷ lines xs
+unfolding lines extend has
+lines-more [] xs h = refl
+lines-more (x ∷ l) xs h =
+    by-cases (eqb x newline)
+    (λ e. clash (rw (e, has)) h)
+    (λ e. rw (e, lines, lines-more l xs (rw (e, has) at h)))
+
+-- a level's digits
+digits-value : (k n : ℕ) (ds : List ℕ) → n < k → decimalFrom 0 (digitsBefore k n ds) ≡ decimalFrom n ds
+unfolding digitsBefore decimalFrom
+digits-value zero n ds h = absurd (not-suc-le-zero h)
+digits-value (suc k) n ds h =
+    by-cases (ltb n 10)
+    (λ e. let z : 10 * 0 + (48 + n - 48) ≡ n = omega arith in rw (e, digitsBefore) (ap (λ (v : ℕ). decimalFrom v ds) z))
+    (λ e. let l = ltb-false n 10 e in
+    let z : 10 * (n / 10) + (48 + n % 10 - 48) ≡ n = omega arith in
+    rw (e, digitsBefore) (digits-value k (n / 10) ((48 + n % 10) ∷ ds) (omega arith) ∙ ap (λ (v : ℕ). decimalFrom v ds) z))
+
+pub decimal-back : (n : ℕ) → decimal (decimalOf n) ≡ n
+unfolding decimalOf decimalFrom
+decimal-back n = digits-value (suc n) n [] (omega arith)
+
+digit-of : (m : ℕ) → m < 10 → digit (48 + m) ≡ true
+digit-of m h = rw (le-leb 48 (48 + m) (omega arith), le-leb (48 + m) 57 (omega arith))
+
+digits-all : (k n : ℕ) (ds : List ℕ) → all digit ds ≡ true → all digit (digitsBefore k n ds) ≡ true
+unfolding digitsBefore all
+digits-all zero n ds a = a
+digits-all (suc k) n ds a =
+    by-cases (ltb n 10)
+    (λ e. rw (e, digitsBefore, digit-of n (ltb-true n 10 e)) a)
+    (λ e. rw (e, digitsBefore) (digits-all k (n / 10) ((48 + n % 10) ∷ ds) (rw (digit-of (n % 10) (omega arith)) a)))
+
+digits-first : (k n : ℕ) (ds : List ℕ) → n < k → 1 ≤ n → noLeadingZero (digitsBefore k n ds) ≡ true
+unfolding digitsBefore noLeadingZero
+digits-first zero n ds h l = absurd (not-suc-le-zero h)
+digits-first (suc k) n ds h l =
+    by-cases (ltb n 10)
+    (λ e. rw (e, digitsBefore, ne-eqb (48 + n) 48 (λ z. omega arith)))
+    (λ e. let t = ltb-false n 10 e in
+    rw (e, digitsBefore) (digits-first k (n / 10) ((48 + n % 10) ∷ ds) (omega arith) (omega arith)))
+
+-- every level can be printed
+pub decimal-level : (n : ℕ) → 1 ≤ n → n ≤ levelMost → isLevel (decimalOf n) ≡ true
+unfolding decimalOf all
+decimal-level n h k =
+    let v = decimal-back n in
+    level-is (decimalOf n) (digits-first (suc n) n [] (omega arith) h) (digits-all (suc n) n [] refl) (omega arith) (omega arith)
+
+-- ---- the sample sheet: p:Hut, t:Gain; 1 1; 1 2; 2 1; 2 2
+
+unfoldable pub sample : List ℕ
+sample =
+    112 ∷ 58 ∷ 72 ∷ 117 ∷ 116 ∷ 9 ∷ 116 ∷ 58 ∷ 71 ∷ 97 ∷ 105 ∷ 110 ∷ 10 ∷ 49 ∷ 9 ∷ 49 ∷ 10 ∷ 49 ∷ 9 ∷ 50 ∷ 10 ∷ 50 ∷ 9 ∷ 49 ∷ 10 ∷ 50 ∷ 9 ∷ 50 ∷ 10 ∷ []
+
+pub sample-read : reading sample (replicate 2880 0) ≡ read 4 1 1
+unfolding sample reading readingFrom3 question3 question4 question5 counts isHeader header laterLines has upTo past fields widen lines extend all isColumn isName countKind isKind namesDiffer newName sameBytes isPlotLine isRow isLevel noLeadingZero decimalFrom
+sample-read = refl
+
+pub sample-table : levelsAfter (read 4 1 1) sample (replicate 2880 0) ≡ 1 ∷ 1 ∷ 2 ∷ 2 ∷ replicate 1436 0 ++ 1 ∷ 2 ∷ 1 ∷ 2 ∷ replicate 1436 0
+unfolding sample levelsAfter header laterLines upTo past fields widen lines extend columnsAfter isKind withPlots withPlot decimalFrom
+sample-table = refl

@@ -1,9 +1,9 @@
 -- The sheet: lines and fields, names, levels, the level table, and questions 1 to 5. A text is the list of its bytes.
 -- Assumes nothing.
 use mathlib.Core.Bool.{Bool, true, false, not, _&&_, _||_}
-use mathlib.Core.List.{List, [], _∷_, _++_, map}
-use Prim.Native.Nat.{ℕ, zero, suc, _+_, _-_, _*_}
-use lib.Dec.{eqb, leb}
+use mathlib.Core.List.{List, [], _∷_, _++_}
+use Prim.Native.Nat.{ℕ, zero, suc, _+_, _-_, _*_, _/_, _%_}
+use lib.Dec.{eqb, leb, ltb}
 use lib.ListN.{length, drop, set}
 
 -- ---- limits
@@ -230,6 +230,30 @@ unfoldable pub withPlots : List ℕ → ℕ → List Line → List ℕ → List 
 unfolding withPlot fields
 withPlots cs u [] levels = levels
 withPlots cs u (l ∷ ls) levels = withPlots cs (suc u) ls (withPlot cs u (fields (l .bytes)) levels)
+
+-- ---- printing
+
+-- a line's fields, parted by tabs
+unfoldable pub joined : List Field → List ℕ
+joined [] = []
+joined (f ∷ []) = f
+joined (f ∷ g ∷ fs) = f ++ tab ∷ joined (g ∷ fs)
+
+-- lines of fields, each ended by byte 10
+unfoldable pub printed : List (List Field) → List ℕ
+unfolding joined
+printed [] = []
+printed (fs ∷ ls) = joined fs ++ newline ∷ printed ls
+
+-- the digits of n before the digits ds; a number below k needs at most k steps
+unfoldable pub digitsBefore : ℕ → ℕ → List ℕ → List ℕ
+digitsBefore zero n ds = ds
+digitsBefore (suc k) n ds = elim (ltb n 10) [ true ↦ (48 + n) ∷ ds | false ↦ digitsBefore k (n / 10) ((48 + n % 10) ∷ ds) ]
+
+-- a number in decimal, without leading zeros
+unfoldable pub decimalOf : ℕ → Field
+unfolding digitsBefore
+decimalOf n = digitsBefore (suc n) n []
 
 -- ---- questions 1 to 5
 
