@@ -1,8 +1,9 @@
 -- Laws of the sheet's definitions.
 -- Assumes nothing.
-use mathlib.Core.Path.{_≡_, refl, sym, ap, ap₂, _∙_}
-use mathlib.Core.Bool.{Bool, true, false, not, _&&_, _||_}
-use mathlib.Core.List.{List, [], _∷_, _++_}
+use mathlib.Core.Path.{_≡_, refl, sym, ap, _∙_}
+use mathlib.Core.Logic.{_⊎_, inl, inr, ⊎-elim}
+use mathlib.Core.Bool.{Bool, true, false, not, _&&_, _||_, true≢false}
+use mathlib.Core.List.{List, [], _∷_, _++_, map}
 use Prim.Native.Nat.{ℕ, zero, suc, _+_, _-_, _*_, _/_, _%_, _≤_, _<_}
 use native.Mathlib.Omega.{arith}
 use native.Mathlib.Nat.{not-suc-le-zero, le-of-suc-le-suc, add-zero, zero-add}
@@ -12,7 +13,7 @@ use lib.ListN.{length, getD, take, drop, set, replicate, length-set, length-take
 use lib.Seq.{getD-set-same, getD-set-other, set-out, getD-take, getD-drop}
 use borrow.Author.Tests.{eq-eqb, ne-eqb, eqb-true, eqb-false, le-leb, lt-leb, leb-true, lt-ltb, ltb-true, ltb-false}
 use Rattle.rules.specs.Family.{columnsFrom, nonzero, allNonzero}
-use Rattle.rules.specs.Sheet.{levelCells, textMost, plotsMost, kindMost, fieldsMost, levelMost, within, all, newline, tab, upTo, past, has, Line, extend, lines, fields, Field, widen, digit, isName, sameBytes, plotMark, treatmentMark, isColumn, isKind, countKind, newName, namesDiffer, isHeader, header, decimalFrom, decimal, noLeadingZero, isLevel, isRow, isPlotLine, laterLines, columnsAfter, withPlot, withPlots, joined, digitsBefore, decimalOf, question1, question2, question3, question4, question5, Outcome, read, refused, counts, readingFrom3, reading, levelsAfter}
+use Rattle.rules.specs.Sheet.{levelCells, textMost, plotsMost, kindMost, fieldsMost, levelMost, within, all, newline, tab, upTo, past, has, Line, extend, lines, fields, Field, widen, digit, isName, sameBytes, plotMark, treatmentMark, isColumn, isKind, countKind, newName, namesDiffer, isHeader, header, decimalFrom, decimal, noLeadingZero, isLevel, isRow, isPlotLine, laterLines, columnsAfter, withPlot, withPlots, levelIn, Used, noLine, free, joined, printed, digitsBefore, decimalOf, question1, question2, question3, question4, question5, Outcome, read, refused, counts, readingFrom3, reading, levelsAfter}
 use Rattle.rules.proofs.Numbering.{by-cases}
 use Rattle.rules.proofs.Members.{clash}
 
@@ -293,6 +294,17 @@ plot-hits (d ∷ cs) u (f ∷ fs) T c a l h k =
     suc-injective : suc (length fs) ≡ suc (length cs) → length fs ≡ length cs
     suc-injective z = omega arith
 
+pub length-withPlots : (cs : List ℕ) (u : ℕ) (ls : List Line) (T : List ℕ) → length (withPlots cs u ls T) ≡ length T
+unfolding withPlots
+length-withPlots cs u [] T = refl
+length-withPlots cs u (l ∷ ls) T = length-withPlots cs (suc u) ls (withPlot cs u (fields (l .bytes)) T) ∙ length-withPlot cs u (fields (l .bytes)) T
+
+-- the level table keeps its length
+pub length-after : (o : Outcome) (text levels : List ℕ) → length (levelsAfter o text levels) ≡ length levels
+unfolding levelsAfter
+length-after (refused q) text levels = refl
+length-after (read n p t) text levels = length-withPlots (columnsAfter 0 0 (header text)) 0 (laterLines text) levels
+
 -- the fields of a plot line
 row-levels : (n : ℕ) (l : Line) → isPlotLine n l ≡ true → (length (fields (l .bytes)) ≡ n) × (all isLevel (fields (l .bytes)) ≡ true)
 unfolding isPlotLine isRow
@@ -426,6 +438,158 @@ module _ (text levels : List ℕ) (n p t : ℕ) (e : reading text levels ≡ rea
       let s = read-accepts text levels n p t e in
       used c u (treatment-column 0 0 (header text) c (s .header-good .columns) (omega arith) (omega (arith, s .treatment-columns))) (omega (arith, s .treatment-columns, s .header-good .treatments)) l)
 
+-- ---- the level table cell by cell
+
+-- cells of other places are not touched
+plot-misses : (cs : List ℕ) (u : ℕ) (fs : List Field) (T : List ℕ) (i : ℕ) → ((c : ℕ) → has c cs ≡ true → i ≡ 240 * c + u → ⊥) → getD (withPlot cs u fs T) i 0 ≡ getD T i 0
+unfolding withPlot
+plot-misses [] u fs T i h = refl
+plot-misses (c ∷ cs) u [] T i h = refl
+plot-misses (c ∷ cs) u (f ∷ fs) T i h =
+    plot-misses cs u fs (set T (240 * c + u) (decimal f)) i (λ d e. h d (has-later d c cs e))
+    ∙ getD-set-other T (240 * c + u) i (decimal f) 0 (h c (has-here c cs))
+
+plots-miss : (cs : List ℕ) (u : ℕ) (ls : List Line) (T : List ℕ) (i : ℕ) → ((c v : ℕ) → has c cs ≡ true → v < length ls → i ≡ 240 * c + (u + v) → ⊥)
+    → getD (withPlots cs u ls T) i 0 ≡ getD T i 0
+unfolding withPlots
+plots-miss cs u [] T i h = refl
+plots-miss cs u (l ∷ ls) T i h =
+    plots-miss cs (suc u) ls (withPlot cs u (fields (l .bytes)) T) i (λ c v e k z. h c (suc v) e (omega arith) (omega arith))
+    ∙ plot-misses cs u (fields (l .bytes)) T i (λ c e z. h c 0 e (omega arith) (omega arith))
+
+-- no column is taken twice
+unfoldable distinct : List ℕ → Bool
+unfolding has
+distinct [] = true
+distinct (c ∷ cs) = not (has c cs) && distinct cs
+
+plot-reads : (cs : List ℕ) (u : ℕ) (fs : List Field) (T : List ℕ) (c : ℕ) → distinct cs ≡ true → length fs ≡ length cs → has c cs ≡ true → 240 * c + u < length T
+    → getD (withPlot cs u fs T) (240 * c + u) 0 ≡ levelIn c cs fs
+unfolding withPlot distinct has levelIn
+plot-reads [] u fs T c d l h k = clash h refl
+plot-reads (b ∷ cs) u [] T c d l h k = absurd (no l)
+  where
+    no : 0 ≡ suc (length cs) → ⊥
+    no z = omega arith
+plot-reads (b ∷ cs) u (f ∷ fs) T c d l h k =
+    by-cases (eqb b c)
+    (λ e. let q = eqb-true b c e in
+    rw (e, levelIn) (plot-misses cs u fs (set T (240 * b + u) (decimal f)) (240 * c + u) (λ a m z. alone q a m z)
+    ∙ rw q (getD-set-same T (240 * c + u) (decimal f) 0 k)))
+    (λ e. rw (e, levelIn) (plot-reads cs u fs (set T (240 * b + u) (decimal f)) c (and-right (not (has b cs)) (distinct cs) d) (less l) (rw (e, has) at h) (rw (length-set T (240 * b + u) (decimal f)) k)))
+  where
+    less : suc (length fs) ≡ suc (length cs) → length fs ≡ length cs
+    less z = omega arith
+
+    alone : b ≡ c → (a : ℕ) → has a cs ≡ true → 240 * c + u ≡ 240 * a + u → ⊥
+    alone q a m z =
+        let w : a ≡ b = omega arith in
+        absurd (true≢false (sym (rw w at m) ∙ not-yes (has b cs) (and-left (not (has b cs)) (distinct cs) d)))
+
+plots-read : (cs : List ℕ) (u : ℕ) (ls : List Line) (T : List ℕ) (c v : ℕ) → distinct cs ≡ true → all (isPlotLine (length cs)) ls ≡ true → has c cs ≡ true → v < length ls
+    → u + length ls ≤ 240 → 240 * c + (u + v) < length T → getD (withPlots cs u ls T) (240 * c + (u + v)) 0 ≡ levelIn c cs (fields (getD ls v noLine .bytes))
+unfolding withPlots all
+plots-read cs u [] T c v d a h l b k = absurd (not-suc-le-zero l)
+plots-read cs u (x ∷ ls) T c zero d a h l b k =
+    let r = row-levels (length cs) x (and-left (isPlotLine (length cs) x) (all (isPlotLine (length cs)) ls) a) in
+    rw add-zero
+    (plots-miss cs (suc u) ls (withPlot cs u (fields (x .bytes)) T) (240 * c + u) (λ e w m n z. omega arith)
+    ∙ plot-reads cs u (fields (x .bytes)) T c d (r .0) h (omega arith))
+plots-read cs u (x ∷ ls) T c (suc v) d a h l b k =
+    let e : u + suc v ≡ suc u + v = omega arith in
+    rw e (plots-read cs (suc u) ls (withPlot cs u (fields (x .bytes)) T) c v d (and-right (isPlotLine (length cs) x) (all (isPlotLine (length cs)) ls) a) h (le-of-suc-le-suc l) (omega arith)
+    (rw (length-withPlot cs u (fields (x .bytes)) T) (omega arith)))
+
+-- the columns that a header takes, and no others
+columns-only : (p t : ℕ) (fs : List Field) (c : ℕ) → all isColumn fs ≡ true → has c (columnsAfter p t fs) ≡ true
+    → ((p ≤ c) × (c < p + countKind plotMark fs)) ⊎ ((6 + t ≤ c) × (c < 6 + t + countKind treatmentMark fs))
+unfolding all columnsAfter countKind has
+columns-only p t [] c a h = clash h refl
+columns-only p t (f ∷ fs) c a h =
+    let g = and-left (isColumn f) (all isColumn fs) a in
+    let r = and-right (isColumn f) (all isColumn fs) a in
+    by-cases (eqb (getD f 0 0) 112)
+    (λ b. let q = column-plot f g (eqb-true _ _ b) in
+    let y = kind-yes plotMark f fs (q .0) in
+    let n = kind-no treatmentMark f fs (q .1) in
+    let k = rw (q .0, columnsAfter) at h in
+    by-cases (eqb p c)
+    (λ z. let w = eqb-true p c z in inl (omega arith, omega arith))
+    (λ z. ⊎-elim (λ w. inl (omega arith, omega arith)) (λ w. inr (omega arith, omega arith)) (columns-only (suc p) t fs c r (rw (z, has) at k))))
+    (λ b. let q = column-treatment f g (eqb-false _ _ b) in
+    let y = kind-no plotMark f fs (q .0) in
+    let n = kind-yes treatmentMark f fs (q .1) in
+    let k = rw (q .0, columnsAfter) at h in
+    by-cases (eqb (6 + t) c)
+    (λ z. let w = eqb-true (6 + t) c z in inr (omega arith, omega arith))
+    (λ z. ⊎-elim (λ w. inl (omega arith, omega arith)) (λ w. inr (omega arith, omega arith)) (columns-only p (suc t) fs c r (rw (z, has) at k))))
+
+columns-distinct : (p t : ℕ) (fs : List Field) → all isColumn fs ≡ true → p + countKind plotMark fs ≤ 6 → distinct (columnsAfter p t fs) ≡ true
+unfolding all columnsAfter countKind distinct
+columns-distinct p t [] a l = refl
+columns-distinct p t (f ∷ fs) a l =
+    let g = and-left (isColumn f) (all isColumn fs) a in
+    let r = and-right (isColumn f) (all isColumn fs) a in
+    by-cases (eqb (getD f 0 0) 112)
+    (λ b. let q = column-plot f g (eqb-true _ _ b) in
+    let y = kind-yes plotMark f fs (q .0) in
+    let no : has p (columnsAfter (suc p) t fs) ≡ false =
+    by-cases (has p (columnsAfter (suc p) t fs)) (λ h. ⊎-elim (λ w. absurd (below p (w .0))) (λ w. absurd (above p t (w .0) (omega arith))) (columns-only (suc p) t fs p r h)) (λ h. h) in
+    rw (q .0, columnsAfter, no) (columns-distinct (suc p) t fs r (omega arith)))
+    (λ b. let q = column-treatment f g (eqb-false _ _ b) in
+    let y = kind-no plotMark f fs (q .0) in
+    let no : has (6 + t) (columnsAfter p (suc t) fs) ≡ false =
+    by-cases (has (6 + t) (columnsAfter p (suc t) fs)) (λ h. ⊎-elim (λ w. absurd (past-six t (p + countKind plotMark fs) (w .1) (omega arith))) (λ w. absurd (next-six t (w .0))) (columns-only p (suc t) fs (6 + t) r h)) (λ h. h) in
+    rw (q .0, columnsAfter, no) (columns-distinct p (suc t) fs r (omega arith)))
+  where
+    below : (a : ℕ) → suc a ≤ a → ⊥
+    below a h = omega arith
+
+    next-six : (t : ℕ) → 6 + suc t ≤ 6 + t → ⊥
+    next-six t h = omega arith
+
+    above : (p t : ℕ) → 6 + t ≤ p → p < 6 → ⊥
+    above p t h k = omega arith
+
+    past-six : (t s : ℕ) → 6 + t < s → s ≤ 6 → ⊥
+    past-six t s h k = omega arith
+
+module _ (text levels : List ℕ) (n p t : ℕ) (e : reading text levels ≡ read n p t) where
+  taken : (c : ℕ) → Used p t c → (has c (columnsAfter 0 0 (header text)) ≡ true) × (c < 12)
+  taken c w =
+      let s = read-accepts text levels n p t e in
+      ⊎-elim
+      (λ h. (plot-column 0 0 (header text) c (s .header-good .columns) (omega arith) (omega (arith, s .plot-columns)), omega (arith, s .plot-columns, s .header-good .plots)))
+      (λ h. (treatment-column 0 0 (header text) c (s .header-good .columns) (omega arith) (omega (arith, s .treatment-columns)), omega (arith, s .treatment-columns, s .header-good .treatments)))
+      w
+
+  -- a used cell holds the level of its plot and column
+  pub cell-read : (c u : ℕ) → Used p t c → u < n
+      → getD (levelsAfter (reading text levels) text levels) (240 * c + u) 0 ≡ levelIn c (columnsAfter 0 0 (header text)) (fields (getD (laterLines text) u noLine .bytes))
+  cell-read c u w l =
+      let a = read-accepts text levels n p t e in
+      let k = taken c w in
+      let s : length (columnsAfter 0 0 (header text)) ≡ length (header text) = length-columns 0 0 (header text) in
+      let g : all (isPlotLine (length (columnsAfter 0 0 (header text)))) (laterLines text) ≡ true = rw s (a .lines-good) in
+      let d = columns-distinct 0 0 (header text) (a .header-good .columns) (omega (arith, a .header-good .plots)) in
+      let v : u < length (laterLines text) = omega (arith, a .plots) in
+      let few : 0 + length (laterLines text) ≤ 240 = omega (arith, a .plots, a .plots-few) in
+      let room : 240 * c + (0 + u) < length levels = omega (arith, a .plots-few, a .table-fits) in
+      rw (after text levels n p t e) (rw (zero-add u) at (plots-read (columnsAfter 0 0 (header text)) 0 (laterLines text) levels c u d g (k .0) v few room))
+
+  -- a cell that no plot or column uses is not touched
+  pub cell-kept : (i : ℕ) → ((c u : ℕ) → Used p t c → u < n → i ≡ 240 * c + u → ⊥) → getD (levelsAfter (reading text levels) text levels) i 0 ≡ getD levels i 0
+  cell-kept i h =
+      let a = read-accepts text levels n p t e in
+      rw (after text levels n p t e)
+      (plots-miss (columnsAfter 0 0 (header text)) 0 (laterLines text) levels i
+      (λ c v m l z. h c v (used-column a c m) (omega (arith, a .plots)) (omega arith)))
+    where
+      used-column : Accepts text levels n p t → (c : ℕ) → has c (columnsAfter 0 0 (header text)) ≡ true → Used p t c
+      used-column a c m =
+          ⊎-elim (λ w. inl (omega (arith, a .plot-columns))) (λ w. inr (omega arith, omega (arith, a .treatment-columns)))
+          (columns-only 0 0 (header text) c (a .header-good .columns) m)
+
 -- ---- what is printed is read back
 
 pub fields-one : (f : Field) → has tab f ≡ false → fields f ≡ f ∷ []
@@ -444,10 +608,6 @@ fields-more (x ∷ f) xs h =
     (λ e. clash (rw (e, has)) h)
     (λ e. rw (e, fields, fields-more f xs (rw (e, has) at h)))
 
--- no field has a tab
-abbrev pub free : ℕ → Field → Bool
-free b f = not (has b f)
-
 pub fields-joined : (f : Field) (fs : List Field) → all (free tab) (f ∷ fs) ≡ true → fields (joined (f ∷ fs)) ≡ f ∷ fs
 unfolding joined all
 fields-joined f [] a = fields-one f (not-yes (has tab f) (and-left (free tab f) true a))
@@ -462,6 +622,18 @@ lines-more (x ∷ l) xs h =
     by-cases (eqb x newline)
     (λ e. clash (rw (e, has)) h)
     (λ e. rw (e, lines, lines-more l xs (rw (e, has) at h)))
+
+-- a line that is printed
+abbrev pub printedLine : List Field → Line
+printedLine fs = record { bytes = joined fs; ended = true }
+
+pub lines-printed : (ls : List (List Field)) → all (λ fs. free newline (joined fs)) ls ≡ true → lines (printed ls) ≡ map printedLine ls
+unfolding printed all lines
+lines-printed [] a = refl
+lines-printed (fs ∷ ls) a =
+    let rest : Bool = all (λ fs. free newline (joined fs)) ls in
+    lines-more (joined fs) (printed ls) (not-yes (has newline (joined fs)) (and-left (free newline (joined fs)) rest a))
+    ∙ ap (λ (r : List Line). printedLine fs ∷ r) (lines-printed ls (and-right (free newline (joined fs)) rest a))
 
 -- a level's digits
 digits-value : (k n : ℕ) (ds : List ℕ) → n < k → decimalFrom 0 (digitsBefore k n ds) ≡ decimalFrom n ds

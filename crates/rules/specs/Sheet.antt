@@ -2,7 +2,8 @@
 -- Assumes nothing.
 use mathlib.Core.Bool.{Bool, true, false, not, _&&_, _||_}
 use mathlib.Core.List.{List, [], _∷_, _++_}
-use Prim.Native.Nat.{ℕ, zero, suc, _+_, _-_, _*_, _/_, _%_}
+use mathlib.Core.Logic.{_⊎_}
+use Prim.Native.Nat.{ℕ, zero, suc, _+_, _-_, _*_, _/_, _%_, _<_, _≤_}
 use lib.Dec.{eqb, leb, ltb}
 use lib.ListN.{length, drop, set}
 
@@ -231,7 +232,24 @@ unfolding withPlot fields
 withPlots cs u [] levels = levels
 withPlots cs u (l ∷ ls) levels = withPlots cs (suc u) ls (withPlot cs u (fields (l .bytes)) levels)
 
+-- the same by cells (cell-read and cell-kept in proofs/Sheet): the level of the field that takes column c
+unfoldable pub levelIn : ℕ → List ℕ → List Field → ℕ
+levelIn c [] fs = 0
+levelIn c (d ∷ cs) [] = 0
+levelIn c (d ∷ cs) (f ∷ fs) = elim (eqb d c) [ true ↦ decimal f | false ↦ levelIn c cs fs ]
+
+-- column c is used by p plot and t treatment columns
+abbrev pub Used : ℕ → ℕ → ℕ → Type 0
+Used p t c = (c < p) ⊎ ((kindMost ≤ c) × (c < kindMost + t))
+
+abbrev pub noLine : Line
+noLine = record { bytes = []; ended = false }
+
 -- ---- printing
+
+-- the byte b is not in the field
+abbrev pub free : ℕ → List ℕ → Bool
+free b f = not (has b f)
 
 -- a line's fields, parted by tabs
 unfoldable pub joined : List Field → List ℕ

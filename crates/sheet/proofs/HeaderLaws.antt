@@ -1,40 +1,29 @@
 -- Laws of a walk over the first line.
 -- Assumes nothing.
-use mathlib.Core.Path.{_≡_, refl, sym, ap, ap₂, _∙_, subst}
-use mathlib.Core.Bool.{Bool, true, false, not, _&&_, _||_}
+use mathlib.Core.Path.{_≡_, refl, sym, ap, _∙_}
+use mathlib.Core.Bool.{true, false, _&&_}
 use mathlib.Core.List.{List, [], _∷_, _++_}
-use Prim.Native.Nat.{ℕ, zero, suc, _+_, _-_, _*_, _≤_, _<_}
+use Prim.Native.Nat.{ℕ, zero, suc, _+_, _≤_, _<_}
 use native.Mathlib.Omega.{arith}
-use native.Mathlib.Nat.{not-suc-le-zero, le-of-suc-le-suc, le-of-lt, zero-add}
+use native.Mathlib.Nat.{le-of-lt, zero-add}
 use native.Mathlib.Numerals.{add-one}
 use lib.Dec.{eqb, ltb, leb}
 use lib.ListN.{length, getD, take, drop, set, length-drop}
-use lib.Seq.{slice, drop-drop, getD-drop, drop-cons, set-at, length-take-le, take-suc, append-snoc, take-all, take-at}
-use borrow.Author.Tests.{eq-eqb, ne-eqb, eqb-true, eqb-false, lt-ltb, ltb-true, ltb-false, le-leb, lt-leb, leb-true}
-use Rattle.rules.specs.Sheet.{Field, newline, plotMark, treatmentMark, upTo, has, fields, all, isName, isColumn, isKind, countKind, sameBytes, nameOf, newName, namesDiffer, header, columnsAfter, within, isHeader, question3}
+use lib.Seq.{slice, drop-drop, drop-cons, set-at, length-take-le, take-suc, append-snoc, take-all, take-at}
+use borrow.Author.Tests.{eq-eqb, ne-eqb, eqb-true, eqb-false, ltb-true, ltb-false, le-leb, lt-leb}
+use Rattle.rules.specs.Sheet.{Field, upTo, has, fields, all, isColumn, isKind, countKind, sameBytes, nameOf, newName, namesDiffer, header, columnsAfter, within, isHeader, question3}
 use Rattle.rules.proofs.Sheet.{and-false, and-left, and-right, fields-some, kind-yes, kind-no, column-plot, column-treatment, kinds-all}
 use Rattle.rules.proofs.Members.{clash}
 use Rattle.rules.proofs.Numbering.{by-cases}
-use Rattle.sheet.specs.Walk.{fieldOf, isPlace}
+use Rattle.sheet.specs.Walk.{fieldOf}
 use Rattle.sheet.specs.Answers.{noHeader, marked, headed}
 use Rattle.sheet.specs.declared.header.Header.{Header}
-use Rattle.sheet.proofs.Stops.{AtTab, AtNewline, AtEnd, Stop, at-tab, at-newline, at-end, stop, slice-field}
+use Rattle.sheet.proofs.Stops.{AtTab, AtNewline, AtEnd, Stop, at-tab, at-newline, at-end, stop, field-byte, field-part, field-next}
 use Rattle.sheet.proofs.Walk.{slice-next, slice-none, field-tab, field-newline, field-on}
 
 -- ---- the place e where the field that starts at `at` ends
 
 module _ (text : List ℕ) (at e : ℕ) (d : e ≡ at + length (fieldOf (drop at text))) where
-  byte : getD text e 0 ≡ getD (drop at text) (length (fieldOf (drop at text))) 0
-  byte = rw d (sym (getD-drop at text (length (fieldOf (drop at text))) 0))
-
-  pub part : slice at e text ≡ fieldOf (drop at text)
-  part = rw d (slice-field text at)
-
-  pub next : drop (suc (length (fieldOf (drop at text)))) (drop at text) ≡ drop (e + 1) text
-  next =
-      let k : at + suc (length (fieldOf (drop at text))) ≡ e + 1 = omega arith in
-      drop-drop (suc (length (fieldOf (drop at text)))) at text ∙ ap (λ (k : ℕ). drop k text) k
-
   pub inside : has 10 (drop at text) ≡ true → e < length text
   inside h = go (stop (drop at text))
     where
@@ -58,7 +47,7 @@ module _ (text : List ℕ) (at e : ℕ) (d : e ≡ at + length (fieldOf (drop at
   newline-here h b = go (stop (drop at text))
     where
       not-tab : getD (drop at text) (length (fieldOf (drop at text))) 0 ≡ 9 → ⊥
-      not-tab z = let y : getD (drop at text) (length (fieldOf (drop at text))) 0 ≡ 10 = sym byte ∙ b in omega arith
+      not-tab z = let y : getD (drop at text) (length (fieldOf (drop at text))) 0 ≡ 10 = sym (field-byte text at e d) ∙ b in omega arith
 
       no : length (drop at text) ≤ length (fieldOf (drop at text)) → ⊥
       no l = omega (arith, length-drop at text)
@@ -76,7 +65,7 @@ module _ (text : List ℕ) (at e : ℕ) (d : e ≡ at + length (fieldOf (drop at
 
       go : Stop (drop at text) → AtTab (drop at text)
       go (at-tab r) = r
-      go (at-newline r) = absurd (b (byte ∙ r .byte))
+      go (at-newline r) = absurd (b (field-byte text at e d ∙ r .byte))
       go (at-end r) = absurd (no (r .all-of-it))
 
 -- ---- kinds
@@ -124,7 +113,7 @@ module _ (text : List ℕ) (at e p t : ℕ) (d : e ≡ at + length (fieldOf (dro
   marks-bad b = marked-no at p t (drop at text) (go (stop (drop at text)))
     where
       bad : isColumn (fieldOf (drop at text)) ≡ false
-      bad = sym (ap isColumn (part text at e d)) ∙ b
+      bad = sym (ap isColumn (field-part text at e d)) ∙ b
 
       go : Stop (drop at text) → all isColumn (fields (upTo 10 (drop at text))) ≡ false
       go (at-tab r) = rw (r .parts, bad)
@@ -137,7 +126,7 @@ module _ (text : List ℕ) (at e p t : ℕ) (d : e ≡ at + length (fieldOf (dro
     marks-last b =
         let r = newline-here text at e d inText b in
         let k = tally [] in
-        let f = part text at e d in
+        let f = field-part text at e d in
         let a : all isColumn (fields (upTo 10 (drop at text))) ≡ true = rw (r .parts, ← f, good) in
         let x : at + suc (length (upTo 10 (drop at text))) ≡ e + 1 = omega (arith, r .size) in
         let y : p + countKind 112 (fields (upTo 10 (drop at text))) ≡ p′ = rw (r .parts, ← f) (omega arith) in
@@ -156,18 +145,18 @@ module _ (text : List ℕ) (at e p t : ℕ) (d : e ≡ at + length (fieldOf (dro
         r = tab-here text at e d inText b
 
         f : slice at e text ≡ fieldOf (drop at text)
-        f = part text at e d
+        f = field-part text at e d
 
         parts : fields (upTo 10 (drop at text)) ≡ fieldOf (drop at text) ∷ fields (upTo 10 (drop (e + 1) text))
-        parts = rw (next text at e d) at (r .parts)
+        parts = rw (field-next text at e d) at (r .parts)
 
         ends : has 10 (drop at text) ≡ has 10 (drop (e + 1) text)
-        ends = rw (next text at e d) at (r .ends)
+        ends = rw (field-next text at e d) at (r .ends)
 
         same : has 10 (drop (e + 1) text) ≡ true → all isColumn (fields (upTo 10 (drop (e + 1) text))) ≡ true → marked at p t (drop at text) ≡ marked (e + 1) p′ t′ (drop (e + 1) text)
         same h a =
             let k = tally (fields (upTo 10 (drop (e + 1) text))) in
-            let s = rw (next text at e d) at (r .size) in
+            let s = rw (field-next text at e d) at (r .size) in
             let x : at + suc (length (upTo 10 (drop at text))) ≡ e + 1 + suc (length (upTo 10 (drop (e + 1) text))) = omega arith in
             let y : p + countKind 112 (fields (upTo 10 (drop at text))) ≡ p′ + countKind 112 (fields (upTo 10 (drop (e + 1) text))) = rw (parts, ← f) (k .0) in
             let z : t + countKind 116 (fields (upTo 10 (drop at text))) ≡ t′ + countKind 116 (fields (upTo 10 (drop (e + 1) text))) = rw (parts, ← f) (k .1) in
@@ -208,14 +197,14 @@ module _ (text : List ℕ) (at e : ℕ) (d : e ≡ at + length (fieldOf (drop at
 
   header-last : getD text e 0 ≡ 10 → header (drop at text) ≡ slice at e text ∷ []
   unfolding header
-  header-last b = rw (newline-here text at e d (inside text at e d h) b .parts, part text at e d)
+  header-last b = rw (newline-here text at e d (inside text at e d h) b .parts, field-part text at e d)
 
   header-on : (getD text e 0 ≡ 10 → ⊥) → header (drop at text) ≡ slice at e text ∷ header (drop (e + 1) text)
   unfolding header
-  header-on b = rw (tab-here text at e d (inside text at e d h) b .parts, next text at e d, part text at e d)
+  header-on b = rw (tab-here text at e d (inside text at e d h) b .parts, field-next text at e d, field-part text at e d)
 
   pub rest-ended : (getD text e 0 ≡ 10 → ⊥) → has 10 (drop (e + 1) text) ≡ true
-  rest-ended b = sym (rw (next text at e d) at (tab-here text at e d (inside text at e d h) b .ends)) ∙ h
+  rest-ended b = sym (rw (field-next text at e d) at (tab-here text at e d (inside text at e d h) b .ends)) ∙ h
 
   pub rest-columns : (getD text e 0 ≡ 10 → ⊥) → all isColumn (header (drop (e + 1) text)) ≡ true
   unfolding all
@@ -330,10 +319,10 @@ module _ (text : List ℕ) (at e p t c p′ t′ : ℕ) (d : e ≡ at + length (
       go zero l (at-end r) = clash (l .0) (r .ends)
       go (suc m) l (at-tab r) =
           let F = fields (upTo 10 (drop (e + 1) text)) in
-          let parts = rw (next text at e d) at (r .parts) in
+          let parts = rw (field-next text at e d) at (r .parts) in
           let q : L ≡ c ∷ columnsAfter p′ t′ F = l .2 ∙ rw parts (k F) in
           let s : suc (length F) ≡ suc (suc m) = rw parts at (l .1) in
-          (rw q, (sym (rw (next text at e d) at (r .ends)) ∙ l .0, omega arith, rw q))
+          (rw q, (sym (rw (field-next text at e d) at (r .ends)) ∙ l .0, omega arith, rw q))
       go (suc m) l (at-newline r) = absurd (no (rw (r .parts) at (l .1)))
         where
           no : _≡_ {A = ℕ} 1 (suc (suc m)) → ⊥

@@ -1,19 +1,19 @@
 -- Laws of the questions, by what the walks answer.
 -- Assumes nothing.
-use mathlib.Core.Path.{_≡_, refl, sym, ap, ap₂, _∙_}
-use mathlib.Core.Bool.{Bool, true, false, _&&_}
-use mathlib.Core.List.{List, [], _∷_}
-use Prim.Native.Nat.{ℕ, suc, _+_, _≤_, _<_}
+use mathlib.Core.Path.{_≡_, sym, ap, _∙_}
+use mathlib.Core.Bool.{true, false}
+use mathlib.Core.List.{List}
+use Prim.Native.Nat.{ℕ, suc, _≤_, _<_}
 use native.Mathlib.Omega.{arith}
 use native.Mathlib.Nat.{zero-add}
 use lib.Dec.{leb}
 use lib.ListN.{length, drop}
 use borrow.Author.Tests.{le-leb, lt-leb}
-use Rattle.rules.specs.Sheet.{Line, upTo, past, lines, all, countKind, header, laterLines, isPlotLine, question3, question4, question5, within, Outcome, read, refused, counts, readingFrom3, levelsAfter}
+use Rattle.rules.specs.Sheet.{Line, upTo, lines, all, countKind, header, laterLines, isPlotLine, question3, question4, question5, read, refused, counts, readingFrom3}
 use Rattle.rules.proofs.Sheet.{and-false}
 use Rattle.rules.proofs.Members.{clash}
 use Rattle.rules.proofs.Numbering.{by-cases}
-use Rattle.sheet.specs.Answers.{noHeader, headed, judged}
+use Rattle.sheet.specs.Answers.{headed, judged}
 use Rattle.sheet.specs.declared.header.Header.{Header}
 use Rattle.sheet.specs.declared.rows.Rows.{Rows}
 use Rattle.sheet.proofs.Stops.{past-drop}

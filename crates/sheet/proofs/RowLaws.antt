@@ -1,22 +1,22 @@
 -- Laws of a walk over the later lines.
 -- Assumes nothing.
-use mathlib.Core.Path.{_≡_, refl, sym, ap, ap₂, _∙_, subst}
-use mathlib.Core.Bool.{Bool, true, false, not, _&&_, _||_}
-use mathlib.Core.List.{List, [], _∷_, _++_}
-use Prim.Native.Nat.{ℕ, zero, suc, _+_, _-_, _*_, _≤_, _<_}
+use mathlib.Core.Path.{_≡_, refl, sym, ap, _∙_}
+use mathlib.Core.Bool.{Bool, true, false, _&&_}
+use mathlib.Core.List.{List, [], _∷_}
+use Prim.Native.Nat.{ℕ, suc, _+_, _≤_, _<_}
 use native.Mathlib.Omega.{arith}
 use native.Mathlib.Nat.{add-zero}
-use lib.Dec.{eqb, ltb, leb}
-use lib.ListN.{length, getD, take, drop, drop-of-length-le, length-drop}
-use lib.Seq.{slice, drop-cons, drop-drop, getD-drop}
+use lib.Dec.{eqb, ltb}
+use lib.ListN.{length, getD, drop, drop-of-length-le, length-drop}
+use lib.Seq.{slice, drop-cons, drop-drop}
 use borrow.Author.Tests.{eq-eqb, ne-eqb, eqb-true, eqb-false, lt-ltb, le-ltb, ltb-true}
-use Rattle.rules.specs.Sheet.{Field, Line, upTo, past, has, fields, widen, lines, all, isLevel, isRow, isPlotLine}
+use Rattle.rules.specs.Sheet.{Field, Line, upTo, past, has, fields, lines, all, isLevel, isRow, isPlotLine}
 use Rattle.rules.proofs.Numbering.{by-cases}
 use Rattle.rules.proofs.Members.{clash}
 use Rattle.rules.proofs.Sheet.{and-false, fields-some}
 use Rattle.sheet.specs.Walk.{fieldOf, levelOf, levelThere, levelEnd, rowThere, rowEnd}
 use Rattle.sheet.specs.Answers.{judged}
-use Rattle.sheet.proofs.Stops.{AtTab, AtNewline, AtEnd, Stop, at-tab, at-newline, at-end, stop, slice-field, past-drop, lines-cons}
+use Rattle.sheet.proofs.Stops.{AtTab, AtNewline, Stop, at-tab, at-newline, at-end, stop, field-byte, field-part, past-drop, lines-cons}
 use Rattle.sheet.proofs.Walk.{level-not, level-yes}
 
 eqb-suc : (a b : ℕ) → eqb (suc a) (suc b) ≡ eqb a b
@@ -57,36 +57,24 @@ module _ (s at : ℕ) (xs : List ℕ) where
 
 -- by the place e where the field ends
 module _ (text : List ℕ) (start e s : ℕ) (d : e ≡ start + length (fieldOf (drop start text))) where
-  f : Field
-  f = fieldOf (drop start text)
-
-  part : slice start e text ≡ f
-  unfolding f
-  part = rw d (slice-field text start)
-
-  byte : getD text e 0 ≡ getD (drop start text) (length f) 0
-  unfolding f
-  byte = rw d (sym (getD-drop start text (length (fieldOf (drop start text))) 0))
-
   pub level-far : length text ≤ e → levelThere s (drop start text) ≡ false
   level-far h = not-there s start (drop start text) (λ l b. omega (arith, length-drop start text))
 
   pub level-other : (getD text e 0 ≡ s → ⊥) → levelThere s (drop start text) ≡ false
-  unfolding f
-  level-other n = not-there s start (drop start text) (λ l b. n (byte ∙ b))
+  level-other n = not-there s start (drop start text) (λ l b. n (field-byte text start e d ∙ b))
 
   pub level-bad : levelOf (slice start e text) ≡ 0 → levelThere s (drop start text) ≡ false
-  unfolding levelThere f
+  unfolding levelThere
   level-bad z =
-      rw (level-not (fieldOf (drop start text)) (sym (ap levelOf part) ∙ z))
+      rw (level-not (fieldOf (drop start text)) (sym (ap levelOf (field-part text start e d)) ∙ z))
       (and-false (ltb (length (fieldOf (drop start text))) (length (drop start text)) && eqb (getD (drop start text) (length (fieldOf (drop start text))) 0) s))
 
   pub level-good : e < length text → getD text e 0 ≡ s → (levelOf (slice start e text) ≡ 0 → ⊥) → levelThere s (drop start text) ≡ true
-  unfolding levelThere f
+  unfolding levelThere
   level-good h b n =
       let l : length (fieldOf (drop start text)) < length (drop start text) = omega (arith, length-drop start text) in
-      rw (lt-ltb (length (fieldOf (drop start text))) (length (drop start text)) l, eq-eqb (getD (drop start text) (length (fieldOf (drop start text))) 0) s (sym byte ∙ b))
-      (level-yes (fieldOf (drop start text)) (λ z. n (ap levelOf part ∙ z)))
+      rw (lt-ltb (length (fieldOf (drop start text))) (length (drop start text)) l, eq-eqb (getD (drop start text) (length (fieldOf (drop start text))) 0) s (sym (field-byte text start e d) ∙ b))
+      (level-yes (fieldOf (drop start text)) (λ z. n (ap levelOf (field-part text start e d) ∙ z)))
 
 -- ---- a line
 

@@ -1,16 +1,16 @@
 -- Where a field ends, and what that says of its line: at a tab the line goes on, at a newline it ends, at the text's end it is unended.
 -- Assumes nothing.
-use mathlib.Core.Path.{_≡_, refl, sym, ap, ap₂, _∙_, subst}
-use mathlib.Core.Bool.{Bool, true, false, not, _&&_, _||_, true≢false}
-use mathlib.Core.List.{List, [], _∷_, _++_}
-use Prim.Native.Nat.{ℕ, zero, suc, _+_, _-_, _*_, _≤_, _<_}
+use mathlib.Core.Path.{_≡_, refl, sym, ap, _∙_, subst}
+use mathlib.Core.Bool.{Bool, true, false, _||_}
+use mathlib.Core.List.{List, [], _∷_}
+use Prim.Native.Nat.{ℕ, zero, suc, _+_, _≤_, _<_}
 use native.Mathlib.Omega.{arith}
-use native.Mathlib.Nat.{not-suc-le-zero, le-of-suc-le-suc, zero-add, suc-add}
-use lib.Dec.{eqb, ltb, leb}
+use native.Mathlib.Nat.{zero-add, suc-add}
+use lib.Dec.{eqb}
 use lib.ListN.{length, getD, take, drop}
-use lib.Seq.{take-nil}
-use borrow.Author.Tests.{eq-eqb, ne-eqb, eqb-true, eqb-false, lt-ltb, le-ltb}
-use Rattle.rules.specs.Sheet.{Field, Line, upTo, past, has, fields, widen, lines, extend}
+use lib.Seq.{slice, take-nil, drop-drop, getD-drop}
+use borrow.Author.Tests.{eqb-true}
+use Rattle.rules.specs.Sheet.{upTo, past, has, fields, widen, lines, extend}
 use Rattle.sheet.specs.Walk.{fieldOf}
 
 -- ---- one byte that is neither a tab nor a newline
@@ -118,8 +118,21 @@ take-field (x ∷ xs) = go (eqb x 9 || eqb x 10) refl (take-field xs)
     go true p e = rw (p, fieldOf)
     go false p e = rw (p, fieldOf) (ap (λ (r : List ℕ). x ∷ r) e)
 
-pub slice-field : (xs : List ℕ) (at : ℕ) → drop at (take (at + length (fieldOf (drop at xs))) xs) ≡ fieldOf (drop at xs)
+slice-field : (xs : List ℕ) (at : ℕ) → drop at (take (at + length (fieldOf (drop at xs))) xs) ≡ fieldOf (drop at xs)
 slice-field xs at = drop-take at (length (fieldOf (drop at xs))) xs ∙ take-field (drop at xs)
+
+-- by the place e where the field that starts at `at` ends
+module _ (text : List ℕ) (at e : ℕ) (d : e ≡ at + length (fieldOf (drop at text))) where
+  pub field-byte : getD text e 0 ≡ getD (drop at text) (length (fieldOf (drop at text))) 0
+  field-byte = rw d (sym (getD-drop at text (length (fieldOf (drop at text))) 0))
+
+  pub field-part : slice at e text ≡ fieldOf (drop at text)
+  field-part = rw d (slice-field text at)
+
+  pub field-next : drop (suc (length (fieldOf (drop at text)))) (drop at text) ≡ drop (e + 1) text
+  field-next =
+      let k : at + suc (length (fieldOf (drop at text))) ≡ e + 1 = omega arith in
+      drop-drop (suc (length (fieldOf (drop at text)))) at text ∙ ap (λ (k : ℕ). drop k text) k
 
 -- ---- lines
 

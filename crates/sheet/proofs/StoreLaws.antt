@@ -1,22 +1,22 @@
 -- Laws of a walk that stores levels: what is left of a line's work, field by field.
 -- Assumes nothing.
-use mathlib.Core.Path.{_≡_, refl, sym, ap, ap₂, _∙_, subst}
-use mathlib.Core.Bool.{Bool, true, false, not, _&&_, _||_}
-use mathlib.Core.List.{List, [], _∷_, _++_}
-use Prim.Native.Nat.{ℕ, zero, suc, _+_, _-_, _*_, _≤_, _<_}
+use mathlib.Core.Path.{_≡_, refl, sym, ap, _∙_}
+use mathlib.Core.Bool.{true, _&&_}
+use mathlib.Core.List.{List, [], _∷_}
+use Prim.Native.Nat.{ℕ, zero, suc, _+_, _*_, _≤_, _<_}
 use native.Mathlib.Omega.{arith}
-use native.Mathlib.Nat.{not-suc-le-zero, le-of-suc-le-suc, add-suc}
+use native.Mathlib.Nat.{not-suc-le-zero, le-of-suc-le-suc}
 use native.Mathlib.Numerals.{add-one}
-use lib.Dec.{eqb, ltb, leb}
-use lib.ListN.{length, getD, take, drop, set, length-drop, length-set}
-use lib.Seq.{slice, drop-drop, drop-cons}
+use lib.Dec.{eqb, ltb}
+use lib.ListN.{length, getD, drop, set}
+use lib.Seq.{slice}
 use borrow.Author.Tests.{ltb-true, ltb-false}
 use Rattle.rules.specs.Sheet.{Field, Line, upTo, has, fields, lines, all, isLevel, decimal, withPlot, withPlots, isPlotLine}
 use Rattle.rules.proofs.Sheet.{and-left, and-right}
 use Rattle.rules.proofs.Members.{clash}
 use Rattle.rules.proofs.Numbering.{by-cases}
 use Rattle.sheet.specs.Walk.{fieldOf, levelOf, levelThere, rowThere, isPlace}
-use Rattle.sheet.proofs.Stops.{AtTab, AtNewline, AtEnd, Stop, at-tab, at-newline, at-end, stop, slice-field}
+use Rattle.sheet.proofs.Stops.{AtTab, AtNewline, Stop, at-tab, at-newline, at-end, stop, field-part, field-next}
 use Rattle.sheet.proofs.Walk.{level-some}
 use Rattle.sheet.proofs.RowLaws.{row-turn, row-last, not-there, lines-turn, lines-none}
 
@@ -77,12 +77,7 @@ one-field c cs u f fs levels = refl
 
 module _ (c : ℕ) (cs : List ℕ) (u : ℕ) (text : List ℕ) (at e : ℕ) (levels W : List ℕ) (E : ℕ) (d : e ≡ at + length (fieldOf (drop at text))) where
   stored : (s : ℕ) → levelThere s (drop at text) ≡ true → levelOf (slice at e text) ≡ decimal (fieldOf (drop at text))
-  stored s h = ap levelOf (rw d (slice-field text at)) ∙ level-some (fieldOf (drop at text)) (there-level s (drop at text) h)
-
-  next : drop (suc (length (fieldOf (drop at text)))) (drop at text) ≡ drop (e + 1) text
-  next =
-      let k : at + suc (length (fieldOf (drop at text))) ≡ e + 1 = omega arith in
-      drop-drop (suc (length (fieldOf (drop at text)))) at text ∙ ap (λ (k : ℕ). drop k text) k
+  stored s h = ap levelOf (field-part text at e d) ∙ level-some (fieldOf (drop at text)) (there-level s (drop at text) h)
 
   -- a turn: one field is stored
   pub left-turn : (m : ℕ) → Left (suc m) (c ∷ cs) u (drop at text) at levels W E
@@ -100,11 +95,11 @@ module _ (c : ℕ) (cs : List ℕ) (u : ℕ) (text : List ℕ) (at e : ℕ) (lev
       let h : levelThere 9 (drop at text) ≡ true = and-left (levelThere 9 (drop at text)) _ both in
       let r = there-tab (drop at text) h in
       let there = and-right (levelThere 9 (drop at text)) (rowThere (suc m) (drop (suc (length (fieldOf (drop at text)))) (drop at text))) both in
-      let w = rw (r .parts, next) at (l .1) in (
-        rw next at there,
+      let w = rw (r .parts, field-next text at e d) at (l .1) in (
+        rw (field-next text at e d) at there,
         ap (λ (v : ℕ). withPlot cs u (fields (upTo 10 (drop (e + 1) text))) (set levels (240 * c + u) v)) (stored 9 h)
             ∙ sym (one-field c cs u (fieldOf (drop at text)) (fields (upTo 10 (drop (e + 1) text))) levels) ∙ w,
-        omega (arith, l .2, rw next at (r .size)),
+        omega (arith, l .2, rw (field-next text at e d) at (r .size)),
       )
 
 -- a column of the level table
@@ -113,12 +108,6 @@ unfolding all
 place-at [] i e h = absurd (not-suc-le-zero h)
 place-at (c ∷ cs) zero e h = ltb-true c 12 (and-left (ltb c 12) (all isPlace cs) e)
 place-at (c ∷ cs) (suc i) e h = place-at cs i (and-right (ltb c 12) (all isPlace cs) e) (le-of-suc-le-suc h)
-
-pub length-with : (cs : List ℕ) (u : ℕ) (fs : List Field) (levels : List ℕ) → length (withPlot cs u fs levels) ≡ length levels
-unfolding withPlot
-length-with [] u fs levels = refl
-length-with (c ∷ cs) u [] levels = refl
-length-with (c ∷ cs) u (f ∷ fs) levels = length-with cs u fs (set levels (240 * c + u) (decimal f)) ∙ length-set levels (240 * c + u) (decimal f)
 
 -- ---- all lines
 

@@ -1,18 +1,17 @@
 -- Laws of the steps of a walk over a text.
 -- Assumes nothing.
-use mathlib.Core.Path.{_≡_, refl, sym, ap, ap₂, _∙_}
-use mathlib.Core.Bool.{Bool, true, false, not, _&&_, _||_}
-use mathlib.Core.List.{List, [], _∷_, _++_}
-use Prim.Native.Nat.{ℕ, zero, suc, _+_, _-_, _*_, _≤_, _<_}
+use mathlib.Core.Path.{_≡_, refl, sym, ap, _∙_}
+use mathlib.Core.Bool.{true, false, _&&_}
+use mathlib.Core.List.{List, [], _∷_}
+use Prim.Native.Nat.{ℕ, zero, suc, _+_, _≤_, _<_}
 use native.Mathlib.Omega.{arith}
 use native.Mathlib.Numerals.{add-one}
-use native.Mathlib.Nat.{not-suc-le-zero, le-of-suc-le-suc}
-use lib.Dec.{eqb, leb}
+use lib.Dec.{eqb}
 use lib.ListN.{length, getD, take, drop, drop-of-length-le, length-take}
-use lib.Seq.{slice, slice-cons, slice-empty, drop-cons}
-use borrow.Author.Tests.{eq-eqb, ne-eqb, eqb-true, eqb-false, le-leb, lt-leb}
-use Rattle.rules.specs.Sheet.{all, digit, decimal, decimalFrom, noLeadingZero, isLevel, levelMost, sameBytes}
-use Rattle.rules.proofs.Sheet.{level-leading, level-digit, level-large, level-none, level-is, level-least}
+use lib.Seq.{slice, slice-cons, drop-cons}
+use borrow.Author.Tests.{ne-eqb}
+use Rattle.rules.specs.Sheet.{all, digit, decimal, noLeadingZero, isLevel, levelMost, sameBytes}
+use Rattle.rules.proofs.Sheet.{level-none, level-is, level-least}
 use Rattle.rules.proofs.Numbering.{by-cases}
 use Rattle.sheet.specs.Walk.{fieldOf, levelOf}
 

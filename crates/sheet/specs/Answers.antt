@@ -1,11 +1,10 @@
 -- The structs and enums that the functions answer, by the rules' definitions.
 -- Assumes nothing.
-use mathlib.Core.Bool.{Bool, true, false, _&&_}
-use mathlib.Core.List.{List, [], _∷_}
+use mathlib.Core.Bool.{true, false, _&&_}
+use mathlib.Core.List.{List}
 use Prim.Native.Nat.{ℕ, suc, _+_}
 use lib.ListN.{length}
 use Rattle.rules.specs.Sheet.{Line, newline, plotMark, treatmentMark, all, has, upTo, isColumn, countKind, header, isPlotLine, question3, Outcome, read, refused}
-use Rattle.sheet.specs.declared.Counts.{Counts}
 use Rattle.sheet.specs.declared.Reading.{Reading}
 use Rattle.sheet.specs.declared.Reading.the-variants.{Read, Refused}
 use Rattle.sheet.specs.declared.header.Header.{Header}

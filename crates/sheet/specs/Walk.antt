@@ -1,10 +1,10 @@
 -- What the steps of a walk over a text answer, by the rules' definitions. `xs` is the text from the walk's place on.
 -- Assumes nothing.
-use mathlib.Core.Bool.{Bool, true, false, not, _&&_, _||_}
+use mathlib.Core.Bool.{Bool, true, false, _&&_, _||_}
 use mathlib.Core.List.{List, [], _∷_}
 use mathlib.Core.Path.{_≡_}
-use Prim.Native.Nat.{ℕ, zero, suc, _+_, _≤_, _<_}
-use lib.Dec.{eqb, leb, ltb}
+use Prim.Native.Nat.{ℕ, suc, _+_, _≤_, _<_}
+use lib.Dec.{eqb, ltb}
 use lib.ListN.{length, getD, drop}
 use Rattle.rules.specs.Sheet.{Field, tab, newline, levelCells, plotsMost, fieldsMost, all, upTo, has, fields, lines, isLevel, isRow, isPlotLine, decimal, decimalFrom, plotMark, treatmentMark, header, laterLines, question3, question4}
 

@@ -1,14 +1,10 @@
 -- `sheet::read_sheet` meets its contract.
 -- Assumes nothing.
-use Prim.Native.Nat.{ℕ, _<_, _≤_}
-use mathlib.Core.Path.{_≡_, refl, sym, _∙_}
-use mathlib.Core.Bool.{true, false, _&&_}
+use mathlib.Core.Path.{sym, _∙_}
 use native.Mathlib.Omega.{arith}
 use borrow.Author.Needs.{needs}
-use borrow.Author.Tests.{le-leb, lt-leb}
 use denote.Ref.{now}
-use lib.ListN.{length}
-use Rattle.rules.specs.Sheet.{reading, readingFrom3, levelsAfter, refused}
+use Rattle.rules.specs.Sheet.{levelsAfter}
 use Rattle.rules.proofs.Sheet.{refused-1, too-short, too-long, text-fits}
 use borrow.Author.Needs.{needs}
 use Rattle.sheet.proofs.read_sheet.Statement.{statement}

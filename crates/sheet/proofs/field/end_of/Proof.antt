@@ -1,10 +1,10 @@
 -- `sheet::field::end_of` meets its contract. The loop's invariant: the end of the field is the same from every place passed.
 -- Assumes nothing.
-use Prim.Native.Nat.{ℕ, _+_, _-_, _<_, _≤_}
+use Prim.Native.Nat.{_+_, _-_}
 use mathlib.Core.Path.{_≡_, refl, ap}
 use native.Mathlib.Omega.{arith}
 use denote.Ref.{now}
-use lib.ListN.{length, drop, getD}
+use lib.ListN.{length, drop}
 use Rattle.sheet.specs.Walk.{fieldOf}
 use Rattle.sheet.proofs.Walk.{field-none, field-tab, field-newline, field-on}
 use Rattle.sheet.proofs.field.end_of.Statement.{statement}

@@ -1,15 +1,14 @@
 -- `sheet::field::level_of` meets its contract. The loop's invariant: the digits from i on, after the number v, write the field's number.
 -- Assumes nothing.
-use Prim.Native.Nat.{ℕ, _+_, _-_, _*_, _<_, _≤_}
-use mathlib.Core.Path.{_≡_, refl, sym, ap, _∙_}
-use mathlib.Core.Bool.{Bool, true, false, _&&_}
-use mathlib.Core.List.{List, []}
+use Prim.Native.Nat.{_+_, _-_, _*_, _≤_}
+use mathlib.Core.Path.{_≡_, refl, sym, _∙_}
+use mathlib.Core.Bool.{true, false}
 use native.Mathlib.Omega.{arith}
 use denote.Ref.{now}
-use lib.Dec.{leb, eqb}
-use lib.ListN.{length, getD}
+use lib.Dec.{leb}
+use lib.ListN.{getD}
 use lib.Seq.{slice}
-use borrow.Author.Tests.{eq-eqb, ne-eqb, lt-leb, le-leb}
+use borrow.Author.Tests.{ne-eqb, lt-leb, le-leb}
 use Rattle.rules.specs.Sheet.{all, digit, decimalFrom, noLeadingZero, isLevel}
 use Rattle.rules.proofs.Sheet.{and-false, decimal-grows, level-leading, level-digit, level-large}
 use Rattle.sheet.specs.Walk.{levelOf}

@@ -1,17 +1,16 @@
 -- `sheet::field::same_bytes` meets its contract. The loop's invariant: the parts are the same exactly when what is left of them is.
 -- Assumes nothing.
-use Prim.Native.Nat.{ℕ, _+_, _-_, _<_, _≤_}
-use mathlib.Core.Path.{_≡_, refl, sym, ap, _∙_}
-use mathlib.Core.Bool.{Bool, true, false, _&&_}
+use Prim.Native.Nat.{_+_, _-_, _≤_}
+use mathlib.Core.Path.{_≡_, sym, _∙_}
 use native.Mathlib.Omega.{arith}
 use native.Mathlib.Nat.{add-zero, add-assoc}
 use denote.Ref.{now}
-use lib.ListN.{length, getD}
+use lib.ListN.{getD}
 use lib.Seq.{slice, length-slice}
 use borrow.Author.Tests.{eq-eqb, ne-eqb}
 use Rattle.rules.specs.Sheet.{sameBytes}
 use Rattle.rules.proofs.Sheet.{lengths-differ}
-use Rattle.sheet.proofs.Walk.{slice-next, slice-none, same-next}
+use Rattle.sheet.proofs.Walk.{slice-none, same-next}
 use Rattle.sheet.proofs.field.same_bytes.Statement.{statement}
 use Rattle.sheet.proofs.field.same_bytes.Tie as tie
 

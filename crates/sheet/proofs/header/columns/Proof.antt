@@ -1,19 +1,18 @@
 -- `sheet::header::columns` meets its contract. The loop's invariant: the columns up to i are in the array, and the fields from `at` on take the others.
 -- Assumes nothing.
-use Prim.Native.Nat.{ℕ, suc, _+_, _-_, _*_, _<_, _≤_}
-use mathlib.Core.Path.{_≡_, refl, sym, ap, ap₂, _∙_}
-use mathlib.Core.Bool.{Bool, true, false}
+use Prim.Native.Nat.{ℕ, suc, _+_, _-_, _<_, _≤_}
+use mathlib.Core.Path.{_≡_, refl, sym, ap, _∙_}
 use mathlib.Core.Logic.{⊎-elim}
 use mathlib.Core.List.{List}
 use native.Mathlib.Omega.{arith}
 use native.Mathlib.Nat.{sub-zero, add-zero}
 use borrow.Author.Needs.{needs}
 use denote.Ref.{now}
-use lib.ListN.{length, getD, take, drop, set, length-set, replicate, length-replicate}
+use lib.ListN.{length, getD, drop, set, length-set, replicate}
 use lib.Seq.{drop-drop, getD-drop}
-use Rattle.rules.specs.Sheet.{has, header, columnsAfter}
+use Rattle.rules.specs.Sheet.{header, columnsAfter}
 use Rattle.sheet.specs.Walk.{fieldOf}
-use Rattle.sheet.proofs.HeaderLaws.{Heads, heads-start, heads-turn, heads-inside, Takes, plot-here, treatment-here, filled, filled-step, filled-all}
+use Rattle.sheet.proofs.HeaderLaws.{Heads, heads-start, heads-turn, heads-inside, plot-here, treatment-here, filled, filled-step, filled-all}
 use Rattle.rules.proofs.Sheet.{length-columns}
 use Rattle.sheet.proofs.header.columns.Statement.{statement}
 use Rattle.sheet.proofs.header.columns.Tie as tie

@@ -1,8 +1,8 @@
 -- `sheet::header::marks` meets its contract. The loop's invariant: the fields from `at` on, after those counted, give the whole answer.
 -- Assumes nothing.
-use Prim.Native.Nat.{ℕ, suc, _+_, _-_, _<_, _≤_}
-use mathlib.Core.Path.{_≡_, refl, sym, ap, _∙_}
-use mathlib.Core.Bool.{Bool, true, false}
+use Prim.Native.Nat.{_+_, _-_, _<_, _≤_}
+use mathlib.Core.Path.{_≡_, refl, sym, _∙_}
+use mathlib.Core.Bool.{true}
 use mathlib.Core.Logic.{⊎-elim}
 use native.Mathlib.Omega.{arith}
 use borrow.Author.Needs.{needs}
@@ -11,7 +11,7 @@ use denote.Ref.{now}
 use lib.ListN.{length, getD, drop}
 use lib.Seq.{slice}
 use Rattle.rules.specs.Sheet.{isColumn}
-use Rattle.sheet.specs.Answers.{noHeader, marked}
+use Rattle.sheet.specs.Answers.{marked}
 use Rattle.sheet.proofs.HeaderLaws.{Tally, tally-plot, tally-treatment, marks-far, marks-bad, marks-on, marks-last, column-first}
 use Rattle.sheet.proofs.header.marks.Statement.{statement}
 use Rattle.sheet.proofs.header.marks.Tie as tie

@@ -1,15 +1,14 @@
 -- `sheet::header::names_differ` meets its contract. The loop's invariant: the names differ exactly when those from `at` on do.
 -- Assumes nothing.
-use Prim.Native.Nat.{ℕ, suc, _+_, _-_, _<_, _≤_}
-use mathlib.Core.Path.{_≡_, refl, sym, ap, _∙_}
-use mathlib.Core.Bool.{Bool, true, false}
+use Prim.Native.Nat.{_+_, _-_, _<_, _≤_}
+use mathlib.Core.Path.{_≡_, refl, sym, _∙_}
+use mathlib.Core.Bool.{true}
 use native.Mathlib.Omega.{arith}
 use borrow.Author.Needs.{needs}
 use borrow.Author.Tests.{not-true, not-false}
 use denote.Ref.{now}
-use lib.ListN.{length, getD, drop}
-use lib.Seq.{slice}
-use Rattle.rules.specs.Sheet.{has, all, isColumn, newName, namesDiffer, header}
+use lib.ListN.{length, drop}
+use Rattle.rules.specs.Sheet.{has, all, isColumn, namesDiffer, header}
 use Rattle.sheet.proofs.HeaderLaws.{inside, room, rest-ended, rest-columns, differ-last, differ-no, differ-on}
 use Rattle.sheet.proofs.header.names_differ.Statement.{statement}
 use Rattle.sheet.proofs.header.names_differ.Tie as tie

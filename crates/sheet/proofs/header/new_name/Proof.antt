@@ -1,13 +1,12 @@
 -- `sheet::header::new_name` meets its contract. The loop's invariant: the name is new exactly when it is new among the fields from `at` on.
 -- Assumes nothing.
-use Prim.Native.Nat.{ℕ, suc, _+_, _-_, _<_, _≤_}
-use mathlib.Core.Path.{_≡_, refl, sym, ap, ap₂, _∙_}
-use mathlib.Core.Bool.{Bool, true, false}
-use mathlib.Core.List.{List}
+use Prim.Native.Nat.{_+_, _-_, _<_, _≤_}
+use mathlib.Core.Path.{_≡_, refl, sym, ap₂, _∙_}
+use mathlib.Core.Bool.{true}
 use native.Mathlib.Omega.{arith}
 use borrow.Author.Needs.{needs}
 use denote.Ref.{now}
-use lib.ListN.{length, getD, drop}
+use lib.ListN.{length, drop}
 use lib.Seq.{slice}
 use Rattle.rules.specs.Sheet.{has, all, isColumn, sameBytes, nameOf, newName, header}
 use Rattle.sheet.proofs.HeaderLaws.{inside, room, name-part, rest-ended, rest-columns, new-here, new-last, new-on}

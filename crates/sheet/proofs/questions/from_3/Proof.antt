@@ -1,17 +1,16 @@
 -- `sheet::questions::from_3` meets its contract.
 -- Assumes nothing.
-use Prim.Native.Nat.{ℕ, suc, _+_, _<_, _≤_}
-use mathlib.Core.Path.{_≡_, refl, sym, ap, ap₂, _∙_}
-use mathlib.Core.Bool.{true, false}
+use Prim.Native.Nat.{ℕ, suc, _+_}
+use mathlib.Core.Path.{_≡_, sym, ap, ap₂, _∙_}
+use mathlib.Core.Bool.{true}
 use mathlib.Core.List.{List}
 use native.Mathlib.Omega.{arith}
 use borrow.Author.Needs.{needs}
 use borrow.Author.Tests.{not-true, not-false}
 use denote.Ref.{now}
 use lib.ListN.{length, drop}
-use Rattle.rules.specs.Sheet.{upTo, lines, countKind, header, laterLines, question3, question4, readingFrom3, levelsAfter, read}
+use Rattle.rules.specs.Sheet.{upTo, lines, countKind, header, laterLines, question3, question4, levelsAfter}
 use Rattle.rules.proofs.Sheet.{HeaderForm, header-form, kinds-all}
-use Rattle.sheet.specs.Walk.{Accepted}
 use Rattle.sheet.specs.declared.header.Header.{Header}
 use Rattle.sheet.proofs.HeaderLaws.{headed-yes}
 use Rattle.sheet.proofs.QuestionLaws.{later-at, headed-none, headed-some, judged-bad, judged-good, judged-count, refused-3, refused-4, too-few, too-many, all-read}

@@ -1,15 +1,13 @@
 -- `sheet::questions::write` meets its contract.
 -- Assumes nothing.
-use Prim.Native.Nat.{ℕ, suc, _+_, _<_, _≤_}
-use mathlib.Core.Path.{_≡_, refl, sym, ap, _∙_}
+use mathlib.Core.Path.{sym, ap, _∙_}
 use native.Mathlib.Omega.{arith}
-use native.Mathlib.Nat.{zero-add}
 use borrow.Author.Needs.{needs}
 use denote.Ref.{now}
-use lib.ListN.{length, take, drop}
-use Rattle.rules.specs.Sheet.{header, columnsAfter, lines, laterLines, all, isPlotLine, question4, withPlots}
+use lib.ListN.{length}
+use Rattle.rules.specs.Sheet.{header, all, question4}
 use Rattle.rules.proofs.Sheet.{HeaderForm, header-form, length-columns, columns-fit}
-use Rattle.sheet.specs.Walk.{Accepted, StoreAll, isPlace}
+use Rattle.sheet.specs.Walk.{isPlace}
 use Rattle.sheet.proofs.QuestionLaws.{later-at}
 use borrow.Author.Needs.{needs}
 use Rattle.sheet.proofs.questions.write.Statement.{statement}

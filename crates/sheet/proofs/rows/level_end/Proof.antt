@@ -1,11 +1,9 @@
 -- `sheet::rows::level_end` meets its contract.
 -- Assumes nothing.
-use Prim.Native.Nat.{ℕ, suc, _+_, _<_, _≤_}
-use mathlib.Core.Path.{_≡_, refl, sym, ap, _∙_}
+use mathlib.Core.Path.{sym, _∙_}
 use native.Mathlib.Omega.{arith}
 use denote.Ref.{now}
-use lib.ListN.{length, getD, drop}
-use Rattle.sheet.specs.Walk.{fieldOf}
+use lib.ListN.{drop}
 use Rattle.sheet.proofs.RowLaws.{level-far, level-other, level-bad, level-good, level-end-off, level-end-at}
 use borrow.Author.Needs.{needs}
 use Rattle.sheet.proofs.rows.level_end.Statement.{statement}

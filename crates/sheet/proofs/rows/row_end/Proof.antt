@@ -1,12 +1,12 @@
 -- `sheet::rows::row_end` meets its contract. The loop's invariant: the line ends where the rest of it does.
 -- Assumes nothing.
-use Prim.Native.Nat.{ℕ, suc, _+_, _-_, _<_, _≤_}
-use mathlib.Core.Path.{_≡_, refl, sym, ap, _∙_}
+use Prim.Native.Nat.{suc, _+_, _-_, _≤_}
+use mathlib.Core.Path.{_≡_, sym, _∙_}
 use native.Mathlib.Omega.{arith}
 use borrow.Author.Needs.{needs}
 use denote.Ref.{now}
-use lib.ListN.{length, drop}
-use Rattle.sheet.specs.Walk.{rowEnd, levelEnd}
+use lib.ListN.{drop}
+use Rattle.sheet.specs.Walk.{rowEnd}
 use Rattle.sheet.proofs.RowLaws.{row-off, row-on, row-end-last}
 use Rattle.sheet.proofs.rows.row_end.Statement.{statement}
 use Rattle.sheet.proofs.rows.row_end.Tie as tie

@@ -1,15 +1,14 @@
 -- `sheet::rows::store` meets its contract. The loop's invariant: the lines from `at` on, stored from plot u on, complete the work.
 -- Assumes nothing.
-use Prim.Native.Nat.{ℕ, suc, _+_, _-_, _*_, _<_, _≤_}
+use Prim.Native.Nat.{_-_, _≤_}
 use mathlib.Core.Path.{_≡_, refl, sym, ap, _∙_}
 use native.Mathlib.Omega.{arith}
 use native.Mathlib.Nat.{zero-add}
-use borrow.Author.Needs.{needs}
 use denote.Ref.{now}
 use lib.ListN.{length, take, drop}
-use Rattle.rules.specs.Sheet.{upTo, fields, lines, withPlot, withPlots}
-use Rattle.sheet.specs.Walk.{StoreRow, StoreAll}
-use Rattle.sheet.proofs.StoreLaws.{More, more-none, more-form, more-turn, length-with}
+use Rattle.rules.specs.Sheet.{upTo, fields, lines, withPlots}
+use Rattle.sheet.proofs.StoreLaws.{More, more-none, more-form, more-turn}
+use Rattle.rules.proofs.Sheet.{length-withPlot}
 use Rattle.sheet.proofs.rows.store.Statement.{statement}
 use Rattle.sheet.proofs.rows.store.Tie as tie
 
@@ -54,7 +53,7 @@ loop-again c =
     let m = b .loop .inv .2 in
     let w = c .before .before .store-row .ensures in (
       omega arith,
-      ap length (w .1) ∙ length-with (take (a .n) (now (a .columns))) (b .loop .u) (fields (upTo 10 (drop (b .loop .at) (now (a .text))))) (b .loop .levels) ∙ b .loop .inv .1,
+      ap length (w .1) ∙ length-withPlot (take (a .n) (now (a .columns))) (b .loop .u) (fields (upTo 10 (drop (b .loop .at) (now (a .text))))) (b .loop .levels) ∙ b .loop .inv .1,
       more-turn (take (a .n) (now (a .columns))) (a .n) (b .loop .u) (a .plots) (now (a .text)) (b .loop .at) (b .loop .levels) _ m (omega arith) _ _ (w .0) (w .1),
     )
 

@@ -1,17 +1,16 @@
 -- `sheet::rows::store_row` meets its contract. The loop's invariant: what is left of the line's work, done from here, is the whole of it.
 -- Assumes nothing.
-use Prim.Native.Nat.{ℕ, suc, _+_, _-_, _*_, _<_, _≤_}
-use mathlib.Core.Path.{_≡_, refl, sym, ap, _∙_}
+use Prim.Native.Nat.{suc, _+_, _-_, _<_, _≤_}
+use mathlib.Core.Path.{_≡_, refl}
 use native.Mathlib.Omega.{arith}
 use native.Mathlib.Numerals.{add-one}
 use native.Mathlib.Nat.{sub-zero}
-use mathlib.Core.List.{List, _∷_}
+use mathlib.Core.List.{_∷_}
 use borrow.Author.Needs.{needs}
 use denote.Ref.{now}
-use lib.ListN.{length, getD, take, drop, set, length-set, length-take, length-drop}
+use lib.ListN.{length, getD, take, drop, length-set, length-take, length-drop}
 use lib.Seq.{drop-cons, getD-take}
 use Rattle.rules.specs.Sheet.{upTo, fields, withPlot}
-use Rattle.sheet.specs.Walk.{fieldOf, rowThere, StoreRow}
 use Rattle.sheet.proofs.StoreLaws.{Left, left-start, left-inside, left-turn, place-at}
 use Rattle.sheet.proofs.rows.store_row.Statement.{statement}
 use Rattle.sheet.proofs.rows.store_row.Tie as tie
