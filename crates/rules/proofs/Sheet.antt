@@ -13,7 +13,7 @@ use lib.ListN.{length, getD, take, drop, set, replicate, length-set, length-take
 use lib.Seq.{getD-set-same, getD-set-other, set-out, getD-take, getD-drop}
 use borrow.Author.Tests.{eq-eqb, ne-eqb, eqb-true, eqb-false, le-leb, lt-leb, leb-true, lt-ltb, ltb-true, ltb-false}
 use Rattle.rules.specs.Family.{columnsFrom, nonzero, allNonzero}
-use Rattle.rules.specs.Sheet.{levelCells, textMost, plotsMost, kindMost, fieldsMost, levelMost, within, all, newline, tab, upTo, past, has, Line, extend, lines, fields, Field, widen, digit, isName, sameBytes, plotMark, treatmentMark, isColumn, isKind, countKind, newName, namesDiffer, isHeader, header, decimalFrom, decimal, noLeadingZero, isLevel, isRow, isPlotLine, laterLines, columnsAfter, withPlot, withPlots, levelIn, Used, noLine, free, joined, printed, digitsBefore, decimalOf, question1, question2, question3, question4, question5, Outcome, read, refused, counts, readingFrom3, reading, levelsAfter}
+use Rattle.rules.specs.Sheet.{levelCells, textMost, plotsMost, kindMost, fieldsMost, levelMost, within, all, newline, tab, upTo, past, has, Line, extend, lines, fields, Field, widen, digit, isName, sameBytes, plotMark, treatmentMark, isColumn, isKind, countKind, columnNames, newName, namesDiffer, isHeader, header, decimalFrom, decimal, noLeadingZero, isLevel, isRow, isPlotLine, laterLines, columnsAfter, withPlot, withPlots, levelIn, Used, noLine, free, joined, printed, digitsBefore, decimalOf, question1, question2, question3, question4, question5, Outcome, read, refused, counts, readingFrom3, reading, levelsAfter}
 use Rattle.rules.proofs.Numbering.{by-cases}
 use Rattle.rules.proofs.Members.{clash}
 
@@ -113,6 +113,11 @@ column-treatment [] e b = clash e refl
 column-treatment (x ∷ []) e b = clash e refl
 column-treatment (x ∷ y ∷ name) e b =
     (ne-eqb x 112 b, rw (ne-eqb x 112 b) at (and-left (eqb x 112 || eqb x 116) (eqb y 58) (and-left ((eqb x 112 || eqb x 116) && eqb y 58) (isName name) e)))
+
+pub length-names : (m : ℕ) (fs : List Field) → length (columnNames m fs) ≡ countKind m fs
+unfolding columnNames countKind
+length-names m [] = refl
+length-names m (f ∷ fs) = by-cases (isKind m f) (λ e. rw (e, columnNames, countKind, length-names m fs)) (λ e. rw (e, columnNames, countKind) (length-names m fs))
 
 -- every column is of one of the two kinds
 pub kinds-all : (fs : List Field) → all isColumn fs ≡ true → countKind 112 fs + countKind 116 fs ≡ length fs

@@ -79,7 +79,7 @@ unfoldable pub extend : ℕ → List Line → List Line
 extend x [] = record { bytes = x ∷ []; ended = false } ∷ []
 extend x (l ∷ ls) = record { bytes = x ∷ l .bytes; ended = l .ended } ∷ ls
 
--- nothing after the last byte 10 is no line
+-- a text's lines; the empty rest after the last byte 10 is none
 unfoldable pub lines : List ℕ → List Line
 unfolding extend
 lines [] = []
@@ -138,7 +138,7 @@ isColumn [] = false
 isColumn (x ∷ []) = false
 isColumn (x ∷ y ∷ name) = (eqb x plotMark || eqb x treatmentMark) && eqb y 58 && isName name
 
--- the column's kind and name
+-- the column is of the kind that the byte marks
 unfoldable pub isKind : ℕ → Field → Bool
 isKind mark [] = false
 isKind mark (x ∷ xs) = eqb x mark
@@ -151,6 +151,12 @@ unfoldable pub countKind : ℕ → List Field → ℕ
 unfolding isKind
 countKind mark [] = 0
 countKind mark (f ∷ fs) = elim (isKind mark f) [ true ↦ suc (countKind mark fs) | false ↦ countKind mark fs ]
+
+-- the names of a kind's columns, in sheet order
+unfoldable pub columnNames : ℕ → List Field → List (List ℕ)
+unfolding isKind
+columnNames mark [] = []
+columnNames mark (f ∷ fs) = elim (isKind mark f) [ true ↦ nameOf f ∷ columnNames mark fs | false ↦ columnNames mark fs ]
 
 -- the name of f is the name of none of these
 unfoldable pub newName : Field → List Field → Bool

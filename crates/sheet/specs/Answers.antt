@@ -34,7 +34,7 @@ headed text = elim (question3 text) [
   | false ↦ noHeader
 ]
 
--- the paper's number and values for each case of the reader's answer
+-- the number and values that the rules give each case of the reader's answer
 abbrev pub outcomeOf : Reading → Outcome
 outcomeOf (Read c) = read (c .plots) (c .«plot_columns») (c .«treatment_columns»)
 outcomeOf (Refused q) = refused q

@@ -36,12 +36,13 @@ pub fn from_3(text: &[u8], levels: &mut [u16]) -> Reading
     if 240 < plots {
         return Reading::Refused(5);
     }
-    write(text, at, n, plots, levels);
-    Reading::Read(Counts {
+    let counts = Counts {
         plots,
         plot_columns,
         treatment_columns,
-    })
+    };
+    write(text, at, n, plots, levels);
+    Reading::Read(counts)
 }
 
 // Writes the levels of a sheet that passed: its later lines start at `at`, and it has `n` columns and `plots` plots.

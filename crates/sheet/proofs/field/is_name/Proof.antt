@@ -54,7 +54,7 @@ returns-3 c =
     let t = now (s .text) in
     let e : isLetter (getD t (s .start) 0) ≡ true = sym (d .before .letter .ensures) ∙ not-false _ (d .if2 .left) in
     let l : length (slice (s .start + 1) (s .stop) t) ≡ s .stop - s .start - 1 = length-slice (s .start + 1) (s .stop) t (omega arith) ∙ omega arith in
-    rw (slice-next t (s .start) (s .stop) (omega arith) (omega arith), e, l, lt-leb 1 (s .stop - s .start - 1) (c .if3 .taken))
+    rw (slice-next t (s .start) (s .stop) (omega arith) (omega arith), e, l, lt-leb 1 (s .stop - s .start - 1) (omega arith))
 
 returns-4 : tie.Need-returns-4 Inv-loop μ-loop
 unfolding isName
@@ -64,7 +64,7 @@ returns-4 c =
     let t = now (s .text) in
     let e : isLetter (getD t (s .start) 0) ≡ true = sym (d .before .letter .ensures) ∙ not-false _ (d .if2 .left) in
     let l : length (slice (s .start + 1) (s .stop) t) ≡ s .stop - s .start - 1 = length-slice (s .start + 1) (s .stop) t (omega arith) ∙ omega arith in
-    rw (slice-next t (s .start) (s .stop) (omega arith) (omega arith), e, l, le-leb 1 (s .stop - s .start - 1) (c .before .if3 .left), lt-leb (s .stop - s .start - 1) 11 (c .if4 .taken))
+    rw (slice-next t (s .start) (s .stop) (omega arith) (omega arith), e, l, le-leb 1 (s .stop - s .start - 1) (omega arith), lt-leb (s .stop - s .start - 1) 11 (c .if4 .taken))
 
 add-i : tie.Need-add-i Inv-loop μ-loop
 add-i c = omega arith
@@ -78,7 +78,7 @@ loop-holds c =
     let e : isLetter (getD t (s .start) 0) ≡ true = sym (d .before .letter .ensures) ∙ not-false _ (d .if2 .left) in
     let l : length (slice (s .start + 1) (s .stop) t) ≡ s .stop - s .start - 1 = length-slice (s .start + 1) (s .stop) t (omega arith) ∙ omega arith in
     let n : all letterOrDigit (slice (s .start + 1) (s .stop) t) ≡ isName (slice (s .start) (s .stop) t) =
-    rw (slice-next t (s .start) (s .stop) (omega arith) (omega arith), e, l, le-leb 1 (s .stop - s .start - 1) (c .before .if3 .left), le-leb (s .stop - s .start - 1) 11 (c .if4 .left)) in
+    rw (slice-next t (s .start) (s .stop) (omega arith) (omega arith), e, l, le-leb 1 (s .stop - s .start - 1) (omega arith), le-leb (s .stop - s .start - 1) 11 (c .if4 .left)) in
     (omega arith, omega arith, n)
 
 shared-slice-read-letter-or-digit : tie.Need-shared-slice-read-letter-or-digit Inv-loop μ-loop

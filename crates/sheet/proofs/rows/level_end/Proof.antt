@@ -16,7 +16,7 @@ returns : tie.Need-returns
 returns c =
     let s = c .before .before .before .args in
     let t = now (s .text) in
-    sym (level-end-off (s .stop) (s .start) (drop (s .start) t) (level-far t (s .start) (c .before .end-of .result) (s .stop) (c .before .end-of .ensures) (c .if1 .taken)))
+    sym (level-end-off (s .stop) (s .start) (drop (s .start) t) (level-far t (s .start) (c .before .end-of .result) (s .stop) (c .before .end-of .ensures) (omega arith)))
 
 shared-slice-read-if2 : tie.Need-shared-slice-read-if2
 shared-slice-read-if2 c = omega arith
