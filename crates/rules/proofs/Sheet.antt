@@ -1,6 +1,6 @@
 -- Laws of the sheet's definitions.
 -- Assumes nothing.
-use mathlib.Core.Path.{_≡_, refl, sym, ap, _∙_}
+use mathlib.Core.Path.{_≡_, refl, sym, ap, ap₂, _∙_}
 use mathlib.Core.Logic.{_⊎_, inl, inr, ⊎-elim}
 use mathlib.Core.Bool.{Bool, true, false, not, _&&_, _||_, true≢false}
 use mathlib.Core.List.{List, [], _∷_, _++_, map}
@@ -80,6 +80,19 @@ lengths-differ [] [] n = absurd (n refl)
 lengths-differ [] (y ∷ ys) n = refl
 lengths-differ (x ∷ xs) [] n = refl
 lengths-differ (x ∷ xs) (y ∷ ys) n = rw (lengths-differ xs ys (λ e. n (ap suc e))) (and-false (eqb x y))
+
+pub same-equal : (xs ys : List ℕ) → sameBytes xs ys ≡ true → xs ≡ ys
+unfolding sameBytes
+same-equal [] [] e = refl
+same-equal [] (y ∷ ys) e = clash e refl
+same-equal (x ∷ xs) [] e = clash e refl
+same-equal (x ∷ xs) (y ∷ ys) e =
+    ap₂ (λ (a : ℕ) (r : List ℕ). a ∷ r) (eqb-true x y (and-left (eqb x y) (sameBytes xs ys) e)) (same-equal xs ys (and-right (eqb x y) (sameBytes xs ys) e))
+
+pub same-self : (xs : List ℕ) → sameBytes xs xs ≡ true
+unfolding sameBytes
+same-self [] = refl
+same-self (x ∷ xs) = rw (eq-eqb x x refl) (same-self xs)
 
 -- ---- the first line
 

@@ -1,6 +1,6 @@
 -- `sheet::questions::from_3` meets its contract.
 -- Assumes nothing.
-use Prim.Native.Nat.{ℕ, suc, _+_}
+use Prim.Native.Nat.{ℕ, suc, _+_, _<_}
 use mathlib.Core.Path.{_≡_, sym, ap, ap₂, _∙_}
 use mathlib.Core.Bool.{true}
 use mathlib.Core.List.{List}
@@ -9,7 +9,7 @@ use borrow.Author.Needs.{needs}
 use borrow.Author.Tests.{not-true, not-false}
 use denote.Ref.{now}
 use lib.ListN.{length, drop}
-use Rattle.rules.specs.Sheet.{upTo, lines, countKind, header, laterLines, question3, question4, levelsAfter}
+use Rattle.rules.specs.Sheet.{upTo, lines, countKind, header, laterLines, question3, question4, readingFrom3, levelsAfter, refused}
 use Rattle.rules.proofs.Sheet.{HeaderForm, header-form, kinds-all}
 use Rattle.sheet.specs.declared.header.Header.{Header}
 use Rattle.sheet.proofs.HeaderLaws.{headed-yes}
@@ -59,6 +59,12 @@ module _ (c : tie.Else2) where
       let d = c .before .before in
       judged-count (text d) (h d .«plot_columns» + h d .«treatment_columns») (c .before .judge .result) (lines (drop (h d .end) (text d))) (size d) (later-at (text d) (h d .end) (place d)) (c .before .judge .ensures) (not-false _ (c .if2 .left))
 
+  under : c .before .judge .result .count < 1 → readingFrom3 (text (c .before .before)) ≡ refused 5
+  under l = let k = count in too-few (text (c .before .before)) (yes-3 (c .before .before)) yes-4 (omega arith)
+
+  over : 240 < c .before .judge .result .count → readingFrom3 (text (c .before .before)) ≡ refused 5
+  over l = let k = count in too-many (text (c .before .before)) (yes-3 (c .before .before)) yes-4 (omega arith)
+
 read-header-requires : tie.Need-read-header-requires
 read-header-requires c κs = search needs
 
@@ -86,17 +92,13 @@ returns-2 c =
 returns-3 : tie.Need-returns-3
 unfolding levelsAfter
 returns-3 c =
-    let d = c .before in
-    let k = count d in
-    let e = too-few (text (d .before .before)) (yes-3 (d .before .before)) (yes-4 d) (omega arith) in
+    let e = under (c .before) (c .if3 .taken) in
     (rw e, rw e)
 
 returns-4 : tie.Need-returns-4
 unfolding levelsAfter
 returns-4 c =
-    let d = c .before .before in
-    let k = count d in
-    let e = too-many (text (d .before .before)) (yes-3 (d .before .before)) (yes-4 d) (omega arith) in
+    let e = over (c .before .before) (c .if4 .taken) in
     (rw e, rw e)
 
 write-requires : tie.Need-write-requires
