@@ -13,10 +13,10 @@ pub fn end_of(text: &[u8], start: usize) -> usize
     let mut at = start;
     while at < text.len() {
         let x = text[at];
-        if x == 9 {
+        if x == b'\t' {
             return at;
         }
-        if x == 10 {
+        if x == b'\n' {
             return at;
         }
         at += 1;
@@ -32,19 +32,19 @@ pub fn level_of(text: &[u8], start: usize, stop: usize) -> u16
     if stop <= start {
         return 0;
     }
-    if text[start] == 48 {
+    if text[start] == b'0' {
         return 0;
     }
     let mut v: u32 = 0;
     for i in start..stop {
         let x = text[i];
-        if x < 48 {
+        if x < b'0' {
             return 0;
         }
-        if 57 < x {
+        if b'9' < x {
             return 0;
         }
-        v = 10 * v + (x - 48) as u32;
+        v = 10 * v + (x - b'0') as u32;
         if 65535 < v {
             return 0;
         }
@@ -56,16 +56,16 @@ pub fn level_of(text: &[u8], start: usize, stop: usize) -> u16
 pub fn letter(x: u8) -> bool
     ensures { λ r. ⌜ r ≡ isLetter x ⌝ }
 {
-    if x < 65 {
+    if x < b'A' {
         return false;
     }
-    if x <= 90 {
+    if x <= b'Z' {
         return true;
     }
-    if x < 97 {
+    if x < b'a' {
         return false;
     }
-    x <= 122
+    x <= b'z'
 }
 
 // Whether a byte is a letter or a digit.
@@ -75,10 +75,10 @@ pub fn letter_or_digit(x: u8) -> bool
     if letter(x) {
         return true;
     }
-    if x < 48 {
+    if x < b'0' {
         return false;
     }
-    x <= 57
+    x <= b'9'
 }
 
 // Whether the bytes from `start` to `stop` are a name.
@@ -121,7 +121,7 @@ pub fn is_column(text: &[u8], start: usize, stop: usize) -> bool
     if !is_mark(text[start]) {
         return false;
     }
-    if text[start + 1] != 58 {
+    if text[start + 1] != b':' {
         return false;
     }
     is_name(text, start + 2, stop)
@@ -131,10 +131,10 @@ pub fn is_column(text: &[u8], start: usize, stop: usize) -> bool
 pub fn is_mark(x: u8) -> bool
     ensures { λ r. ⌜ r ≡ isMark x ⌝ }
 {
-    if x == 112 {
+    if x == b'p' {
         return true;
     }
-    x == 116
+    x == b't'
 }
 
 // Whether the bytes from `a` on, up to `stop`, are those from `b` on.

@@ -64,13 +64,13 @@ fn marks(text: &[u8]) -> Header
         if !field::is_column(text, at, e) {
             return refusal();
         }
-        if text[at] == 112 {
+        if text[at] == b'p' {
             p += 1;
         } else {
             t += 1;
         }
         at = e + 1;
-        if text[e] == 10 {
+        if text[e] == b'\n' {
             return Header {
                 end: at,
                 plot_columns: p,
@@ -88,7 +88,7 @@ fn names_differ(text: &[u8]) -> bool
     let mut at = 0;
     loop {
         let e = field::end_of(text, at);
-        if text[e] == 10 {
+        if text[e] == b'\n' {
             return true;
         }
         if !new_name(text, at, e) {
@@ -109,7 +109,7 @@ fn new_name(text: &[u8], start: usize, stop: usize) -> bool
         if field::same_bytes(text, start + 2, stop, at + 2, e) {
             return false;
         }
-        if text[e] == 10 {
+        if text[e] == b'\n' {
             return true;
         }
         at = e + 1;
@@ -126,7 +126,7 @@ pub fn columns(text: &[u8], n: usize) -> [usize; 12]
     let mut p = 0;
     let mut t = 0;
     for i in 0..n {
-        if text[at] == 112 {
+        if text[at] == b'p' {
             r[i] = p;
             p += 1;
         } else {

@@ -40,12 +40,12 @@ fn row_end(text: &[u8], start: usize, n: usize) -> usize
 {
     let mut at = start;
     for i in 1..n {
-        at = level_end(text, at, 9);
+        at = level_end(text, at, b'\t');
         if at == 0 {
             return 0;
         }
     }
-    level_end(text, at, 10)
+    level_end(text, at, b'\n')
 }
 
 // The place after the level that starts at `start` and the byte `stop` after it; 0 where these are not there.

@@ -118,26 +118,26 @@ fn odd_bytes() {
     show(b"byte 177 as a level\t", b"p:Hut\n\xb1\n");
 }
 
-// How many lines: each is level 2; the last byte or two are put in the place of the last line.
+// How many lines: each is the level 2, but for the last digit.
 fn line_counts() {
-    many(b"240 lines\t", 486, 50);
-    many(b"241 lines\t", 488, 50);
-    many(b"240 lines and a bad one\t", 488, 48);
-    many(b"241 lines and a bad one\t", 490, 48);
-    many(b"239 lines and one unended\t", 485, 50);
-    many(b"240 lines and one unended\t", 487, 50);
+    many(b"240 lines\t", 486, b'2');
+    many(b"241 lines\t", 488, b'2');
+    many(b"240 lines and a bad one\t", 488, b'0');
+    many(b"241 lines and a bad one\t", 490, b'0');
+    many(b"239 lines and one unended\t", 485, b'2');
+    many(b"240 lines and one unended\t", 487, b'2');
 }
 
 fn lengths() {
-    many(b"32768 bytes\t", 32768, 50);
-    many(b"32769 bytes\t", 32769, 50);
-    many(b"32768 bytes, a bad last line\t", 32768, 47);
+    many(b"32768 bytes\t", 32768, b'2');
+    many(b"32769 bytes\t", 32769, b'2');
+    many(b"32768 bytes, a bad last line\t", 32768, b'/');
 }
 
 fn long_fields() {
-    long(b"a level of digits\t", 49, 10);
-    long(b"a name of letters\t", 65, 65);
-    long(b"a first line of tabs\t", 9, 9);
+    long(b"a level of digits\t", b'1', b'\n');
+    long(b"a name of letters\t", b'A', b'A');
+    long(b"a first line of tabs\t", b'\t', b'\t');
 }
 
 fn short_table() {
@@ -149,7 +149,7 @@ fn short_table() {
 
 // Reads the first `len` bytes of `p:Hut` and lines of the level 2, the last digit replaced by `last`.
 fn many(label: &[u8], len: usize, last: u8) {
-    let mut text = start(50, 10);
+    let mut text = start(b'2', b'\n');
     end_lines(&mut text);
     put(&mut text, len, last);
     show_part(label, &text, len);
@@ -159,7 +159,7 @@ fn many(label: &[u8], len: usize, last: u8) {
 fn end_lines(text: &mut [u8]) {
     let mut at = 7;
     while at < text.len() {
-        text[at] = 10;
+        text[at] = b'\n';
         at += 2;
     }
 }
@@ -178,9 +178,9 @@ fn put(text: &mut [u8], len: usize, x: u8) {
 // Reads `p:Hut` and `end`, 30,000 times the byte `x`, a newline, level 1 and a newline.
 fn long(label: &[u8], x: u8, end: u8) {
     let mut text = start(x, end);
-    text[30006] = 10;
-    text[30007] = 49;
-    text[30008] = 10;
+    text[30006] = b'\n';
+    text[30007] = b'1';
+    text[30008] = b'\n';
     show_part(label, &text, 30009);
 }
 
@@ -194,11 +194,11 @@ fn show_part(label: &[u8], text: &[u8], len: usize) {
 // `p:Hut` and the byte `end`, and then the byte `x` over and over.
 fn start(x: u8, end: u8) -> [u8; 32770] {
     let mut text = [x; 32770];
-    text[0] = 112;
-    text[1] = 58;
-    text[2] = 72;
-    text[3] = 117;
-    text[4] = 116;
+    text[0] = b'p';
+    text[1] = b':';
+    text[2] = b'H';
+    text[3] = b'u';
+    text[4] = b't';
     text[5] = end;
     text
 }
