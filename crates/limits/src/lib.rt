@@ -17,5 +17,10 @@ pub const NAME: usize = 96;
 // bytes of a sheet's text
 pub const TEXT: usize = 32768;
 
+// fields of a line
+pub const FIELDS: usize = 12;
+// the largest level
+pub const LEVEL: u32 = 65535;
+
 // a level of a sheet: only a label
 pub type Level = u16;

@@ -23,3 +23,4 @@ pub mod Questions
 pub mod Demand3
 pub mod Relation
 pub mod Degrees
+pub mod Sheet

@@ -1,5 +1,6 @@
 pub mod Limits
 pub mod Lists
+pub mod Sheet
 pub mod Factor
 pub mod Family
 pub mod Closing

@@ -1,5 +1,5 @@
 -- The limits, each named once.
--- "Limits: 1 to 240 plots (N); 0 to 6 plot columns; 0 to 6 treatment columns; 1 to 32 members in a family; interaction level k from 1 to 6"
+-- "Limits: 1 to 240 plots (N); 0 to 6 plot columns; 0 to 6 treatment columns; 1 to 32 members in a family; interaction level k from 1 to 6; sheet text 1 to 32,768 bytes."
 use Prim.Native.Nat.{ℕ}
 
 -- plots of a sheet, and the distance from one column or member to the next in lent memory
@@ -27,3 +27,19 @@ familyBytes = 7680
 
 abbrev pub nameBytes : ℕ
 nameBytes = 96
+
+-- bytes of a sheet's text
+abbrev pub mostText : ℕ
+mostText = 32768
+
+-- fields of a line: "1 to 12 fields"
+abbrev pub mostFields : ℕ
+mostFields = 12
+
+-- a level: "1 to 65535"
+abbrev pub mostLevel : ℕ
+mostLevel = 65535
+
+-- bytes of a column's name after its first: "a letter and then 1 to 11 letters or digits"
+abbrev pub mostNameTail : ℕ
+mostNameTail = 11

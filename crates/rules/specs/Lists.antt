@@ -1,7 +1,7 @@
 -- Lists given by their elements, words given by their bits, decimal numbers.
 -- Assumes nothing.
 use mathlib.Core.Bool.{Bool, true, false}
-use mathlib.Core.List.{List, [], _∷_, _++_}
+use mathlib.Core.List.{List, [], _∷_}
 use Prim.Native.Nat.{ℕ, zero, suc, _+_, _*_, _/_, _%_, _^_}
 use lib.Dec.{eqb, ltb}
 use lib.ListN.{getD}
@@ -36,12 +36,12 @@ unfoldable pub passingFrom : (ℕ → Bool) → ℕ → ℕ → List ℕ
 passingFrom t i zero = []
 passingFrom t i (suc n) = elim (t i) [ true ↦ i ∷ passingFrom t (suc i) n | false ↦ passingFrom t (suc i) n ]
 
--- the decimal digits of a number as bytes, at most f of them
-unfoldable pub digits : ℕ → ℕ → List ℕ
-digits zero n = []
-digits (suc f) n = elim (ltb n 10) [ true ↦ (48 + n) ∷ [] | false ↦ digits f (n / 10) ++ ((48 + n % 10) ∷ []) ]
+-- the digits of n before the digits ds; a number below k needs at most k steps
+unfoldable pub digitsBefore : ℕ → ℕ → List ℕ → List ℕ
+digitsBefore zero n ds = ds
+digitsBefore (suc k) n ds = elim (ltb n 10) [ true ↦ (48 + n) ∷ ds | false ↦ digitsBefore k (n / 10) ((48 + n % 10) ∷ ds) ]
 
 -- a number in decimal, without leading zeros
-unfoldable pub decimal : ℕ → List ℕ
-unfolding digits
-decimal n = digits (suc n) n
+unfoldable pub decimalOf : ℕ → List ℕ
+unfolding digitsBefore
+decimalOf n = digitsBefore (suc n) n []

@@ -7,7 +7,7 @@ use lib.Dec.{eqb, ltb}
 use lib.ListN.{length, getD}
 use Rattle.rules.specs.Factor.{Column, every, finer, coarser, number, classes, infimum, universal}
 use Rattle.rules.specs.Family.{alike}
-use Rattle.rules.specs.Lists.{passingFrom, decimal}
+use Rattle.rules.specs.Lists.{passingFrom, decimalOf}
 
 -- "A member is named by the first rule that fits"
 pub data Name : Type 0 where
@@ -72,11 +72,11 @@ withCommas names [] = []
 withCommas names (c ∷ []) = getD names c []
 withCommas names (c ∷ d ∷ cs) = getD names c [] ++ 44 ∷ withCommas names (d ∷ cs)
 
--- "`U` for one class; `E` for N classes; the lowest column ..; `I(` names `)` ..; else `#` and its place in decimal"
+-- "`U` for one class; `E` for N classes; the lowest column ..; `I(` names `)` ..; else `#` and its place in decimalOf"
 unfoldable pub bytesOf : List (List ℕ) → Name → List ℕ
-unfolding withCommas decimal
+unfolding withCommas decimalOf
 bytesOf names name-U = 85 ∷ []
 bytesOf names name-E = 69 ∷ []
 bytesOf names (name-column c) = getD names c []
 bytesOf names (name-infimum cs) = 73 ∷ 40 ∷ withCommas names cs ++ 41 ∷ []
-bytesOf names (name-place i) = 35 ∷ decimal i
+bytesOf names (name-place i) = 35 ∷ decimalOf i

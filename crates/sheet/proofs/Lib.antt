@@ -1,0 +1,6 @@
+pub mod Walk
+pub mod Stops
+pub mod RowLaws
+pub mod StoreLaws
+pub mod HeaderLaws
+pub mod QuestionLaws

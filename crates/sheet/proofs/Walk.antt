@@ -1,0 +1,87 @@
+-- Laws of the steps of a walk over a text.
+-- Assumes nothing.
+use mathlib.Core.Path.{_≡_, refl, sym, ap, _∙_}
+use mathlib.Core.Bool.{true, false, _&&_}
+use mathlib.Core.List.{List, [], _∷_}
+use Prim.Native.Nat.{ℕ, zero, suc, _+_, _≤_, _<_}
+use native.Mathlib.Omega.{arith}
+use native.Mathlib.Numerals.{add-one}
+use lib.Dec.{eqb}
+use lib.ListN.{length, getD, take, drop, drop-of-length-le, length-take}
+use lib.Seq.{slice, slice-cons, drop-cons}
+use borrow.Author.Tests.{ne-eqb}
+use Rattle.rules.specs.Sheet.{all, digit, decimal, noLeadingZero, isLevel, sameBytes}
+use Rattle.rules.specs.Limits.{mostLevel}
+use Rattle.rules.proofs.Sheet.{level-none, level-is, level-least}
+use Rattle.rules.proofs.Numbering.{by-cases}
+use Rattle.sheet.specs.Walk.{fieldOf, levelOf}
+
+-- ---- a byte more of a field
+
+module _ (xs : List ℕ) (at : ℕ) where
+  pub field-none : length xs ≤ at → fieldOf (drop at xs) ≡ []
+  unfolding fieldOf
+  field-none h = rw (drop-of-length-le xs h)
+
+  pub field-tab : at < length xs → getD xs at 0 ≡ 9 → fieldOf (drop at xs) ≡ []
+  unfolding fieldOf
+  field-tab h e = rw (drop-cons xs at 0 h, e)
+
+  pub field-newline : at < length xs → getD xs at 0 ≡ 10 → fieldOf (drop at xs) ≡ []
+  unfolding fieldOf
+  field-newline h e = rw (drop-cons xs at 0 h, e)
+
+  pub field-on : at < length xs → (getD xs at 0 ≡ 9 → ⊥) → (getD xs at 0 ≡ 10 → ⊥) → fieldOf (drop at xs) ≡ getD xs at 0 ∷ fieldOf (drop (at + 1) xs)
+  unfolding fieldOf
+  field-on h n m = rw (add-one, drop-cons xs at 0 h, ne-eqb (getD xs at 0) 9 n, ne-eqb (getD xs at 0) 10 m, fieldOf)
+
+-- ---- a part, byte by byte
+
+module _ (xs : List ℕ) (from to : ℕ) where
+  pub slice-next : from < to → to ≤ length xs → slice from to xs ≡ getD xs from 0 ∷ slice (from + 1) to xs
+  slice-next h k = rw add-one (slice-cons from to xs 0 h k)
+
+  pub slice-none : to ≤ from → slice from to xs ≡ []
+  slice-none h = drop-of-length-le (take to xs) {i = from} (simp length-take (omega arith))
+
+  pub slice-two : from + 1 < to → to ≤ length xs → slice from to xs ≡ getD xs from 0 ∷ getD xs (from + 1) 0 ∷ slice (from + 2) to xs
+  slice-two h k =
+      let e : from + 1 + 1 ≡ from + 2 = omega arith in
+      rw (slice-next (omega arith) k, ← e) (ap (λ (r : List ℕ). getD xs from 0 ∷ r) (slice-after h k))
+    where
+      slice-after : from + 1 < to → to ≤ length xs → slice (from + 1) to xs ≡ getD xs (from + 1) 0 ∷ slice (from + 1 + 1) to xs
+      slice-after h k = rw (add-one (from + 1)) (slice-cons (from + 1) to xs 0 h k)
+
+module _ (xs : List ℕ) (a a-to b b-to : ℕ) (h : a < a-to) (k : a-to ≤ length xs) (l : b < b-to) (m : b-to ≤ length xs) where
+  pub same-next : sameBytes (slice a a-to xs) (slice b b-to xs) ≡ eqb (getD xs a 0) (getD xs b 0) && sameBytes (slice (a + 1) a-to xs) (slice (b + 1) b-to xs)
+  unfolding sameBytes
+  same-next = rw (slice-next xs a a-to h k, slice-next xs b b-to l m)
+
+-- ---- levels
+
+module _ (f : List ℕ) where
+  pub no-level : isLevel f ≡ false → levelOf f ≡ 0
+  unfolding levelOf
+  no-level e = rw (e, levelOf)
+
+  -- the number that was found in digits without a leading zero is the answer, also where it is 0
+  pub level-found : noLeadingZero f ≡ true → all digit f ≡ true → decimal f ≤ mostLevel → levelOf f ≡ decimal f
+  unfolding levelOf
+  level-found e d k = go (decimal f) refl
+    where
+      go : (v : ℕ) → decimal f ≡ v → levelOf f ≡ decimal f
+      go zero z = no-level (level-none f z) ∙ sym z
+      go (suc v) z = rw (level-is f e d (omega arith) k, levelOf)
+
+  pub level-some : isLevel f ≡ true → levelOf f ≡ decimal f
+  unfolding levelOf
+  level-some e = rw (e, levelOf)
+
+  pub level-not : levelOf f ≡ 0 → isLevel f ≡ false
+  level-not z = by-cases (isLevel f) (λ e. absurd (no (level-least f e) (sym (level-some e) ∙ z))) (λ e. e)
+    where
+      no : 1 ≤ decimal f → decimal f ≡ 0 → ⊥
+      no h e = omega arith
+
+  pub level-yes : (levelOf f ≡ 0 → ⊥) → isLevel f ≡ true
+  level-yes n = by-cases (isLevel f) (λ e. e) (λ e. absurd (n (no-level e)))

@@ -1,0 +1,156 @@
+// Fields: where one ends, and whether it is a level, a name or a column.
+ghost use mathlib.Core.Path.{_≡_};
+ghost use Prim.Native.Nat.{_+_, _≤_};
+ghost use lib.ListN.{length, drop};
+ghost use lib.Seq.{slice};
+ghost use Rattle.rules.specs.Sheet.{letter as isLetter, letterOrDigit, isName, isColumn, sameBytes};
+ghost use Rattle.sheet.specs.Walk.{fieldOf, levelOf, isMark};
+use limits::LEVEL;
+
+// The end of the field that starts at `at`: the place of the next byte 9 or 10, or the text's length.
+pub fn end_of(text: &[u8], start: usize) -> usize
+    ensures { λ r. ⌜ r ≡ start + length (fieldOf (drop start (now (text .entry)))) ⌝ }
+{
+    let mut at = start;
+    while at < text.len() {
+        let x = text[at];
+        if x == b'\t' {
+            return at;
+        }
+        if x == b'\n' {
+            return at;
+        }
+        at += 1;
+    }
+    at
+}
+
+// The level that the field from `start` to `stop` writes; 0 where it writes none.
+pub fn level_of(text: &[u8], start: usize, stop: usize) -> u16
+    requires { ⌜ stop ≤ length (now text) ⌝ }
+    ensures { λ r. ⌜ r ≡ levelOf (slice start stop (now (text .entry))) ⌝ }
+{
+    if stop <= start {
+        return 0;
+    }
+    if text[start] == b'0' {
+        return 0;
+    }
+    let mut v: u32 = 0;
+    for i in start..stop {
+        let x = text[i];
+        if x < b'0' {
+            return 0;
+        }
+        if b'9' < x {
+            return 0;
+        }
+        v = 10 * v + (x - b'0') as u32;
+        if LEVEL < v {
+            return 0;
+        }
+    }
+    v as u16
+}
+
+// Whether a byte is a letter.
+pub fn letter(x: u8) -> bool
+    ensures { λ r. ⌜ r ≡ isLetter x ⌝ }
+{
+    if x < b'A' {
+        return false;
+    }
+    if x <= b'Z' {
+        return true;
+    }
+    if x < b'a' {
+        return false;
+    }
+    x <= b'z'
+}
+
+// Whether a byte is a letter or a digit.
+pub fn letter_or_digit(x: u8) -> bool
+    ensures { λ r. ⌜ r ≡ letterOrDigit x ⌝ }
+{
+    if letter(x) {
+        return true;
+    }
+    if x < b'0' {
+        return false;
+    }
+    x <= b'9'
+}
+
+// Whether the bytes from `start` to `stop` are a name.
+pub fn is_name(text: &[u8], start: usize, stop: usize) -> bool
+    requires { ⌜ stop ≤ length (now text) ⌝ }
+    ensures { λ r. ⌜ r ≡ isName (slice start stop (now (text .entry))) ⌝ }
+{
+    if stop <= start {
+        return false;
+    }
+    if !letter(text[start]) {
+        return false;
+    }
+    let more = stop - start - 1;
+    if more < 1 {
+        return false;
+    }
+    if 11 < more {
+        return false;
+    }
+    for i in (start + 1)..stop {
+        if !letter_or_digit(text[i]) {
+            return false;
+        }
+    }
+    true
+}
+
+// Whether the field from `start` to `stop` is `p:` or `t:` and a name.
+pub fn is_column(text: &[u8], start: usize, stop: usize) -> bool
+    requires { ⌜ stop ≤ length (now text) ⌝ }
+    ensures { λ r. ⌜ r ≡ isColumn (slice start stop (now (text .entry))) ⌝ }
+{
+    if stop <= start {
+        return false;
+    }
+    if stop <= start + 1 {
+        return false;
+    }
+    if !is_mark(text[start]) {
+        return false;
+    }
+    if text[start + 1] != b':' {
+        return false;
+    }
+    is_name(text, start + 2, stop)
+}
+
+// Whether a byte tells a column's kind: `p` or `t`.
+pub fn is_mark(x: u8) -> bool
+    ensures { λ r. ⌜ r ≡ isMark x ⌝ }
+{
+    if x == b'p' {
+        return true;
+    }
+    x == b't'
+}
+
+// Whether the bytes from `a` on, up to `stop`, are those from `b` on.
+pub fn same_bytes(text: &[u8], a: usize, a_stop: usize, b: usize, b_stop: usize) -> bool
+    requires { ⌜ (a ≤ «a_stop») × («a_stop» ≤ length (now text)) × (b ≤ «b_stop») × («b_stop» ≤ length (now text)) ⌝ }
+    ensures { λ r. ⌜ r ≡ sameBytes (slice a «a_stop» (now (text .entry))) (slice b «b_stop» (now (text .entry))) ⌝ }
+{
+    let n = a_stop - a;
+    if n != b_stop - b {
+        return false;
+    }
+    for i in 0..n {
+        if text[a + i] != text[b + i] {
+            return false;
+        }
+    }
+    true
+}

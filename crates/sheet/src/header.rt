@@ -1,0 +1,141 @@
+// The first line.
+use crate::field;
+ghost use mathlib.Core.Path.{_≡_};
+ghost use mathlib.Core.Bool.{true};
+ghost use Prim.Native.Nat.{_+_, _<_, _≤_};
+ghost use lib.ListN.{length, take, drop};
+ghost use lib.Seq.{slice};
+ghost use Rattle.rules.specs.Sheet.{newline, upTo, has, fields, all, isColumn, newName, namesDiffer, header, columnsAfter};
+ghost use Rattle.sheet.specs.Answers.{noHeader, marked, headed};
+use limits::COLUMNS;
+use limits::FIELDS;
+
+// The first line of a sheet: where the next one starts, 0 if the line has not the form, and the columns of each kind.
+pub struct Header {
+    pub end: usize,
+    pub plot_columns: usize,
+    pub treatment_columns: usize,
+}
+
+// Question 3.
+pub fn read_header(text: &[u8]) -> Header
+    ensures { λ r. ⌜ r ≡ headed (now (text .entry)) ⌝ }
+{
+    let h = marks(text);
+    let end = h.end;
+    if end == 0 {
+        return refusal();
+    }
+    let plot_columns = h.plot_columns;
+    if COLUMNS < plot_columns {
+        return refusal();
+    }
+    let treatment_columns = h.treatment_columns;
+    if COLUMNS < treatment_columns {
+        return refusal();
+    }
+    if !names_differ(text) {
+        return refusal();
+    }
+    h
+}
+
+// The answer for a line that has not the form.
+fn refusal() -> Header
+    ensures { λ r. ⌜ r ≡ noHeader ⌝ }
+{
+    Header {
+        end: 0,
+        plot_columns: 0,
+        treatment_columns: 0,
+    }
+}
+
+// The first line as far as each field by itself tells.
+fn marks(text: &[u8]) -> Header
+    ensures { λ r. ⌜ r ≡ marked 0 0 0 (now (text .entry)) ⌝ }
+{
+    let mut at = 0;
+    let mut p = 0;
+    let mut t = 0;
+    loop {
+        let e = field::end_of(text, at);
+        if text.len() <= e {
+            return refusal();
+        }
+        if !field::is_column(text, at, e) {
+            return refusal();
+        }
+        if text[at] == b'p' {
+            p += 1;
+        } else {
+            t += 1;
+        }
+        at = e + 1;
+        if text[e] == b'\n' {
+            return Header {
+                end: at,
+                plot_columns: p,
+                treatment_columns: t,
+            };
+        }
+    }
+}
+
+// Whether no two names of the first line are equal.
+fn names_differ(text: &[u8]) -> bool
+    requires { ⌜ (has newline (now text) ≡ true) × (all isColumn (header (now text)) ≡ true) ⌝ }
+    ensures { λ r. ⌜ r ≡ namesDiffer (header (now (text .entry))) ⌝ }
+{
+    let mut at = 0;
+    loop {
+        let e = field::end_of(text, at);
+        if text[e] == b'\n' {
+            return true;
+        }
+        if !new_name(text, at, e) {
+            return false;
+        }
+        at = e + 1;
+    }
+}
+
+// Whether no field after the one from `start` to `stop` has its name.
+fn new_name(text: &[u8], start: usize, stop: usize) -> bool
+    requires { ⌜ (start + 2 ≤ stop) × (stop < length (now text)) × (has newline (drop (stop + 1) (now text)) ≡ true) × (all isColumn (header (drop (stop + 1) (now text))) ≡ true) ⌝ }
+    ensures { λ r. ⌜ r ≡ newName (slice start stop (now (text .entry))) (header (drop (stop + 1) (now (text .entry)))) ⌝ }
+{
+    let mut at = stop + 1;
+    loop {
+        let e = field::end_of(text, at);
+        if field::same_bytes(text, start + 2, stop, at + 2, e) {
+            return false;
+        }
+        if text[e] == b'\n' {
+            return true;
+        }
+        at = e + 1;
+    }
+}
+
+// The column of the level table that each of the `n` fields takes.
+pub fn columns(text: &[u8], n: usize) -> [usize; FIELDS]
+    requires { ⌜ (has newline (now text) ≡ true) × (n ≡ length (header (now text))) × (n ≤ 12) ⌝ }
+    ensures { λ r. ⌜ take n r ≡ columnsAfter 0 0 (header (now (text .entry))) ⌝ }
+{
+    let mut r = [0usize; FIELDS];
+    let mut at = 0;
+    let mut p = 0;
+    let mut t = 0;
+    for i in 0..n {
+        if text[at] == b'p' {
+            r[i] = p;
+            p += 1;
+        } else {
+            r[i] = COLUMNS + t;
+            t += 1;
+        }
+        at = field::end_of(text, at) + 1;
+    }
+    r
+}

@@ -1,0 +1,284 @@
+// Runs the sheet reader on small, damaged and large sheets. A line of the output is the case, the answer, how many cells of the
+// level table changed, and the first of these as place=level. The expected output was worked out from the rules.
+use libc::STDOUT_FILENO;
+use sheet::Reading;
+
+fn main() {
+    samples();
+    names();
+    equal_names();
+    column_counts();
+    unended();
+    tabs();
+    level_range();
+    level_form();
+    odd_bytes();
+    line_counts();
+    lengths();
+    long_fields();
+    short_table();
+}
+
+fn samples() {
+    show(b"sample\t", b"p:Hut\tt:Gain\n1\t1\n1\t2\n2\t1\n2\t2\n");
+    show(b"treatments first\t", b"t:Gain\tp:Hut\tt:Cable\n7\t8\t9\n");
+    show(
+        b"one bad level after good ones\t",
+        b"p:Hut\tt:Gain\n5\t6\n7\t0\n",
+    );
+}
+
+fn names() {
+    show(b"name of one letter\t", b"p:A\n1\n");
+    show(b"name of two\t", b"p:A1\n1\n");
+    show(b"name of twelve\t", b"p:Abcdefghij12\n1\n");
+    show(b"name of thirteen\t", b"p:Abcdefghij123\n1\n");
+    show(b"name with a digit first\t", b"p:1A\n1\n");
+    show(b"no name\t", b"p:\n1\n");
+    show(b"no colon\t", b"pHut\n1\n");
+    show(b"capital kind\t", b"P:Hut\n1\n");
+}
+
+fn equal_names() {
+    show(b"equal names of two kinds\t", b"p:Ab\tt:Ab\n1\t1\n");
+    show(
+        b"equal names, first and last\t",
+        b"p:Ab\tp:Ac\tt:Ab\n1\t1\t1\n",
+    );
+    show(b"names of another case\t", b"p:Ab\tp:AB\n1\t1\n");
+    show(b"name that starts another\t", b"p:Ab\tp:Abc\n1\t1\n");
+}
+
+fn column_counts() {
+    show(b"no columns\t", b"\n1\n");
+    show(
+        b"six and six\t",
+        b"p:P1\tp:P2\tp:P3\tp:P4\tp:P5\tp:P6\tt:T1\tt:T2\tt:T3\tt:T4\tt:T5\tt:T6\n1\t2\t3\t4\t5\t6\t7\t8\t9\t10\t11\t12\n",
+    );
+    show(
+        b"seven plot columns\t",
+        b"p:P1\tp:P2\tp:P3\tp:P4\tp:P5\tp:P6\tp:P7\n1\t2\t3\t4\t5\t6\t7\n",
+    );
+    show(
+        b"twenty columns\t",
+        b"p:P1\tp:P2\tp:P3\tp:P4\tp:P5\tp:P6\tp:P7\tp:P8\tp:P9\tp:Pa\tt:T1\tt:T2\tt:T3\tt:T4\tt:T5\tt:T6\tt:T7\tt:T8\tt:T9\tt:Ta\n",
+    );
+    show(
+        b"seven treatment columns\t",
+        b"t:T1\tt:T2\tt:T3\tt:T4\tt:T5\tt:T6\tt:T7\n1\t2\t3\t4\t5\t6\t7\n",
+    );
+}
+
+fn unended() {
+    show(b"empty text\t", b"");
+    show(b"newline alone\t", b"\n");
+    show(b"first line unended\t", b"p:Hut");
+    show(b"first line alone\t", b"p:Hut\n");
+    show(b"last line unended\t", b"p:Hut\n1\n2");
+    show(b"tab at the unended end\t", b"p:Hut\n1\n2\t");
+    show(b"empty line last\t", b"p:Hut\n1\n\n");
+    show(b"empty line between\t", b"p:Hut\n1\n\n1\n");
+}
+
+fn tabs() {
+    show(b"tab before the first column\t", b"\tp:Hut\n1\n");
+    show(b"tab after the last column\t", b"p:Hut\t\n1\t1\n");
+    show(b"tab before a level\t", b"p:Hut\n\t1\n");
+    show(b"tab after a level\t", b"p:Hut\n1\t\n");
+    show(b"two tabs\t", b"p:Hut\tp:Pier\n1\t\t1\n");
+    show(b"too few fields\t", b"p:Hut\tp:Pier\n1\n");
+    show(b"too many fields\t", b"p:Hut\tp:Pier\n1\t1\t1\n");
+}
+
+fn level_range() {
+    show(b"65535\t", b"p:Hut\n65535\n");
+    show(b"65536\t", b"p:Hut\n65536\n");
+    show(b"0\t", b"p:Hut\n0\n");
+    show(b"131073\t", b"p:Hut\n131073\n");
+    show(b"4294967297\t", b"p:Hut\n4294967297\n");
+    show(b"18446744073709551617\t", b"p:Hut\n18446744073709551617\n");
+}
+
+fn level_form() {
+    show(b"00\t", b"p:Hut\n00\n");
+    show(b"01\t", b"p:Hut\n01\n");
+    show(b"10\t", b"p:Hut\n10\n");
+    show(b"+1\t", b"p:Hut\n+1\n");
+    show(b"1.\t", b"p:Hut\n1.\n");
+    show(b"1 and a blank\t", b"p:Hut\n1 \n");
+    show(b"a letter\t", b"p:Hut\nA\n");
+}
+
+fn odd_bytes() {
+    show(b"return in the first line\t", b"p:Hut\r\n1\n");
+    show(b"return in a later line\t", b"p:Hut\n1\r\n");
+    show(b"byte 0 in a name\t", b"p:Hu\0t\n1\n");
+    show(b"byte 0 after a level\t", b"p:Hut\n1\0\n");
+    show(b"byte 255 in a name\t", b"p:Hu\xfft\n1\n");
+    show(b"byte 177 as a level\t", b"p:Hut\n\xb1\n");
+}
+
+// How many lines: each is the level 2, but for the last digit.
+fn line_counts() {
+    many(b"240 lines\t", 486, b'2');
+    many(b"241 lines\t", 488, b'2');
+    many(b"240 lines and a bad one\t", 488, b'0');
+    many(b"241 lines and a bad one\t", 490, b'0');
+    many(b"239 lines and one unended\t", 485, b'2');
+    many(b"240 lines and one unended\t", 487, b'2');
+}
+
+fn lengths() {
+    many(b"32768 bytes\t", 32768, b'2');
+    many(b"32769 bytes\t", 32769, b'2');
+    many(b"32768 bytes, a bad last line\t", 32768, b'/');
+}
+
+fn long_fields() {
+    long(b"a level of digits\t", b'1', b'\n');
+    long(b"a name of letters\t", b'A', b'A');
+    long(b"a first line of tabs\t", b'\t', b'\t');
+}
+
+fn short_table() {
+    io::write_all(STDOUT_FILENO, b"short table and empty text\t");
+    let mut table = [9999u16; 2879];
+    print(sheet::read_sheet(b"", &mut table));
+    changes(&table);
+}
+
+// Reads the first `len` bytes of `p:Hut` and lines of the level 2, the last digit replaced by `last`.
+fn many(label: &[u8], len: usize, last: u8) {
+    let mut text = start(b'2', b'\n');
+    end_lines(&mut text);
+    put(&mut text, len, last);
+    show_part(label, &text, len);
+}
+
+// Puts a newline at every second place from 7 on.
+fn end_lines(text: &mut [u8]) {
+    let mut at = 7;
+    while at < text.len() {
+        text[at] = b'\n';
+        at += 2;
+    }
+}
+
+// Puts `x` at the last even place but one before `len`.
+fn put(text: &mut [u8], len: usize, x: u8) {
+    if len < 2 {
+        return;
+    }
+    let at = len / 2 * 2 - 2;
+    if at < text.len() {
+        text[at] = x;
+    }
+}
+
+// Reads `p:Hut` and `end`, 30,000 times the byte `x`, a newline, level 1 and a newline.
+fn long(label: &[u8], x: u8, end: u8) {
+    let mut text = start(x, end);
+    text[30006] = b'\n';
+    text[30007] = b'1';
+    text[30008] = b'\n';
+    show_part(label, &text, 30009);
+}
+
+// Reads the first `len` bytes.
+fn show_part(label: &[u8], text: &[u8], len: usize) {
+    if len <= text.len() {
+        show(label, &text[..len]);
+    }
+}
+
+// `p:Hut` and the byte `end`, and then the byte `x` over and over.
+fn start(x: u8, end: u8) -> [u8; 32770] {
+    let mut text = [x; 32770];
+    text[0] = b'p';
+    text[1] = b':';
+    text[2] = b'H';
+    text[3] = b'u';
+    text[4] = b't';
+    text[5] = end;
+    text
+}
+
+// Prints a case: its label, the answer and what changed in a level table that is longer than the reader asks.
+fn show(label: &[u8], text: &[u8]) {
+    let mut table = [9999u16; 3000];
+    io::write_all(STDOUT_FILENO, label);
+    print(sheet::read_sheet(text, &mut table));
+    changes(&table);
+}
+
+// Prints how many cells changed, and the first twelve.
+fn changes(table: &[u16]) {
+    io::write_all(STDOUT_FILENO, b"\t");
+    io::print_decimal(STDOUT_FILENO, wide(changed(table)));
+    cells(table);
+    io::write_all(STDOUT_FILENO, b"\n");
+}
+
+// Prints the first twelve cells that changed.
+fn cells(table: &[u16]) {
+    let mut left: usize = 12;
+    for i in 0..table.len() {
+        let x = table[i];
+        if x != 9999 {
+            if left != 0 {
+                left -= 1;
+                cell(i, x);
+            }
+        }
+    }
+}
+
+fn cell(i: usize, x: u16) {
+    io::write_all(STDOUT_FILENO, b" ");
+    io::print_decimal(STDOUT_FILENO, wide(i));
+    io::write_all(STDOUT_FILENO, b"=");
+    io::print_decimal(STDOUT_FILENO, wide_level(x));
+}
+
+// How many cells changed. No case has the level 9999.
+fn changed(table: &[u16]) -> usize {
+    let mut n = 0;
+    for i in 0..table.len() {
+        if table[i] != 9999 {
+            n += 1;
+        }
+    }
+    n
+}
+
+// Prints the counts, or the refusal.
+fn print(answer: Reading) {
+    let Reading::Read(c) = answer else {
+        refuse(answer);
+        return;
+    };
+    let plots = c.plots;
+    io::write_all(STDOUT_FILENO, b"read ");
+    io::print_decimal(STDOUT_FILENO, wide(plots));
+    io::write_all(STDOUT_FILENO, b" ");
+    let plot_columns = c.plot_columns;
+    io::print_decimal(STDOUT_FILENO, wide(plot_columns));
+    io::write_all(STDOUT_FILENO, b" ");
+    let treatment_columns = c.treatment_columns;
+    io::print_decimal(STDOUT_FILENO, wide(treatment_columns));
+}
+
+fn refuse(answer: Reading) {
+    if let Reading::Refused(n) = answer {
+        io::write_all(STDOUT_FILENO, b"refused ");
+        io::print_decimal(STDOUT_FILENO, n as u64);
+    }
+}
+
+fn wide(n: usize) -> u64 {
+    n as u64
+}
+
+fn wide_level(n: u16) -> u64 {
+    n as u64
+}
