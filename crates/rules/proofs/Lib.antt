@@ -23,3 +23,9 @@ pub mod Questions
 pub mod Demand3
 pub mod Relation
 pub mod Degrees
+pub mod WellFormed
+pub mod StrictOrder
+pub mod Places
+pub mod Bits
+pub mod Signed
+pub mod DegreesLaws

@@ -1,0 +1,4 @@
+pub mod Lent
+pub mod Fill
+pub mod RelationWords
+pub mod Questions

@@ -1,0 +1,3 @@
+pub mod Lent
+pub mod Words
+pub mod Answers
