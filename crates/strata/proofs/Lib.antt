@@ -2,3 +2,5 @@ pub mod Lent
 pub mod Fill
 pub mod RelationWords
 pub mod Questions
+pub mod Sums
+pub mod DegreeTurns

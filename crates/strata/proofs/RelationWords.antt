@@ -106,7 +106,7 @@ module _ (n : ℕ) (S : Family) (is : Accepted S) (on : (i : ℕ) → i < length
       let few : length S ≤ 32 = is .few in
       at-places 0 (coarserWords n S) i (omega arith) ∙ getD-tabulate (λ k. wordOf (coarserAt n S k) (length S)) (length S) i 0 h
 
-  bit-at : (i k : ℕ) → i < length S → k < length S → bitAt (getD (wordsOf n S) i 0) k ≡ coarserAt n S i k
+  pub bit-at : (i k : ℕ) → i < length S → k < length S → bitAt (getD (wordsOf n S) i 0) k ≡ coarserAt n S i k
   bit-at i k hi hk = ap (λ (w : ℕ). bitAt w k) (word-at i hi) ∙ bit-word (coarserAt n S i) (length S) k hk
 
   -- they fit

@@ -1,9 +1,11 @@
-// The relation of a family already made. The entry asks 6, then 15.
+// Relation and degrees of freedom of families already made. Each entry asks 6, then 15.
 ghost use mathlib.Core.Path.{_≡_};
 ghost use Rattle.rules.specs.Relation.{relation};
-ghost use Rattle.strata.specs.Answers.{relationIn};
+ghost use Rattle.rules.specs.Degrees.{degreesOfFreedom};
+ghost use Rattle.strata.specs.Answers.{relationIn, degreesIn};
 use limits::MEMBERS;
 
+mod degrees;
 mod family;
 mod order;
 
@@ -21,6 +23,13 @@ pub struct RelationReport {
     pub counts: [u32; MEMBERS],
 }
 
+// The degrees of freedom of each member. All 0 past the size and after a refusal.
+pub struct DegreesReport {
+    // the question that failed, or 0
+    pub refusal: u8,
+    pub degrees: [i64; MEMBERS],
+}
+
 // The relation of a family.
 pub fn relation(family: &[u8], plots: usize, size: usize) -> RelationReport
     ensures { λ r. ⌜ relationIn r ≡ relation plots (now (family .entry)) size ⌝ }
@@ -32,4 +41,17 @@ pub fn relation(family: &[u8], plots: usize, size: usize) -> RelationReport
         return order::refused(15);
     }
     order::report(family, plots, size)
+}
+
+// The degrees of freedom of a family, closed or not.
+pub fn degrees_of_freedom(family: &[u8], plots: usize, size: usize) -> DegreesReport
+    ensures { λ r. ⌜ degreesIn r ≡ degreesOfFreedom plots (now (family .entry)) size ⌝ }
+{
+    if !family::within(plots, family.len()) {
+        return degrees::refused(6);
+    }
+    if !family::well_formed(family, plots, size) {
+        return degrees::refused(15);
+    }
+    degrees::report(family, plots, size)
 }
