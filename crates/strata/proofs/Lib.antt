@@ -4,3 +4,4 @@ pub mod RelationWords
 pub mod Questions
 pub mod Sums
 pub mod DegreeTurns
+pub mod StratumLaws
