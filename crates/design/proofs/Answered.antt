@@ -1,21 +1,21 @@
 -- Laws of the answers: what each case of the verdict says in numbers.
 -- Assumes nothing.
-use Rattle.rules.proofs.Demand3.{demand-3}
 use Rattle.rules.specs.Structure.{Lent, Demand3}
+use Rattle.rules.specs.Closing.{Closing, tooMany, family, close, both, plotGenerators, plotFamily, InPlotFamily}
+use Rattle.rules.specs.Factor.{orthogonal, Column, uniform}
+use Rattle.rules.specs.Family.{Family, written, insertAll, membersOf, columnsFrom, AtMost}
+use Rattle.rules.specs.Design.{Places, firstPair, question9, question10, refused, question8, firstFailing, plotBuffer, plotsWithin, withinLimits, allNonzero, question7, plotDesign, returned}
+use Rattle.rules.proofs.Demand3.{demand-3}
+use Rattle.rules.proofs.Verdict.{verdict-members}
 use borrow.Author.Tests.{ltb-true, leb-true}
 use lib.Dec.{ltb, leb}
 use native.Mathlib.Omega.{arith}
 use mathlib.Core.List.{List, []}
 use Rattle.design.specs.State.{Closed, exceeded, complete, Work}
-use Rattle.rules.proofs.Verdict.{verdict-members}
-use Rattle.rules.specs.Closing.{Closing, tooMany, family, close, both, plotGenerators, plotFamily, InPlotFamily}
 use mathlib.Core.Path.{_≡_, refl, sym, ap, _∙_}
 use mathlib.Core.Bool.{Bool, true, false, _&&_, true≢false}
 use Prim.Native.Nat.{ℕ, zero, suc, _≤_}
 use lib.ListN.{length}
-use Rattle.rules.specs.Factor.{orthogonal, Column, uniform}
-use Rattle.rules.specs.Family.{Family, written, insertAll, membersOf, columnsFrom, AtMost}
-use Rattle.rules.specs.Design.{Places, firstPair, question9, question10, refused, question8, firstFailing, plotBuffer, plotsWithin, withinLimits, allNonzero, question7, plotDesign, returned}
 use Rattle.design.specs.Answers.{PlotNumbers, plotNumbersOf}
 
 -- the numbers of a refusal

@@ -1,6 +1,12 @@
 -- Laws of members put in order: the order of two members, a place among those in order, and entries that are shifted for it.
 -- Assumes nothing.
+use Rattle.rules.specs.Factor.{Column, classes}
+use Rattle.rules.specs.Family.{Family, _∈_, Distinct, apart, alike, smaller, before, insert, insertAll, membersOf, written}
+use Rattle.rules.specs.Relation.{memberAt}
 use Rattle.rules.proofs.WorkList.{member-in}
+use Rattle.rules.proofs.Numbering.{by-cases}
+use Rattle.rules.proofs.Members.{alike-sound, insert-before, insert-after, insertAll-only}
+use Rattle.rules.proofs.Buffer.{length-members, member-is}
 use mathlib.Core.Path.{_≡_, refl, sym, ap, ap₂, _∙_}
 use mathlib.Core.Logic.{_⊎_, inl, inr}
 use mathlib.Core.Bool.{true, false}
@@ -13,12 +19,6 @@ use lib.Dec.{ltb}
 use lib.ListN.{length, getD, take, drop, set, length-drop, length-append, List·getD-append, take-append-drop}
 use lib.Seq.{take-suc, drop-cons, append-snoc, set-at, length-take-le, getD-take, take-at, take-take, take-all, paste}
 use borrow.Author.Tests.{eq-eqb, ne-eqb}
-use Rattle.rules.specs.Factor.{Column, classes}
-use Rattle.rules.specs.Family.{Family, _∈_, Distinct, apart, alike, smaller, before, insert, insertAll, membersOf, written}
-use Rattle.rules.specs.Relation.{memberAt}
-use Rattle.rules.proofs.Numbering.{by-cases}
-use Rattle.rules.proofs.Members.{alike-sound, insert-before, insert-after, insertAll-only}
-use Rattle.rules.proofs.Buffer.{length-members, member-is}
 use Rattle.design.specs.State.{columnIn, Held, RankOf, Sorted}
 
 -- ---- the order of two members

@@ -24,3 +24,9 @@ pub mod Demand3
 pub mod Relation
 pub mod Degrees
 pub mod Sheet
+pub mod WellFormed
+pub mod StrictOrder
+pub mod Places
+pub mod Bits
+pub mod Signed
+pub mod DegreesLaws

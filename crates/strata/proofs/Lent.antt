@@ -1,0 +1,86 @@
+-- Laws of a family in lent memory: its members, and what questions 6 and 15 tell of it.
+-- Assumes nothing.
+use mathlib.Core.Path.{_≡_, refl, sym, ap, ap₂, _∙_}
+use mathlib.Core.Bool.{Bool, true, false, _&&_}
+use mathlib.Core.List.{List, []}
+use Prim.Native.Nat.{ℕ, _+_, _-_, _*_, _≤_, _<_}
+use native.Mathlib.Omega.{arith}
+use lib.Dec.{ltb, leb}
+use lib.ListN.{length, take, drop, getD, length-take, length-drop}
+use lib.Seq.{take-all}
+use borrow.Author.Tests.{leb-true}
+use Rattle.rules.specs.Factor.{Column, finer}
+use Rattle.rules.specs.Family.{membersOf, allNumbered, ordered, wellFormed}
+use Rattle.rules.specs.Design.{plotsWithin}
+use Rattle.rules.proofs.Buffer.{length-members, member-is}
+use Rattle.rules.proofs.WellFormed.{Accepted, accepted}
+use Rattle.factor.specs.Lent.{common}
+use Rattle.factor.specs.Standing.{testCommon}
+use Rattle.strata.specs.Lent.{columnAt, Formed}
+
+and-left : (a b : Bool) → a && b ≡ true → a ≡ true
+and-left true b e = refl
+and-left false b e = e
+
+and-right : (a b : Bool) → a && b ≡ true → b ≡ true
+and-right true b e = e
+and-right false true e = refl
+and-right false false e = e
+
+-- a part of n bytes that starts at member i
+pub part-of : (n i : ℕ) (b : List ℕ) → take (240 * i + n - 240 * i) (drop (240 * i) b) ≡ columnAt n b i
+part-of n i b =
+    let e : 240 * i + n - 240 * i ≡ n = omega arith in
+    ap (λ (k : ℕ). take k (drop (240 * i) b)) e
+
+pub length-column : (n i : ℕ) (b : List ℕ) → n ≤ 240 → i < 32 → 7680 ≤ length b → length (columnAt n b i) ≡ n
+length-column n i b hn hi hb = simp (length-take, length-drop) (omega arith)
+
+-- columns on the same plots have these in common
+pub finer-common : (n : ℕ) (F G : Column) → n ≤ 240 → length F ≡ n → length G ≡ n → testCommon finer F G ≡ finer n F G
+finer-common n F G h lF lG =
+    let e : common F G ≡ n = omega arith in
+    ap (λ (k : ℕ). finer k (take k F) (take k G)) e ∙ ap₂ (finer n) (take-all n F (omega arith)) (take-all n G (omega arith))
+
+-- question 15, part by part
+pub formed-parts : (n : ℕ) → n ≤ 240 → (b : List ℕ) (size : ℕ)
+    → wellFormed (membersOf n b size) ≡ ltb 0 size && leb size 32 && allNumbered (membersOf n b size) && ordered (membersOf n b size)
+unfolding wellFormed
+formed-parts n h b size = rw (length-members n h b size)
+
+module _ {n : ℕ} {b : List ℕ} {size : ℕ} (is : Formed n b size) where
+  pub accepted-members : Accepted (membersOf n b size)
+  accepted-members = accepted (membersOf n b size) (is .formed)
+
+  pub size-members : length (membersOf n b size) ≡ size
+  size-members = length-members n (is .few-plots) b size
+
+  pub on-plots : (i : ℕ) → i < length (membersOf n b size) → length (getD (membersOf n b size) i []) ≡ n
+  on-plots i h =
+      let l : length (membersOf n b size) ≡ size = size-members in
+      let k : i < size = omega arith in
+      let few : size ≤ 32 = is .few in
+      ap length (member-is n (is .few-plots) b size i k) ∙ length-column n i b (is .few-plots) (omega arith) (is .long)
+
+-- ---- what questions 6 and 15 tell
+
+pub record Within (n bytes : ℕ) : Type 0 where
+  pub few-plots : n ≤ 240
+  pub long : 7680 ≤ bytes
+
+pub within-limits : (n bytes : ℕ) → plotsWithin n && leb 7680 bytes ≡ true → Within n bytes
+unfolding plotsWithin
+within-limits n bytes e =
+    let plots = and-left (ltb 0 n && leb n 240) (leb 7680 bytes) e in
+    record {
+      few-plots = leb-true n 240 (and-right (ltb 0 n) (leb n 240) plots);
+      long = leb-true 7680 bytes (and-right (ltb 0 n && leb n 240) (leb 7680 bytes) e);
+    }
+
+pub formed-family : (n : ℕ) (b : List ℕ) (size : ℕ) → Within n (length b) → wellFormed (membersOf n b size) ≡ true → Formed n b size
+formed-family n b size w e = record {
+  few-plots = w .few-plots;
+  long = w .long;
+  few = rw (length-members n (w .few-plots) b size) at (accepted (membersOf n b size) e .few);
+  formed = e;
+}

@@ -1,0 +1,20 @@
+-- A family in lent memory.
+-- Assumes nothing.
+use mathlib.Core.Path.{_≡_}
+use mathlib.Core.Bool.{true}
+use mathlib.Core.List.{List}
+use Prim.Native.Nat.{ℕ, _*_, _≤_}
+use lib.ListN.{length, take, drop}
+use Rattle.rules.specs.Factor.{Column}
+use Rattle.rules.specs.Family.{membersOf, wellFormed}
+
+-- the member at place i, from 0, of a family buffer
+abbrev pub columnAt : ℕ → List ℕ → ℕ → Column
+columnAt n buffer i = take n (drop (240 * i) buffer)
+
+-- a family that questions 6 and 15 accept
+pub record Formed (n : ℕ) (buffer : List ℕ) (size : ℕ) : Type 0 where
+  pub few-plots : n ≤ 240
+  pub long : 7680 ≤ length buffer
+  pub few : size ≤ 32
+  pub formed : wellFormed (membersOf n buffer size) ≡ true

@@ -1,0 +1,4 @@
+pub mod Lent
+pub mod Words
+pub mod Sums
+pub mod Answers

@@ -1,0 +1,118 @@
+// The words of a family's relation: bit j of word i is for member j, both from 0.
+ghost use mathlib.Core.Path.{_≡_};
+ghost use Prim.Native.Nat.{_≤_, _<_};
+ghost use lib.Count.{ones};
+ghost use lib.ListN.{length, getD};
+ghost use Rattle.rules.specs.Family.{membersOf};
+ghost use Rattle.rules.specs.Lists.{tabulate, forPlaces, bitAt};
+ghost use Rattle.rules.specs.Relation.{coarserWords, relationOf, relationRefused};
+ghost use Rattle.strata.specs.Answers.{relationIn};
+ghost use Rattle.strata.specs.Lent.{Formed};
+ghost use Rattle.strata.specs.Words.{AllWords, finerWord, directWord};
+use crate::RelationReport;
+use crate::family::member_finer;
+use limits::MEMBERS;
+
+// The answer of question `q` where it fails.
+pub fn refused(q: u8) -> RelationReport
+    ensures { λ r. ⌜ relationIn r ≡ relationRefused q ⌝ }
+{
+    RelationReport {
+        refusal: q,
+        size: 0,
+        coarser: [0u32; MEMBERS],
+        direct: [0u32; MEMBERS],
+        counts: [0u32; MEMBERS],
+    }
+}
+
+// Whether bit `j` of a word is set.
+pub fn has(word: u32, j: usize) -> bool
+    requires { ⌜ j < 32 ⌝ }
+    ensures { λ r. ⌜ r ≡ bitAt word j ⌝ }
+{
+    (word >> j) & 1 == 1
+}
+
+// The word of member `i`. Only a member that stands before it can be coarser, and is where member `i` is finer.
+fn coarser_word(family: &[u8], n: usize, i: usize) -> u32
+    requires { ⌜ (n ≤ 240) × (7680 ≤ length (now family)) × (i < 32) ⌝ }
+    ensures { λ r. ⌜ r ≡ finerWord n (now (family .entry)) i ⌝ }
+{
+    let mut word: u32 = 0;
+    for j in 0..i {
+        if member_finer(family, i, family, j, n) {
+            word = word | (1u32 << j);
+        }
+    }
+    word
+}
+
+// The words of all members.
+pub fn coarser_words(family: &[u8], n: usize, size: usize) -> [u32; MEMBERS]
+    requires { ⌜ Formed n (now family) size ⌝ }
+    ensures { λ r. ⌜ r ≡ forPlaces 0 (coarserWords n (membersOf n (now (family .entry)) size)) ⌝ }
+{
+    let mut words = [0u32; MEMBERS];
+    for i in 0..size {
+        let word = coarser_word(family, n, i);
+        words[i] = word;
+    }
+    words
+}
+
+// The neighbours directly above member `i`: what is coarser than a coarser member is masked out.
+fn direct_word(words: [u32; MEMBERS], i: usize) -> u32
+    requires { ⌜ (i < 32) × AllWords words ⌝ }
+    ensures { λ r. ⌜ r ≡ directWord words i ⌝ }
+{
+    let coarser = words[i];
+    let mut word = coarser;
+    for j in 0..i {
+        if has(coarser, j) {
+            word = word & !words[j];
+        }
+    }
+    word
+}
+
+// The words of neighbours directly above.
+fn direct_words(words: [u32; MEMBERS]) -> [u32; MEMBERS]
+    requires { ⌜ AllWords words ⌝ }
+    ensures { λ r. ⌜ r ≡ tabulate (directWord words) 32 ⌝ }
+{
+    let mut direct = [0u32; MEMBERS];
+    for i in 0..MEMBERS {
+        let word = direct_word(words, i);
+        direct[i] = word;
+    }
+    direct
+}
+
+// How many bits of each word are set.
+fn bit_counts(words: [u32; MEMBERS]) -> [u32; MEMBERS]
+    ensures { λ r. ⌜ r ≡ tabulate (λ i. ones (getD words i 0)) 32 ⌝ }
+{
+    let mut counts = [0u32; MEMBERS];
+    for i in 0..MEMBERS {
+        counts[i] = u32::count_ones(words[i]);
+    }
+    counts
+}
+
+// The relation of a family that 15 accepts.
+pub fn report(family: &[u8], n: usize, size: usize) -> RelationReport
+    requires { ⌜ Formed n (now family) size ⌝ }
+    ensures { λ r. ⌜ relationIn r ≡ relationOf n (membersOf n (now (family .entry)) size) ⌝ }
+{
+    let coarser = coarser_words(family, n, size);
+    let direct = direct_words(coarser);
+    let counts = bit_counts(direct);
+    RelationReport {
+        refusal: 0,
+        size,
+        coarser,
+        direct,
+        counts,
+    }
+}

@@ -1,0 +1,222 @@
+// Strata and residuals. Places are counted from 0 inside, from 1 in the answers.
+ghost use mathlib.Core.Path.{_≡_};
+ghost use mathlib.Core.Bool.{not};
+ghost use mathlib.Core.List.{map};
+ghost use Prim.Native.Nat.{_≤_, _<_};
+ghost use lib.Dec.{eqb};
+ghost use lib.IntN.{pos};
+ghost use lib.ListN.{length, getD};
+ghost use Rattle.rules.specs.Factor.{every};
+ghost use Rattle.rules.specs.Family.{membersOf};
+ghost use Rattle.rules.specs.Lists.{tabulate, forPlaces, wordOf};
+ghost use Rattle.rules.specs.Relation.{coarserWords};
+ghost use Rattle.rules.specs.Strata.{stratum, strataRefused, question15, question16};
+ghost use Rattle.strata.specs.Answers.{strataIn};
+ghost use Rattle.strata.specs.Lent.{Formed};
+ghost use Rattle.strata.specs.Sums.{AllSmall, residualAt};
+ghost use Rattle.strata.specs.Words.{candidateWord, below, coarsest, firstPassing};
+use crate::StrataReport;
+use crate::degrees::degrees;
+use crate::degrees::less;
+use crate::family::member_finer;
+use crate::family::well_formed;
+use crate::order::coarser_words;
+use crate::order::has;
+use limits::MEMBERS;
+
+// The answer of question `q` where it fails.
+pub fn refused(q: u8) -> StrataReport
+    ensures { λ r. ⌜ strataIn r ≡ strataRefused q ⌝ }
+{
+    StrataReport {
+        refusal: q,
+        places: [0usize; MEMBERS],
+        residuals: [0i64; MEMBERS],
+    }
+}
+
+// The plot members that are finer than or equivalent to treatment member `t`.
+fn candidates(
+    plot_family: &[u8],
+    plot_size: usize,
+    treatment_family: &[u8],
+    t: usize,
+    n: usize,
+) -> u32
+    requires { ⌜ (n ≤ 240) × (7680 ≤ length (now «plot_family»)) × (7680 ≤ length (now «treatment_family»)) × («plot_size» ≤ 32) × (t < 32) ⌝ }
+    ensures { λ r. ⌜ r ≡ candidateWord n (now («plot_family» .entry)) «plot_size» (now («treatment_family» .entry)) t ⌝ }
+{
+    let mut word: u32 = 0;
+    for p in 0..plot_size {
+        if member_finer(plot_family, p, treatment_family, t, n) {
+            word = word | (1u32 << p);
+        }
+    }
+    word
+}
+
+// Whether plot member `q`, with its word of coarser members, is no candidate, or `p` itself, or finer than `p`.
+fn is_below(word: u32, among: u32, p: usize, q: usize) -> bool
+    requires { ⌜ (p < 32) × (q < 32) ⌝ }
+    ensures { λ r. ⌜ r ≡ below word among p q ⌝ }
+{
+    if !has(among, q) {
+        return true;
+    }
+    if q == p {
+        return true;
+    }
+    has(word, p)
+}
+
+// Whether `p` is a candidate to which every other candidate is finer.
+fn is_coarsest(words: [u32; MEMBERS], size: usize, among: u32, p: usize) -> bool
+    requires { ⌜ (size ≤ 32) × (p < 32) ⌝ }
+    ensures { λ r. ⌜ r ≡ coarsest words size among p ⌝ }
+{
+    if !has(among, p) {
+        return false;
+    }
+    for q in 0..size {
+        if !is_below(words[q], among, p, q) {
+            return false;
+        }
+    }
+    true
+}
+
+// The place of the coarsest candidate, from 1, or 0 where there is none.
+fn coarsest_place(words: [u32; MEMBERS], size: usize, among: u32) -> usize
+    requires { ⌜ size ≤ 32 ⌝ }
+    ensures { λ r. ⌜ r ≡ firstPassing (coarsest words size among) 0 size ⌝ }
+{
+    for p in 0..size {
+        if is_coarsest(words, size, among, p) {
+            return p + 1;
+        }
+    }
+    0
+}
+
+// The places of the strata of all treatment members.
+fn stratum_places(
+    plot_family: &[u8],
+    plot_size: usize,
+    treatment_family: &[u8],
+    treatment_size: usize,
+    n: usize,
+    words: [u32; MEMBERS],
+) -> [usize; MEMBERS]
+    requires { ⌜ Formed n (now «plot_family») «plot_size» × (7680 ≤ length (now «treatment_family»)) × («treatment_size» ≤ 32) × (words ≡ forPlaces 0 (coarserWords n (membersOf n (now «plot_family») «plot_size»))) ⌝ }
+    ensures { λ r. ⌜ r ≡ forPlaces 0 (map (stratum n (membersOf n (now («plot_family» .entry)) «plot_size»)) (membersOf n (now («treatment_family» .entry)) «treatment_size»)) ⌝ }
+{
+    let mut places = [0usize; MEMBERS];
+    for t in 0..treatment_size {
+        let among = candidates(plot_family, plot_size, treatment_family, t, n);
+        let place = coarsest_place(words, plot_size, among);
+        places[t] = place;
+    }
+    places
+}
+
+// 16: whether each of the first `size` places is one.
+fn all_placed(places: [usize; MEMBERS], size: usize) -> bool
+    requires { ⌜ size ≤ 32 ⌝ }
+    ensures { λ r. ⌜ r ≡ every size (λ t. not (eqb (getD places t 0) 0)) ⌝ }
+{
+    for t in 0..size {
+        if places[t] == 0 {
+            return false;
+        }
+    }
+    true
+}
+
+// The treatment members whose stratum has the place `place`.
+fn stratum_word(places: [usize; MEMBERS], size: usize, place: usize) -> u32
+    requires { ⌜ size ≤ 32 ⌝ }
+    ensures { λ r. ⌜ r ≡ wordOf (λ t. eqb (getD places t 0) place) size ⌝ }
+{
+    let mut word: u32 = 0;
+    for t in 0..size {
+        if places[t] == place {
+            word = word | (1u32 << t);
+        }
+    }
+    word
+}
+
+// What is left to each plot member when the numbers of the treatment members in its stratum are taken from its own.
+fn residuals(
+    own: [i64; MEMBERS],
+    plot_size: usize,
+    numbers: [i64; MEMBERS],
+    places: [usize; MEMBERS],
+    treatment_size: usize,
+) -> [i64; MEMBERS]
+    requires { ⌜ («plot_size» ≤ 32) × («treatment_size» ≤ 32) × AllSmall own × AllSmall numbers ⌝ }
+    ensures { λ r. ⌜ r ≡ forPlaces (pos 0) (tabulate (residualAt own numbers places «treatment_size») «plot_size») ⌝ }
+{
+    let mut left = [0i64; MEMBERS];
+    for p in 0..plot_size {
+        let word = stratum_word(places, treatment_size, p + 1);
+        let start = own[p];
+        let number = less(start, word, numbers, treatment_size);
+        left[p] = number;
+    }
+    left
+}
+
+// From question 16 on, of families that 15 accepts.
+fn from_16(
+    plot_family: &[u8],
+    plot_size: usize,
+    treatment_family: &[u8],
+    treatment_size: usize,
+    n: usize,
+) -> StrataReport
+    requires { ⌜ Formed n (now «plot_family») «plot_size» × Formed n (now «treatment_family») «treatment_size» ⌝ }
+    ensures { λ r. ⌜ strataIn r ≡ question16 n (membersOf n (now («plot_family» .entry)) «plot_size») (membersOf n (now («treatment_family» .entry)) «treatment_size») ⌝ }
+{
+    let plot_words = coarser_words(plot_family, n, plot_size);
+    let places = stratum_places(
+        plot_family,
+        plot_size,
+        treatment_family,
+        treatment_size,
+        n,
+        plot_words,
+    );
+    if !all_placed(places, treatment_size) {
+        return refused(16);
+    }
+    let own = degrees(plot_family, n, plot_size, plot_words);
+    let treatment_words = coarser_words(treatment_family, n, treatment_size);
+    let numbers = degrees(treatment_family, n, treatment_size, treatment_words);
+    let left = residuals(own, plot_size, numbers, places, treatment_size);
+    StrataReport {
+        refusal: 0,
+        places,
+        residuals: left,
+    }
+}
+
+// From question 15 on, once 6 is answered.
+pub fn from_15(
+    plot_family: &[u8],
+    plot_size: usize,
+    treatment_family: &[u8],
+    treatment_size: usize,
+    n: usize,
+) -> StrataReport
+    requires { ⌜ (n ≤ 240) × (7680 ≤ length (now «plot_family»)) × (7680 ≤ length (now «treatment_family»)) ⌝ }
+    ensures { λ r. ⌜ strataIn r ≡ question15 n (membersOf n (now («plot_family» .entry)) «plot_size») (membersOf n (now («treatment_family» .entry)) «treatment_size») ⌝ }
+{
+    if !well_formed(plot_family, n, plot_size) {
+        return refused(15);
+    }
+    if !well_formed(treatment_family, n, treatment_size) {
+        return refused(15);
+    }
+    from_16(plot_family, plot_size, treatment_family, treatment_size, n)
+}
