@@ -4,6 +4,10 @@ pub mod Order
 pub mod Common
 pub mod Placing
 pub mod Start
+pub mod Choosing
+pub mod Suprema
 pub mod Work
 pub mod Judge
 pub mod Answered
+pub mod FullAnswered
+pub mod WithTreatments

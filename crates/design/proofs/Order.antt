@@ -284,7 +284,8 @@ module _ (n : ℕ) (small : n ≤ 240) (store : List ℕ) (size : ℕ) where
 
 -- ---- writing
 
-written-snoc : (b : List ℕ) (k : ℕ) (As : Family) (F : Column) → written b k (As ++ F ∷ []) ≡ take (240 * (k + length As)) (written b k As) ++ F ++ drop (240 * (k + length As) + length F) (written b k As)
+-- a member written after the last one
+pub written-snoc : (b : List ℕ) (k : ℕ) (As : Family) (F : Column) → written b k (As ++ F ∷ []) ≡ take (240 * (k + length As)) (written b k As) ++ F ++ drop (240 * (k + length As) + length F) (written b k As)
 unfolding written
 written-snoc b k [] F = ap (λ (j : ℕ). take (240 * j) b ++ F ++ drop (240 * j + length F) b) (sym (add-zero k))
 written-snoc b k (A ∷ As) F =

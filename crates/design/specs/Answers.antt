@@ -3,9 +3,11 @@
 use mathlib.Core.Bool.{Bool, true, false}
 use Prim.Native.Nat.{ℕ}
 use lib.Dec.{eqb}
-use Rattle.rules.specs.Design.{Answer, plotSize}
+use Rattle.rules.specs.Design.{Answer, plotSize, treatmentSize}
 use Rattle.design.specs.declared.PlotDesign.{PlotDesign}
 use Rattle.design.specs.declared.PlotDesign.the-variants.{Accepted, Refused}
+use Rattle.design.specs.declared.FullDesign.{FullDesign}
+use Rattle.design.specs.declared.FullDesign.the-variants as full
 
 -- whether it is accepted, the number of the question that failed or 0, the places, and the size of the plot family
 pub record PlotNumbers : Type 0 where
@@ -23,3 +25,23 @@ plotNumbers (Refused r) = record { accepted = false; refusal = r .number; first 
 -- an answer of the rules
 unfoldable pub plotNumbersOf : Answer → PlotNumbers
 plotNumbersOf a = record { accepted = eqb (a .refusal) 0; refusal = a .refusal; first = a .places .first; second = a .places .second; size = plotSize a }
+
+-- ---- the full design
+
+-- whether it is accepted, the number of the question that failed or 0, the places, and the sizes of the two families
+pub record FullNumbers : Type 0 where
+  pub accepted : Bool
+  pub refusal : ℕ
+  pub first : ℕ
+  pub second : ℕ
+  pub plot : ℕ
+  pub treatment : ℕ
+
+-- each case of the enum
+unfoldable pub fullNumbers : FullDesign → FullNumbers
+fullNumbers (full.Accepted s) = record { accepted = true; refusal = 0; first = 0; second = 0; plot = s .plot; treatment = s .treatment }
+fullNumbers (full.Refused r) = record { accepted = false; refusal = r .number; first = r .first; second = r .second; plot = r .plot; treatment = r .treatment }
+
+-- an answer of the rules
+unfoldable pub fullNumbersOf : Answer → FullNumbers
+fullNumbersOf a = record { accepted = eqb (a .refusal) 0; refusal = a .refusal; first = a .places .first; second = a .places .second; plot = plotSize a; treatment = treatmentSize a }

@@ -21,12 +21,13 @@ unfoldable pub extended : ℕ → Column → List (List Column) → List (List C
 unfolding shorter
 extended k T Cs = Cs ++ map (λ (C : List Column). T ∷ C) (shorter k Cs)
 
--- room for the infima of 64 choices and for how many columns each has
+-- room for the infima of 64 choices and for how many columns each has, which are at most 6
 pub record Room (n : ℕ) (infima lengths : List ℕ) : Type 0 where
   pub some : 1 ≤ n
   pub most : n ≤ 240
   pub bytes : length infima ≡ 15360
   pub cells : length lengths ≡ 64
+  pub small : (e : ℕ) → getD lengths e 0 ≤ 6
 
 -- the infima of the choices Cs are written, with how many columns each has
 pub record Infima (n : ℕ) (infima lengths : List ℕ) (total : ℕ) (Cs : List (List Column)) : Type 0 where
@@ -43,8 +44,8 @@ pub data AllPlaced (n : ℕ) (Gs : List Column) (store counts : List ℕ) (r : �
 
 -- the first treatment family is written, or it is too large
 pub data FirstFamily (n k : ℕ) (Ts : List Column) (before after : List ℕ) (r : ℕ) : Type 0 where
-  too-many : r ≡ 33 → firstTreatmentFamily n k Ts ≡ tooMany → FirstFamily n k Ts before after r
-  listed : (S : Family) → firstTreatmentFamily n k Ts ≡ family S → r ≡ length S → r ≤ 32 → after ≡ written before 0 S → FirstFamily n k Ts before after r
+  no-first : r ≡ 33 → firstTreatmentFamily n k Ts ≡ tooMany → FirstFamily n k Ts before after r
+  a-first : (S : Family) → firstTreatmentFamily n k Ts ≡ family S → r ≡ length S → r ≤ 32 → after ≡ written before 0 S → FirstFamily n k Ts before after r
 
 -- the columns As are placed, or more than 32 of them differ
 pub data Placing (n : ℕ) (As : List Column) (store counts : List ℕ) (r : ℕ) : Type 0 where

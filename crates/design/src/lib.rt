@@ -4,23 +4,26 @@ ghost use mathlib.Core.Path.{_≡_};
 ghost use mathlib.Core.Bool.{true};
 ghost use Prim.Native.Nat.{ℕ, _≤_, _<_};
 ghost use lib.ListN.{length, getD};
-ghost use Rattle.rules.specs.Factor.{Column, uniform};
+ghost use Rattle.rules.specs.Factor.{uniform, orthogonal};
 ghost use Rattle.rules.specs.Family.{Family, columnsFrom, membersOf, AtMost};
-ghost use Rattle.rules.specs.Closing.{plotGenerators, plotFamily, InPlotFamily};
-ghost use Rattle.rules.specs.Design.{refused, plotDesign, question8, question9, firstFailing, plotBuffer};
+ghost use Rattle.rules.specs.Closing.{plotGenerators, plotFamily, InPlotFamily, firstTreatmentFamily, finalTreatmentFamily};
+ghost use Rattle.rules.specs.Design.{refused, plotDesign, question8, question9, firstFailing, plotBuffer, fullDesign, withTreatments, question11, question12, question13, question14, firstPair, firstCross, treatmentBuffer};
 ghost use Rattle.rules.specs.Structure.{Lent, Demand3};
 ghost use Rattle.design.specs.State.{Closed};
 ghost use Rattle.design.specs.Judging.{Judging};
-ghost use Rattle.design.specs.Answers.{plotNumbers, plotNumbersOf};
+ghost use Rattle.design.specs.Answers.{plotNumbers, plotNumbersOf, fullNumbers, fullNumbersOf};
 
 mod closing;
 mod columns;
+mod pairs;
 mod questions;
 mod sorting;
 mod store;
+mod treatments;
 
 use closing::PAIRS;
 use closing::TOO_MANY;
+use limits::COLUMNS;
 use limits::FAMILY;
 use limits::Level;
 use limits::MEMBERS;
@@ -144,4 +147,223 @@ fn from_9(
         });
     }
     PlotDesign::Accepted(size)
+}
+
+// The sizes of the plot and the treatment family written.
+pub struct Sizes {
+    pub plot: usize,
+    pub treatment: usize,
+}
+
+// Why a full design is refused: the question's number, the places it fails at, and the sizes of the families written.
+pub struct FullRefusal {
+    pub number: u32,
+    pub first: usize,
+    pub second: usize,
+    pub plot: usize,
+    pub treatment: usize,
+}
+
+// What the full design answers: the sizes of the families written, or the refusal.
+pub enum FullDesign {
+    Accepted(Sizes),
+    Refused(FullRefusal),
+}
+
+// Questions 6 to 14 of the plot and treatment columns of a level table.
+pub fn full_design(
+    levels: &[Level],
+    plots: usize,
+    plot_columns: usize,
+    treatment_columns: usize,
+    k: usize,
+    plot_family: &mut [u8],
+    treatment_family: &mut [u8],
+) -> FullDesign
+    ensures answer { λ r. ⌜ fullNumbers r ≡ fullNumbersOf (fullDesign plots «plot_columns» «treatment_columns» k (now (levels .entry)) (length (now («plot_family» .entry))) (length (now («treatment_family» .entry)))) ⌝ }
+    ensures plots { λ _. ⌜ now («plot_family» .exit) ≡ plotBuffer (now («plot_family» .entry)) (fullDesign plots «plot_columns» «treatment_columns» k (now (levels .entry)) (length (now («plot_family» .entry))) (length (now («treatment_family» .entry)))) ⌝ }
+    ensures treatments { λ _. ⌜ now («treatment_family» .exit) ≡ treatmentBuffer (now («treatment_family» .entry)) (fullDesign plots «plot_columns» «treatment_columns» k (now (levels .entry)) (length (now («plot_family» .entry))) (length (now («treatment_family» .entry)))) ⌝ }
+{
+    if !questions::full_within(
+        plots,
+        plot_columns,
+        treatment_columns,
+        k,
+        levels.len(),
+        plot_family.len(),
+        treatment_family.len(),
+    ) {
+        return full_refused(6);
+    }
+    if !questions::all_nonzero(levels, plots, 0, plot_columns) {
+        return full_refused(7);
+    }
+    if !questions::all_nonzero(levels, plots, COLUMNS, treatment_columns) {
+        return full_refused(7);
+    }
+    with_treatments(
+        levels,
+        plots,
+        plot_columns,
+        treatment_columns,
+        k,
+        plot_family,
+        treatment_family,
+    )
+}
+
+// Questions 8 to 14: an accepted plot family goes on to the treatments.
+fn with_treatments(
+    levels: &[Level],
+    n: usize,
+    c: usize,
+    d: usize,
+    k: usize,
+    plot_family: &mut [u8],
+    treatment_family: &mut [u8],
+) -> FullDesign
+    requires { ⌜ (1 ≤ n) × (n ≤ 240) × (c ≤ 6) × (d ≤ 6) × (1 ≤ k) × (k ≤ 6) × (2880 ≤ length (now levels)) × (7680 ≤ length (now «plot_family»)) × (7680 ≤ length (now «treatment_family»)) ⌝ }
+    ensures answer { λ r. ⌜ fullNumbers r ≡ fullNumbersOf (withTreatments n k (columnsFrom n (now (levels .entry)) 6 d) (question8 n (plotFamily n (columnsFrom n (now (levels .entry)) 0 c)))) ⌝ }
+    ensures plots { λ _. ⌜ now («plot_family» .exit) ≡ plotBuffer (now («plot_family» .entry)) (withTreatments n k (columnsFrom n (now (levels .entry)) 6 d) (question8 n (plotFamily n (columnsFrom n (now (levels .entry)) 0 c)))) ⌝ }
+    ensures treatments { λ _. ⌜ now («treatment_family» .exit) ≡ treatmentBuffer (now («treatment_family» .entry)) (withTreatments n k (columnsFrom n (now (levels .entry)) 6 d) (question8 n (plotFamily n (columnsFrom n (now (levels .entry)) 0 c)))) ⌝ }
+{
+    let answer = from_8(levels, n, c, plot_family);
+    match answer {
+        PlotDesign::Refused(r) => FullDesign::Refused(FullRefusal {
+            number: r.number,
+            first: r.first,
+            second: r.second,
+            plot: r.size,
+            treatment: 0,
+        }),
+        PlotDesign::Accepted(plot) => from_11(levels, n, d, k, plot_family, plot, treatment_family),
+    }
+}
+
+// A refusal that writes nothing.
+fn full_refused(number: u32) -> FullDesign
+    requires { ⌜ 0 < number ⌝ }
+    ensures { λ r. ⌜ fullNumbers r ≡ fullNumbersOf (refused number) ⌝ }
+{
+    FullDesign::Refused(FullRefusal {
+        number,
+        first: 0,
+        second: 0,
+        plot: 0,
+        treatment: 0,
+    })
+}
+
+// Questions 11 to 14, with the plot family accepted and written.
+fn from_11(
+    levels: &[Level],
+    n: usize,
+    d: usize,
+    k: usize,
+    plot_family: &[u8],
+    plot: usize,
+    treatment_family: &mut [u8],
+) -> FullDesign
+    requires { ⌜ (1 ≤ n) × (n ≤ 240) × (d ≤ 6) × (1 ≤ k) × (k ≤ 6) × (2880 ≤ length (now levels)) × (7680 ≤ length (now «plot_family»)) × (plot ≤ 32) × (7680 ≤ length (now «treatment_family»)) ⌝ }
+    ensures answer { λ r. ⌜ fullNumbers r ≡ fullNumbersOf (question11 n (membersOf n (now («plot_family» .entry)) plot) (firstTreatmentFamily n k (columnsFrom n (now (levels .entry)) 6 d))) ⌝ }
+    ensures buffer { λ _. ⌜ now («treatment_family» .exit) ≡ treatmentBuffer (now («treatment_family» .entry)) (question11 n (membersOf n (now («plot_family» .entry)) plot) (firstTreatmentFamily n k (columnsFrom n (now (levels .entry)) 6 d))) ⌝ }
+{
+    let mut first = [0u8; FAMILY];
+    let size = treatments::first_family(levels, n, d, k, &mut first);
+    if size == TOO_MANY {
+        return FullDesign::Refused(FullRefusal {
+            number: 11,
+            first: 0,
+            second: 0,
+            plot,
+            treatment: 0,
+        });
+    }
+    from_12(plot_family, plot, &first, size, n, treatment_family)
+}
+
+// Questions 12 to 14 of the first treatment family.
+fn from_12(
+    plot_family: &[u8],
+    plot: usize,
+    first: &[u8],
+    size: usize,
+    n: usize,
+    treatment_family: &mut [u8],
+) -> FullDesign
+    requires { ⌜ (1 ≤ n) × (n ≤ 240) × (7680 ≤ length (now «plot_family»)) × (plot ≤ 32) × (7680 ≤ length (now first)) × (size ≤ 32) × (7680 ≤ length (now «treatment_family»)) ⌝ }
+    ensures answer { λ r. ⌜ fullNumbers r ≡ fullNumbersOf (question12 n (membersOf n (now («plot_family» .entry)) plot) (membersOf n (now (first .entry)) size) (firstPair (orthogonal n) 1 (membersOf n (now (first .entry)) size))) ⌝ }
+    ensures buffer { λ _. ⌜ now («treatment_family» .exit) ≡ treatmentBuffer (now («treatment_family» .entry)) (question12 n (membersOf n (now («plot_family» .entry)) plot) (membersOf n (now (first .entry)) size) (firstPair (orthogonal n) 1 (membersOf n (now (first .entry)) size))) ⌝ }
+{
+    let pair = pairs::first_pair(first, n, size);
+    let at = pair.first;
+    if at != 0 {
+        treatments::copy_family(first, n, size, treatment_family);
+        return FullDesign::Refused(FullRefusal {
+            number: 12,
+            first: at,
+            second: pair.second,
+            plot,
+            treatment: size,
+        });
+    }
+    from_13(plot_family, plot, first, size, n, treatment_family)
+}
+
+// Questions 13 and 14.
+fn from_13(
+    plot_family: &[u8],
+    plot: usize,
+    first: &[u8],
+    size: usize,
+    n: usize,
+    treatment_family: &mut [u8],
+) -> FullDesign
+    requires { ⌜ (1 ≤ n) × (n ≤ 240) × (7680 ≤ length (now «plot_family»)) × (plot ≤ 32) × (7680 ≤ length (now first)) × (size ≤ 32) × (7680 ≤ length (now «treatment_family»)) ⌝ }
+    ensures answer { λ r. ⌜ fullNumbers r ≡ fullNumbersOf (question13 (membersOf n (now («plot_family» .entry)) plot) (membersOf n (now (first .entry)) size) (firstCross (orthogonal n) 1 (membersOf n (now («plot_family» .entry)) plot) (membersOf n (now (first .entry)) size))) ⌝ }
+    ensures buffer { λ _. ⌜ now («treatment_family» .exit) ≡ treatmentBuffer (now («treatment_family» .entry)) (question13 (membersOf n (now («plot_family» .entry)) plot) (membersOf n (now (first .entry)) size) (firstCross (orthogonal n) 1 (membersOf n (now («plot_family» .entry)) plot) (membersOf n (now (first .entry)) size))) ⌝ }
+{
+    let pair = pairs::first_cross(plot_family, plot, first, size, n);
+    let at = pair.first;
+    if at != 0 {
+        treatments::copy_family(first, n, size, treatment_family);
+        return FullDesign::Refused(FullRefusal {
+            number: 13,
+            first: at,
+            second: pair.second,
+            plot,
+            treatment: size,
+        });
+    }
+    from_14(plot_family, plot, first, size, n, treatment_family)
+}
+
+// Question 14.
+fn from_14(
+    plot_family: &[u8],
+    plot: usize,
+    first: &[u8],
+    size: usize,
+    n: usize,
+    treatment_family: &mut [u8],
+) -> FullDesign
+    requires { ⌜ (1 ≤ n) × (n ≤ 240) × (7680 ≤ length (now «plot_family»)) × (plot ≤ 32) × (7680 ≤ length (now first)) × (size ≤ 32) × (7680 ≤ length (now «treatment_family»)) ⌝ }
+    ensures answer { λ r. ⌜ fullNumbers r ≡ fullNumbersOf (question14 (membersOf n (now («plot_family» .entry)) plot) (membersOf n (now (first .entry)) size) (finalTreatmentFamily (membersOf n (now («plot_family» .entry)) plot) (membersOf n (now (first .entry)) size))) ⌝ }
+    ensures buffer { λ _. ⌜ now («treatment_family» .exit) ≡ treatmentBuffer (now («treatment_family» .entry)) (question14 (membersOf n (now («plot_family» .entry)) plot) (membersOf n (now (first .entry)) size) (finalTreatmentFamily (membersOf n (now («plot_family» .entry)) plot) (membersOf n (now (first .entry)) size))) ⌝ }
+{
+    let last = treatments::final_family(plot_family, plot, first, size, n, treatment_family);
+    if last == TOO_MANY {
+        treatments::copy_family(first, n, size, treatment_family);
+        return FullDesign::Refused(FullRefusal {
+            number: 14,
+            first: 0,
+            second: 0,
+            plot,
+            treatment: size,
+        });
+    }
+    FullDesign::Accepted(Sizes {
+        plot,
+        treatment: last,
+    })
 }

@@ -4,11 +4,12 @@ ghost use Prim.Native.Nat.{ℕ, _+_, _*_, _≤_, _<_};
 ghost use lib.ListN.{length, getD};
 ghost use Rattle.rules.specs.Factor.{uniform};
 ghost use Rattle.rules.specs.Family.{membersOf, columnsFrom};
-ghost use Rattle.rules.specs.Design.{withinLimits, nonzero, allNonzero, firstFailing};
+ghost use Rattle.rules.specs.Design.{withinLimits, fullWithinLimits, nonzero, allNonzero, firstFailing};
 ghost use Rattle.design.specs.Search.{firstPairOf, agreeRow, agree, PairIn};
 use crate::closing::PAIRS;
 use limits::COLUMNS;
 use limits::FAMILY;
+use limits::INTERACTION;
 use limits::LEVELS;
 use limits::Level;
 use limits::MEMBERS;
@@ -37,6 +38,33 @@ pub fn within(plots: usize, columns: usize, levels: usize, family: usize) -> boo
         return false;
     }
     FAMILY <= family
+}
+
+// 6 for the full design.
+pub fn full_within(
+    plots: usize,
+    plot_columns: usize,
+    treatment_columns: usize,
+    k: usize,
+    levels: usize,
+    plot_family: usize,
+    treatment_family: usize,
+) -> bool
+    ensures { λ r. ⌜ r ≡ fullWithinLimits plots «plot_columns» «treatment_columns» k levels «plot_family» «treatment_family» ⌝ }
+{
+    if !within(plots, plot_columns, levels, plot_family) {
+        return false;
+    }
+    if COLUMNS < treatment_columns {
+        return false;
+    }
+    if k < 1 {
+        return false;
+    }
+    if INTERACTION < k {
+        return false;
+    }
+    FAMILY <= treatment_family
 }
 
 // Whether no level of a column is 0.

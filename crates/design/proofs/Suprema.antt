@@ -1,0 +1,326 @@
+-- Laws of the suprema of plot and treatment members: lent members, the suprema row by row, and more of them than a family may have.
+-- Assumes nothing.
+use mathlib.Core.Path.{_≡_, refl, sym, ap, ap₂, _∙_, subst}
+use mathlib.Core.Logic.{_⊎_, inl, inr}
+use mathlib.Core.Bool.{Bool}
+use mathlib.Core.List.{List, [], _∷_, _++_, append-nil, append-assoc, List·Memᴰ·not-nil, List·Memᴰ·append-cases, List·Memᴰ·eq-of-singleton, Memᴰ·cast, Memᴰ·append-left, Memᴰ·append-right}
+use Prim.Native.Nat.{ℕ, zero, suc, _+_, _*_, _-_, _≤_, _<_}
+use native.Mathlib.Nat.{le-of-eq, add-zero, zero-add}
+use native.Mathlib.Numerals.{add-one}
+use native.Mathlib.Omega.{arith}
+use lib.ListN.{length, getD, take, drop, length-append}
+use lib.Seq.{paste, take-all, take-at}
+use Rattle.rules.specs.Factor.{Column, number, classes, supremum}
+use Rattle.rules.specs.Family.{Family, _∈_, empty, columnsFrom, membersOf, insertAll, written}
+use Rattle.rules.specs.Closing.{onlySupremum, productsOf, products, finalTreatmentFamily}
+use Rattle.rules.specs.Relation.{memberAt}
+use Rattle.rules.proofs.Buffer.{length-members, columns-snoc}
+use Rattle.rules.proofs.ClassCount.{classes-most}
+use Rattle.rules.proofs.Closing.{pigeonhole, ascending-distinct}
+use Rattle.rules.proofs.Members.{insertAll-has, insertAll-only, ascending-insertAll, ascending-unique}
+use Rattle.rules.proofs.Supremum.{length-supremum, number-supremum}
+use Rattle.rules.proofs.WorkList.{member-in, distinct-more, length-sorted}
+use Rattle.factor.specs.Lent.{common, onCommon, overlay}
+use Rattle.factor.specs.Standing.{testCommon}
+use Rattle.factor.proofs.Lent.{common-all}
+use Rattle.design.specs.State.{columnIn, Held, Placed, full, old, new, grownTo, Begun, Sorted}
+use Rattle.design.specs.Treatments.{Placing, exceeded, begun}
+use Rattle.design.proofs.Asked.{part-is, length-column}
+use Rattle.design.proofs.Order.{written-snoc}
+use Rattle.design.proofs.Placing.{grown-new, grown-old}
+use Rattle.design.proofs.Start.{begun-more}
+
+-- ---- lent members
+
+-- a test of two columns on n plots looks at them whole
+pub lent-test : (test : ℕ → Column → Column → Bool) (n : ℕ) (F G : Column) → length F ≡ n → length G ≡ n → n ≤ 240 → testCommon test F G ≡ test n F G
+lent-test test n F G a b h =
+    let e : common F G ≡ n = omega arith in
+    ap (λ (k : ℕ). test k (take k F) (take k G)) e ∙ ap₂ (test n) (take-all n F (le-of-eq a)) (take-all n G (le-of-eq b))
+
+module _ (n i j : ℕ) (plot first : List ℕ) (small : n ≤ 240) (a : 240 * i + n ≤ length plot) (b : 240 * j + n ≤ length first) where
+  -- the plot member
+  abbrev F : Column
+  F = columnIn n plot i
+
+  -- the treatment member
+  abbrev G : Column
+  G = columnIn n first j
+
+  -- what is made of the two columns as they are lent
+  abbrev pub lentSupremum : Column
+  lentSupremum = onCommon supremum (take (240 * i + n - 240 * i) (drop (240 * i) plot)) (take (240 * j + n - 240 * j) (drop (240 * j) first))
+
+  -- they are on the same plots
+  same : length F ≡ length G
+  same = length-column n i plot a ∙ sym (length-column n j first b)
+
+  -- it is the supremum of the two columns
+  lent-whole : lentSupremum ≡ supremum F G
+  lent-whole =
+      ap₂ (λ (X Y : Column). onCommon supremum X Y) (part-is n (240 * i) plot) (part-is n (240 * j) first)
+      ∙ common-all supremum F G same (omega (arith, length-column n i plot a))
+
+  -- it is on n plots
+  pub length-made : length (supremum F G) ≡ n
+  length-made = length-supremum F G same ∙ length-column n i plot a
+
+  -- it is numbered
+  pub number-made : number (supremum F G) ≡ supremum F G
+  number-made = number-supremum F G same
+
+  -- its number of classes, and that this is small
+  pub classes-made : (k : ℕ) → k ≡ classes lentSupremum → (k ≡ classes (supremum F G)) × (k ≤ 240)
+  classes-made k e =
+      let q : k ≡ classes (supremum F G) = e ∙ ap classes lent-whole in
+      (q, omega (arith, classes-most (supremum F G), length-made))
+
+  module _ (out after : List ℕ) (e : after ≡ overlay out lentSupremum) where
+    -- the supremum stands at the start of the array
+    written-made : after ≡ overlay out (supremum F G)
+    written-made = e ∙ ap (overlay out) lent-whole
+
+    -- the array starts with it
+    pub take-made : take n after ≡ supremum F G
+    take-made = ap (λ (l : List ℕ). take n l) written-made ∙ take-at (supremum F G) _ n length-made
+
+    -- the array is long enough
+    pub long-made : n ≤ length after
+    long-made = rw (written-made, length-append) (omega (arith, length-made))
+
+-- ---- members of a buffer one by one
+
+-- the successor on either side
+across : (a k : ℕ) → suc a + k ≡ a + suc k
+across a k = omega arith
+
+-- columns in two parts
+columns-split : (n : ℕ) (b : List ℕ) (i k m : ℕ) → columnsFrom n b i (k + m) ≡ columnsFrom n b i k ++ columnsFrom n b (i + k) m
+unfolding columnsFrom
+columns-split n b i zero m = ap₂ (columnsFrom n b) (sym (add-zero i)) (zero-add m)
+columns-split n b i (suc k) m =
+    let e : suc k + m ≡ suc (k + m) = omega arith in
+    ap (columnsFrom n b i) e
+    ∙ ap (λ (l : Family). columnIn n b i ∷ l) (columns-split n b (suc i) k m ∙ ap (λ (x : ℕ). columnsFrom n b (suc i) k ++ columnsFrom n b x m) (across i k))
+
+module _ (n : ℕ) (b : List ℕ) where
+  -- the first k members, and the others
+  pub members-split : (k m : ℕ) → k ≤ m → membersOf n b m ≡ membersOf n b k ++ columnsFrom n b k (m - k)
+  unfolding membersOf
+  members-split k m h =
+      let e : m ≡ k + (m - k) = omega arith in
+      ap (columnsFrom n b 0) e ∙ columns-split n b 0 k (m - k) ∙ ap (λ (x : ℕ). columnsFrom n b 0 k ++ columnsFrom n b x (m - k)) (zero-add k)
+
+  -- one member more
+  pub members-snoc : (j : ℕ) → membersOf n b (j + 1) ≡ membersOf n b j ++ columnIn n b j ∷ []
+  unfolding membersOf
+  members-snoc j = ap (columnsFrom n b 0) (add-one j) ∙ columns-snoc n b 0 j ∙ ap (λ (i : ℕ). columnsFrom n b 0 j ++ columnIn n b i ∷ []) (zero-add j)
+
+  -- the next member is copied after those before it
+  pub copy-turn : n ≤ 240 → (to : List ℕ) (i : ℕ) → length (columnIn n b i) ≡ n
+      → paste (written to 0 (membersOf n b i)) (240 * i) (columnIn n b i) n ≡ written to 0 (membersOf n b (i + 1))
+  copy-turn small to i len =
+      let H : Column = columnIn n b i in
+      let S : Family = membersOf n b i in
+      let c : List ℕ = written to 0 S in
+      let count : 0 + length S ≡ i = zero-add (length S) ∙ length-members n small b i in
+      sym (
+      ap (written to 0) (members-snoc i)
+      ∙ written-snoc to 0 S H
+      ∙ ap₂ (λ (j m : ℕ). take (240 * j) c ++ H ++ drop (240 * j + m) c) count len
+      ∙ ap (λ (X : Column). take (240 * i) c ++ X ++ drop (240 * i + n) c) (sym (take-all n H (le-of-eq len))))
+
+-- ---- suprema row by row
+
+module _ (make : Column → Column → List Column) where
+  -- with the members of two families one after the other
+  productsOf-append : (F : Column) (S T : Family) → productsOf make F (S ++ T) ≡ productsOf make F S ++ productsOf make F T
+  unfolding productsOf
+  productsOf-append F [] T = refl
+  productsOf-append F (G ∷ S) T = ap (λ (l : List Column). make F G ++ l) (productsOf-append F S T) ∙ sym (append-assoc (make F G) (productsOf make F S) (productsOf make F T))
+
+  -- of the members of two families one after the other
+  products-append : (P R S : Family) → products make (P ++ R) S ≡ products make P S ++ products make R S
+  unfolding products
+  products-append [] R S = refl
+  products-append (F ∷ P) R S = ap (λ (l : List Column). productsOf make F S ++ l) (products-append P R S) ∙ sym (append-assoc (productsOf make F S) (products make P S) (products make R S))
+
+  -- of one member
+  products-one : (F : Column) (S : Family) → products make (F ∷ []) S ≡ productsOf make F S
+  unfolding products
+  products-one F S = append-nil (productsOf make F S)
+
+-- with one member
+productsOf-one : (F G : Column) → productsOf onlySupremum F (G ∷ []) ≡ supremum F G ∷ []
+unfolding productsOf onlySupremum
+productsOf-one F G = refl
+
+module _ (n : ℕ) (b : List ℕ) where
+  module _ (As : List Column) (F : Column) where
+    -- what there is once the suprema of F with the first j members are placed after As
+    abbrev pub rowOf : ℕ → List Column
+    rowOf j = As ++ productsOf onlySupremum F (membersOf n b j)
+
+    -- no supremum yet
+    pub row-none : rowOf 0 ≡ As
+    unfolding membersOf columnsFrom productsOf
+    row-none = append-nil As
+
+    -- a supremum more
+    pub row-more : (j : ℕ) → rowOf (j + 1) ≡ rowOf j ++ supremum F (columnIn n b j) ∷ []
+    row-more j =
+        ap (λ (S : Family). As ++ productsOf onlySupremum F S) (members-snoc n b j)
+        ∙ ap (λ (l : List Column). As ++ l) (productsOf-append onlySupremum F (membersOf n b j) (columnIn n b j ∷ []) ∙ ap (λ (l : List Column). productsOf onlySupremum F (membersOf n b j) ++ l) (productsOf-one F (columnIn n b j)))
+        ∙ sym (append-assoc As (productsOf onlySupremum F (membersOf n b j)) (supremum F (columnIn n b j) ∷ []))
+
+    -- a whole row has what a part of it has
+    pub row-within : (k m : ℕ) → k ≤ m → (H : Column) → H ∈ rowOf k → H ∈ rowOf m
+    row-within k m h H i = subst (λ (l : List Column). H ∈ l) (sym whole) (Memᴰ·append-left _ i)
+      where
+        -- the part, and the rest
+        whole : rowOf m ≡ rowOf k ++ productsOf onlySupremum F (columnsFrom n b k (m - k))
+        whole =
+            ap (λ (S : Family). As ++ productsOf onlySupremum F S) (members-split n b k m h)
+            ∙ ap (λ (l : List Column). As ++ l) (productsOf-append onlySupremum F (membersOf n b k) (columnsFrom n b k (m - k)))
+            ∙ sym (append-assoc As (productsOf onlySupremum F (membersOf n b k)) (productsOf onlySupremum F (columnsFrom n b k (m - k))))
+
+  module _ (S : Family) where
+    -- the suprema of the first i members with those of S
+    abbrev pub rowsOf : ℕ → List Column
+    rowsOf i = products onlySupremum (membersOf n b i) S
+
+    -- no row yet
+    pub rows-none : rowsOf 0 ≡ []
+    unfolding membersOf columnsFrom products
+    rows-none = refl
+
+    -- a row more
+    pub rows-more : (i : ℕ) → rowsOf (i + 1) ≡ rowsOf i ++ productsOf onlySupremum (columnIn n b i) S
+    rows-more i =
+        ap (λ (P : Family). products onlySupremum P S) (members-snoc n b i)
+        ∙ products-append onlySupremum (membersOf n b i) (columnIn n b i ∷ []) S
+        ∙ ap (λ (l : List Column). rowsOf i ++ l) (products-one onlySupremum (columnIn n b i) S)
+
+    -- all rows have what some of them have
+    pub rows-within : (k m : ℕ) → k ≤ m → (H : Column) → H ∈ rowsOf k → H ∈ rowsOf m
+    rows-within k m h H i = subst (λ (l : List Column). H ∈ l) (sym whole) (Memᴰ·append-left _ i)
+      where
+        -- these rows, and the rest
+        whole : rowsOf m ≡ rowsOf k ++ products onlySupremum (columnsFrom n b k (m - k)) S
+        whole = ap (λ (P : Family). products onlySupremum P S) (members-split n b k m h) ∙ products-append onlySupremum (membersOf n b k) (columnsFrom n b k (m - k)) S
+
+-- ---- how many different columns there are
+
+-- the family lists no other column
+listed-only : (As : List Column) (G : Column) → G ∈ insertAll As [] → G ∈ As
+listed-only As G m = go (insertAll-only As [] G m)
+  where
+    go : (G ∈ As) ⊎ (G ∈ []) → G ∈ As
+    go (inl k) = k
+    go (inr k) = absurd (List·Memᴰ·not-nil k)
+
+-- more columns only make the family larger
+pub insertAll-more : (As Bs : List Column) → ((G : Column) → G ∈ As → G ∈ Bs) → length (insertAll As []) ≤ length (insertAll Bs [])
+insertAll-more As Bs f =
+    pigeonhole (insertAll As []) (insertAll Bs []) (ascending-distinct (ascending-insertAll As [] empty)) (λ G m. insertAll-has Bs [] G (f G (listed-only As G m)))
+
+-- the same columns make the same family
+pub insertAll-same : (As Bs : List Column) → ((G : Column) → G ∈ As → G ∈ Bs) → ((G : Column) → G ∈ Bs → G ∈ As) → insertAll As [] ≡ insertAll Bs []
+insertAll-same As Bs f g =
+    ascending-unique (insertAll As []) (insertAll Bs []) (ascending-insertAll As [] empty) (ascending-insertAll Bs [] empty)
+    (λ G m. insertAll-has Bs [] G (f G (listed-only As G m)))
+    (λ G m. insertAll-has As [] G (g G (listed-only Bs G m)))
+
+-- ---- a column placed, however many there are
+
+module _ (n : ℕ) (store counts : List ℕ) (size : ℕ) (h : Held n store counts size) (F : Column) (r : ℕ) (after counts′ : List ℕ) where
+  -- the members before
+  abbrev S : Family
+  S = membersOf n store size
+
+  -- how many they are
+  ends : length S ≡ size
+  ends = length-members n (h .most) store size
+
+  -- there was room: the store holds what it held, and the column
+  pub held-placed : (r ≡ 32 → ⊥) → Placed n S F r after counts′ → Held n after counts′ (grownTo size r) × (size ≤ grownTo size r)
+  held-placed d (full e l m) = absurd (d e)
+  held-placed d (old l m k e) =
+      let g : grownTo size r ≡ length S = grown-old size r (λ q. omega (arith, ends)) ∙ sym ends in
+      (rw g k, omega (arith, ends))
+  held-placed d (new e l m k q) =
+      let g : grownTo size r ≡ suc r = grown-new size r (e ∙ ends) ∙ omega (arith, ends) in
+      (rw g k, omega (arith, ends))
+
+  module _ (As : List Column) (b : Begun n As store counts size) where
+    -- there was room: the members are the columns As and F
+    pub begun-placed : number F ≡ F → (r ≡ 32 → ⊥) → Placed n S F r after counts′ → Begun n (As ++ F ∷ []) after counts′ (grownTo size r)
+    begun-placed i d (full e l m) = absurd (d e)
+    begun-placed i d (new e l m k q) =
+        let less : size < 32 = omega (arith, ends) in
+        begun-more n As store counts size b less F i r after counts′ (new e l m k q)
+    begun-placed i d (old l m k e) =
+        let g : grownTo size r ≡ length S = grown-old size r (λ q. omega (arith, ends)) ∙ sym ends in
+        let members : membersOf n after (grownTo size r) ≡ S = ap (membersOf n after) g ∙ e in
+        record {
+          held = rw g k;
+          most = rw (length-append As (F ∷ [])) (omega (arith, ends, b .most));
+          distinct = rw members (b .distinct);
+          numbered = λ G w. b .numbered G (rw members at w);
+          only = λ G w. Memᴰ·append-left _ (b .only G (rw members at w));
+          given = λ G w. rw members (is-placed l m G (List·Memᴰ·append-cases As w));
+        }
+      where
+        is-placed : r < length S → memberAt S r ≡ F → (G : Column) → (G ∈ As) ⊎ (G ∈ F ∷ []) → G ∈ S
+        is-placed l m G (inl w) = b .given G w
+        is-placed l m G (inr w) = Memᴰ·cast (List·Memᴰ·eq-of-singleton w ∙ sym m) (member-in S r l)
+
+    -- there was none: they are more than 32
+    pub over-placed : r ≡ 32 → Placed n S F r after counts′ → 32 < length (insertAll (As ++ F ∷ []) [])
+    over-placed d (old l m k e) = absurd (let q : 32 < 32 = omega (arith, ends, h .few) in omega arith)
+    over-placed d (new e l m k q) = absurd (let q : 32 < 32 = omega arith in omega arith)
+    over-placed d (full e l m) =
+        let p = pigeonhole (S ++ F ∷ []) (insertAll (As ++ F ∷ []) []) (distinct-more (b .distinct) m) (λ G w. insertAll-has (As ++ F ∷ []) [] G (is-given G (List·Memᴰ·append-cases S w))) in
+        omega (arith, p, length-append S (F ∷ []))
+      where
+        is-given : (G : Column) → (G ∈ S) ⊎ (G ∈ F ∷ []) → G ∈ As ++ F ∷ []
+        is-given G (inl w) = Memᴰ·append-left _ (b .only G w)
+        is-given G (inr w) = Memᴰ·append-right As w
+
+-- ---- what placing answers
+
+module _ (n : ℕ) (As : List Column) (store counts : List ℕ) (r : ℕ) where
+  -- the answer is that there are too many
+  pub placing-over : r ≡ 33 → Placing n As store counts r → 32 < length (insertAll As [])
+  placing-over d (exceeded e h) = h
+  placing-over d (begun b) = absurd (let q : 33 ≤ 32 = omega (arith, b .held .few) in omega arith)
+
+  -- the answer is how many there are
+  pub placing-begun : (r ≡ 33 → ⊥) → Placing n As store counts r → Begun n As store counts r
+  placing-begun d (exceeded e h) = absurd (d e)
+  placing-begun d (begun b) = b
+
+-- ---- the final treatment family
+
+module _ (P S : Family) where
+  -- more than 32 different suprema
+  pub final-over : 32 < length (insertAll (products onlySupremum P S) []) → 32 < length (finalTreatmentFamily P S)
+  unfolding finalTreatmentFamily
+  final-over h = h
+
+  module _ (n : ℕ) (store counts : List ℕ) (size : ℕ) (b : Begun n (products onlySupremum P S) store counts size) where
+    -- the members found, in their order
+    pub final-listed : insertAll (membersOf n store size) [] ≡ finalTreatmentFamily P S
+    unfolding finalTreatmentFamily
+    final-listed = insertAll-same (membersOf n store size) (products onlySupremum P S) (b .only) (b .given)
+
+    -- how many they are
+    pub final-size : size ≡ length (finalTreatmentFamily P S)
+    final-size = sym (length-members n (b .held .most) store size) ∙ sym (length-sorted (membersOf n store size) (b .distinct)) ∙ ap length final-listed
+
+-- the places of members in order are places of a family
+pub sorted-below : (n : ℕ) (store : List ℕ) (size : ℕ) (order : List ℕ) → n ≤ 240 → size ≤ 32 → Sorted (membersOf n store size) order → (p : ℕ) → p < size → getD order p 0 < 32
+sorted-below n store size order small few w p h =
+    let l : length (membersOf n store size) ≡ size = length-members n small store size in
+    let q = w .places p (rw l h) in
+    omega arith

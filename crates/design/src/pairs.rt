@@ -1,0 +1,65 @@
+// Questions 12 and 13: the first pair of members that are not orthogonal.
+ghost use mathlib.Core.Path.{_≡_};
+ghost use Prim.Native.Nat.{_≤_, _<_};
+ghost use lib.ListN.{length};
+ghost use Rattle.rules.specs.Factor.{orthogonal};
+ghost use Rattle.design.specs.State.{columnIn};
+ghost use Rattle.design.specs.Search.{firstPairOf, firstCrossOf};
+use crate::questions::Places;
+use limits::PLOTS;
+
+// Whether the members at places `i` and `j` of two family buffers are orthogonal.
+fn members_orthogonal(f: &[u8], i: usize, g: &[u8], j: usize, n: usize) -> bool
+    requires { ⌜ (n ≤ 240) × (7680 ≤ length (now f)) × (7680 ≤ length (now g)) × (i < 32) × (j < 32) ⌝ }
+    ensures { λ r. ⌜ r ≡ orthogonal n (columnIn n (now (f .entry)) i) (columnIn n (now (g .entry)) j) ⌝ }
+{
+    let a = PLOTS * i;
+    let b = PLOTS * j;
+    let c = a + n;
+    let d = b + n;
+    factor::orthogonal(&f[a..c], &g[b..d])
+}
+
+// 12: the first pair of places of a family whose members are not orthogonal.
+pub fn first_pair(family: &[u8], n: usize, size: usize) -> Places
+    requires { ⌜ (n ≤ 240) × (7680 ≤ length (now family)) × (size ≤ 32) ⌝ }
+    ensures { λ r. ⌜ r ≡ firstPairOf (λ i j. orthogonal n (columnIn n (now (family .entry)) i) (columnIn n (now (family .entry)) j)) size ⌝ }
+{
+    let mut first = 0;
+    let mut second = 0;
+    'pairs: for i in 0..size {
+        for j in (i + 1)..size {
+            if !members_orthogonal(family, i, family, j, n) {
+                first = i + 1;
+                second = j + 1;
+                break 'pairs;
+            }
+        }
+    }
+    Places { first, second }
+}
+
+// 13: the first place of a plot member and of a treatment member that are not orthogonal.
+pub fn first_cross(
+    plot: &[u8],
+    plot_size: usize,
+    treatment: &[u8],
+    treatment_size: usize,
+    n: usize,
+) -> Places
+    requires { ⌜ (n ≤ 240) × (7680 ≤ length (now plot)) × (7680 ≤ length (now treatment)) × («plot_size» ≤ 32) × («treatment_size» ≤ 32) ⌝ }
+    ensures { λ r. ⌜ r ≡ firstCrossOf (λ i j. orthogonal n (columnIn n (now (plot .entry)) i) (columnIn n (now (treatment .entry)) j)) «plot_size» «treatment_size» ⌝ }
+{
+    let mut first = 0;
+    let mut second = 0;
+    'pairs: for i in 0..plot_size {
+        for j in 0..treatment_size {
+            if !members_orthogonal(plot, i, treatment, j, n) {
+                first = i + 1;
+                second = j + 1;
+                break 'pairs;
+            }
+        }
+    }
+    Places { first, second }
+}

@@ -1,0 +1,300 @@
+// The first and the final treatment family.
+ghost use mathlib.Core.Path.{_≡_};
+ghost use mathlib.Core.List.{List, [], _∷_, _++_};
+ghost use Prim.Native.Nat.{ℕ, _+_, _*_, _≤_, _<_};
+ghost use lib.ListN.{length, take};
+ghost use lib.Seq.{paste};
+ghost use Rattle.rules.specs.Factor.{Column, number, infimum, supremum};
+ghost use Rattle.rules.specs.Family.{Family, _∈_, columnsFrom, membersOf, written};
+ghost use Rattle.rules.specs.Closing.{onlySupremum, productsOf, products, treatmentGenerators, finalTreatmentFamily};
+ghost use Rattle.design.specs.State.{columnIn, Held, Placed, Begun, Kept};
+ghost use Rattle.design.specs.Treatments.{extended, Room, Infima, AllPlaced, Placing, FirstFamily, FinalFamily};
+use crate::closing::PAIRS;
+use crate::closing::TOO_MANY;
+use crate::closing::close;
+use crate::sorting::sort;
+use crate::sorting::write;
+use crate::store::grown;
+use crate::store::place;
+use crate::store::put;
+use limits::COLUMNS;
+use limits::FAMILY;
+use limits::Level;
+use limits::MEMBERS;
+use limits::PLOTS;
+
+// The choices of at most 6 columns, the empty one among them.
+const CHOICES: usize = 64;
+
+// Bytes for an infimum of each choice.
+const INFIMA: usize = 15360;
+
+// Writes the infimum of `column` with infimum `e` at place `total`.
+fn add_infimum(infima: &mut [u8], total: usize, column: &[u8], e: usize)
+    requires { ⌜ (1 ≤ length (now column)) × (length (now column) ≤ 240) × (length (now infima) ≡ 15360) × (total < 64) × (e < 64) ⌝ }
+    ensures { λ _. ⌜ now (infima .exit) ≡ paste (now (infima .entry)) (240 * total) (infimum (now (column .entry)) (columnIn (length (now (column .entry))) (now (infima .entry)) e)) (length (now (column .entry))) ⌝ }
+{
+    let n = column.len();
+    let at = PLOTS * e;
+    let end = at + n;
+    let mut made = [0u8; PLOTS];
+    factor::infimum(column, &infima[at..end], &mut made);
+    put(infima, total, &made[..n]);
+}
+
+// Adds the infima of `column` with each of the first `total` that is of fewer than `k` columns; answers how many there are then.
+fn extend(
+    infima: &mut [u8],
+    lengths: &mut [u8; CHOICES],
+    total: usize,
+    column: &[u8],
+    k: usize,
+) -> usize
+    requires { ⌜ Room (length (now column)) (now infima) (now lengths) × (2 * total ≤ 64) × (k ≤ 6) ⌝ }
+    ensures kept { λ r. ⌜ Room (length (now (column .entry))) (now (infima .exit)) (now (lengths .exit)) × (r ≤ 2 * total) ⌝ }
+    ensures extends { λ r. ⌜ ((T : Column) (Cs : List (List Column)) → number T ≡ now (column .entry) → Infima (length (now (column .entry))) (now (infima .entry)) (now (lengths .entry)) total Cs → Infima (length (now (column .entry))) (now (infima .exit)) (now (lengths .exit)) r (extended k T Cs)) ⌝ }
+{
+    let mut now = total;
+    for e in 0..total {
+        let length = lengths[e];
+        if (length as usize) < k {
+            add_infimum(infima, now, column, e);
+            lengths[now] = length + 1;
+            now += 1;
+        }
+    }
+    now
+}
+
+// Extends by column `c` of the level table, numbered.
+fn extend_by(
+    levels: &[Level],
+    c: usize,
+    infima: &mut [u8],
+    lengths: &mut [u8; CHOICES],
+    total: usize,
+    n: usize,
+    k: usize,
+) -> usize
+    requires { ⌜ Room n (now infima) (now lengths) × (2 * total ≤ 64) × (k ≤ 6) × (240 * c + 240 ≤ length (now levels)) ⌝ }
+    ensures kept { λ r. ⌜ Room n (now (infima .exit)) (now (lengths .exit)) × (r ≤ 2 * total) ⌝ }
+    ensures extends { λ r. ⌜ ((Cs : List (List Column)) → Infima n (now (infima .entry)) (now (lengths .entry)) total Cs → Infima n (now (infima .exit)) (now (lengths .exit)) r (extended k (columnIn n (now (levels .entry)) c) Cs)) ⌝ }
+{
+    let at = PLOTS * c;
+    let end = at + n;
+    let mut column = [0u8; PLOTS];
+    factor::number_levels(&levels[at..end], &mut column);
+    extend(infima, lengths, total, &column[..n], k)
+}
+
+// Writes U and all infima of 1 to `k` different treatment columns; answers how many they are.
+fn fill_infima(levels: &[Level], n: usize, d: usize, k: usize, infima: &mut [u8]) -> usize
+    requires { ⌜ (1 ≤ n) × (n ≤ 240) × (d ≤ 6) × (1 ≤ k) × (k ≤ 6) × (2880 ≤ length (now levels)) × (length (now infima) ≡ 15360) ⌝ }
+    ensures few { λ r. ⌜ r ≤ 64 ⌝ }
+    ensures columns { λ r. ⌜ membersOf n (now (infima .exit)) r ≡ treatmentGenerators n k (columnsFrom n (now (levels .entry)) 6 d) ⌝ }
+{
+    let ones = [1u8; PLOTS];
+    put(infima, 0, &ones[..n]);
+    let mut lengths = [0u8; CHOICES];
+    let mut total = 1;
+    let mut c = d;
+    while 0 < c {
+        c -= 1;
+        total = extend_by(levels, COLUMNS + c, infima, &mut lengths, total, n, k);
+    }
+    total
+}
+
+// Places the column at place `e` of `infima`.
+fn place_one(
+    infima: &[u8],
+    e: usize,
+    n: usize,
+    store: &mut [u8],
+    counts: &mut [u8; MEMBERS],
+    size: usize,
+) -> usize
+    requires { ⌜ Held n (now store) (now counts) size × (length (now infima) ≡ 15360) × (e < 64) ⌝ }
+    ensures { λ r. ⌜ Placed n (membersOf n (now (store .entry)) size) (columnIn n (now (infima .entry)) e) r (now (store .exit)) (now (counts .exit)) ⌝ }
+{
+    let at = PLOTS * e;
+    let end = at + n;
+    let column = &infima[at..end];
+    let k = factor::classes(column);
+    place(store, counts, size, column, k as u8)
+}
+
+// Places the first `total` columns; answers how many members they make, or TOO_MANY.
+fn place_all(
+    infima: &[u8],
+    total: usize,
+    n: usize,
+    store: &mut [u8],
+    counts: &mut [u8; MEMBERS],
+) -> usize
+    requires { ⌜ (1 ≤ n) × (n ≤ 240) × (length (now infima) ≡ 15360) × (total ≤ 64) × (length (now store) ≡ 7680) × (length (now counts) ≡ 32) × ((F : Column) → F ∈ membersOf n (now infima) total → number F ≡ F) ⌝ }
+    ensures { λ r. ⌜ AllPlaced n (membersOf n (now (infima .entry)) total) (now (store .exit)) (now (counts .exit)) r ⌝ }
+{
+    let mut size = 0;
+    for e in 0..total {
+        let p = place_one(infima, e, n, store, counts, size);
+        if p == MEMBERS {
+            return TOO_MANY;
+        }
+        size = grown(size, p);
+    }
+    size
+}
+
+// Writes the first treatment family in its order; answers its size, or TOO_MANY.
+pub fn first_family(levels: &[Level], n: usize, d: usize, k: usize, family: &mut [u8]) -> usize
+    requires { ⌜ (1 ≤ n) × (n ≤ 240) × (d ≤ 6) × (1 ≤ k) × (k ≤ 6) × (2880 ≤ length (now levels)) × (7680 ≤ length (now family)) ⌝ }
+    ensures { λ r. ⌜ FirstFamily n k (columnsFrom n (now (levels .entry)) 6 d) (now (family .entry)) (now (family .exit)) r ⌝ }
+{
+    let mut infima = [0u8; INFIMA];
+    let total = fill_infima(levels, n, d, k, &mut infima);
+    let mut store = [0u8; FAMILY];
+    let mut counts = [0u8; MEMBERS];
+    let start = place_all(&infima, total, n, &mut store, &mut counts);
+    if start == TOO_MANY {
+        return TOO_MANY;
+    }
+    close_first(&mut store, &mut counts, start, n, family)
+}
+
+// Closes the family under supremum and writes it in its order; answers its size, or TOO_MANY.
+fn close_first(
+    store: &mut [u8],
+    counts: &mut [u8; MEMBERS],
+    start: usize,
+    n: usize,
+    family: &mut [u8],
+) -> usize
+    requires { ⌜ Begun n (membersOf n (now store) start) (now store) (now counts) start × (7680 ≤ length (now family)) ⌝ }
+    ensures { λ r. ⌜ ((k : ℕ) (Ts : List Column) → Begun n (treatmentGenerators n k Ts) (now (store .entry)) (now (counts .entry)) start → FirstFamily n k Ts (now (family .entry)) (now (family .exit)) r) ⌝ }
+{
+    let mut meets = [0u8; PAIRS];
+    let mut joins = [0u8; PAIRS];
+    let size = close(store, counts, &mut meets, &mut joins, start, n, false);
+    if size == TOO_MANY {
+        return TOO_MANY;
+    }
+    let order = sort(store, counts, n, size);
+    write(store, &order, n, size, family);
+    size
+}
+
+// Places the supremum of plot member `i` with treatment member `j`.
+fn place_product(
+    plot: &[u8],
+    i: usize,
+    first: &[u8],
+    j: usize,
+    n: usize,
+    store: &mut [u8],
+    counts: &mut [u8; MEMBERS],
+    size: usize,
+) -> usize
+    requires { ⌜ Held n (now store) (now counts) size × (7680 ≤ length (now plot)) × (7680 ≤ length (now first)) × (i < 32) × (j < 32) ⌝ }
+    ensures { λ r. ⌜ Placed n (membersOf n (now (store .entry)) size) (supremum (columnIn n (now (plot .entry)) i) (columnIn n (now (first .entry)) j)) r (now (store .exit)) (now (counts .exit)) ⌝ }
+{
+    let a = PLOTS * i;
+    let b = PLOTS * j;
+    let c = a + n;
+    let d = b + n;
+    let mut column = [0u8; PLOTS];
+    let k = factor::supremum(&plot[a..c], &first[b..d], &mut column);
+    place(store, counts, size, &column[..n], k as u8)
+}
+
+// Places the suprema of plot member `i` with each treatment member; answers the new size, or TOO_MANY.
+fn place_products(
+    plot: &[u8],
+    i: usize,
+    first: &[u8],
+    first_size: usize,
+    n: usize,
+    store: &mut [u8],
+    counts: &mut [u8; MEMBERS],
+    size: usize,
+) -> usize
+    requires { ⌜ Held n (now store) (now counts) size × (7680 ≤ length (now plot)) × (7680 ≤ length (now first)) × (i < 32) × («first_size» ≤ 32) ⌝ }
+    ensures kept { λ r. ⌜ Kept n (now (store .exit)) (now (counts .exit)) size r ⌝ }
+    ensures places { λ r. ⌜ ((As : List Column) → Begun n As (now (store .entry)) (now (counts .entry)) size → Placing n (As ++ productsOf onlySupremum (columnIn n (now (plot .entry)) i) (membersOf n (now (first .entry)) «first_size»)) (now (store .exit)) (now (counts .exit)) r) ⌝ }
+{
+    let mut now = size;
+    for j in 0..first_size {
+        let p = place_product(plot, i, first, j, n, store, counts, now);
+        if p == MEMBERS {
+            return TOO_MANY;
+        }
+        now = grown(now, p);
+    }
+    now
+}
+
+// Places all suprema of one plot member with one treatment member; answers how many they are, or TOO_MANY.
+fn place_suprema(
+    plot: &[u8],
+    plot_size: usize,
+    first: &[u8],
+    first_size: usize,
+    n: usize,
+    store: &mut [u8],
+    counts: &mut [u8; MEMBERS],
+) -> usize
+    requires { ⌜ (1 ≤ n) × (n ≤ 240) × (7680 ≤ length (now plot)) × (7680 ≤ length (now first)) × («plot_size» ≤ 32) × («first_size» ≤ 32) × (length (now store) ≡ 7680) × (length (now counts) ≡ 32) ⌝ }
+    ensures { λ r. ⌜ Placing n (products onlySupremum (membersOf n (now (plot .entry)) «plot_size») (membersOf n (now (first .entry)) «first_size»)) (now (store .exit)) (now (counts .exit)) r ⌝ }
+{
+    let mut size = 0;
+    for i in 0..plot_size {
+        size = place_products(plot, i, first, first_size, n, store, counts, size);
+        if size == TOO_MANY {
+            return TOO_MANY;
+        }
+    }
+    size
+}
+
+// Writes the final treatment family in its order; answers its size, or TOO_MANY, and then nothing is written.
+pub fn final_family(
+    plot: &[u8],
+    plot_size: usize,
+    first: &[u8],
+    first_size: usize,
+    n: usize,
+    family: &mut [u8],
+) -> usize
+    requires { ⌜ (1 ≤ n) × (n ≤ 240) × (7680 ≤ length (now plot)) × (7680 ≤ length (now first)) × («plot_size» ≤ 32) × («first_size» ≤ 32) × (7680 ≤ length (now family)) ⌝ }
+    ensures { λ r. ⌜ FinalFamily (finalTreatmentFamily (membersOf n (now (plot .entry)) «plot_size») (membersOf n (now (first .entry)) «first_size»)) (now (family .entry)) (now (family .exit)) r ⌝ }
+{
+    let mut store = [0u8; FAMILY];
+    let mut counts = [0u8; MEMBERS];
+    let size = place_suprema(
+        plot,
+        plot_size,
+        first,
+        first_size,
+        n,
+        &mut store,
+        &mut counts,
+    );
+    if size == TOO_MANY {
+        return TOO_MANY;
+    }
+    let order = sort(&store, &counts, n, size);
+    write(&store, &order, n, size, family);
+    size
+}
+
+// Copies the first `size` members of one family buffer to another.
+pub fn copy_family(from: &[u8], n: usize, size: usize, family: &mut [u8])
+    requires { ⌜ (n ≤ 240) × (size ≤ 32) × (7680 ≤ length (now from)) × (7680 ≤ length (now family)) ⌝ }
+    ensures { λ _. ⌜ now (family .exit) ≡ written (now (family .entry)) 0 (membersOf n (now (from .entry)) size) ⌝ }
+{
+    for i in 0..size {
+        let at = PLOTS * i;
+        let end = at + n;
+        put(family, i, &from[at..end]);
+    }
+}
