@@ -13,7 +13,7 @@ use lib.ListN.{length, getD, take, drop, set, replicate, length-set, length-take
 use lib.Seq.{getD-set-same, getD-set-other, set-out, getD-take, getD-drop}
 use borrow.Author.Tests.{eq-eqb, ne-eqb, eqb-true, eqb-false, le-leb, lt-leb, leb-true, lt-ltb, ltb-true, ltb-false}
 use Rattle.rules.specs.Family.{columnsFrom}
-use Rattle.rules.specs.Design.{nonzero, allNonzero}
+use Rattle.rules.specs.Design.{nonzero, allNonzero, withinLimits}
 use Rattle.rules.specs.Limits.{tableCells, mostText, mostPlots, mostColumns, mostFields, mostLevel}
 use Rattle.rules.specs.Sheet.{within, all, newline, tab, upTo, past, has, Line, extend, lines, fields, Field, widen, digit, isName, sameBytes, plotMark, treatmentMark, isColumn, isKind, countKind, columnNames, newName, namesDiffer, isHeader, header, decimalFrom, decimal, noLeadingZero, isLevel, isRow, isPlotLine, laterLines, columnsAfter, withPlot, withPlots, levelIn, Used, noLine, free, joined, printed, question1, question2, question3, question4, question5, Outcome, read, refused, counts, readingFrom3, reading, levelsAfter}
 use Rattle.rules.specs.Lists.{digitsBefore, decimalOf}
@@ -444,6 +444,13 @@ module _ (text levels : List ℕ) (n p t : ℕ) (e : reading text levels ≡ rea
       let v : u < length (laterLines text) = omega (arith, a .plots) in
       let w : 240 * c + (0 + u) < length levels = omega (arith, a .plots-few, a .table-fits) in
       rw (after, ← zero-add u) (plots-hit (columnsAfter 0 0 (header text)) 0 (laterLines text) levels c u g h v w)
+
+  -- the counts are within limits, so of question 6 only the family buffer is left
+  pub read-limits : (buffer : ℕ) → withinLimits n p (length table) buffer ≡ leb 7680 buffer
+  unfolding withinLimits
+  read-limits buffer =
+      let s = read-accepts text levels n p t e in
+      rw (lt-ltb 0 n (s .plots-some), le-leb n 240 (s .plots-few), le-leb p 6 (omega (arith, s .plot-columns, s .header-good .plots)), le-leb 2880 (length table) (rw (length-after (reading text levels) text levels) (s .table-fits)))
 
   pub plot-levels-nonzero : allNonzero (columnsFrom n table 0 p) ≡ true
   plot-levels-nonzero =

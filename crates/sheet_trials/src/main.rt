@@ -20,124 +20,112 @@ fn main() {
 }
 
 fn samples() {
-    show(b"sample\t", b"p:Hut\tt:Gain\n1\t1\n1\t2\n2\t1\n2\t2\n");
-    show(b"treatments first\t", b"t:Gain\tp:Hut\tt:Cable\n7\t8\t9\n");
-    show(
-        b"one bad level after good ones\t",
-        b"p:Hut\tt:Gain\n5\t6\n7\t0\n",
-    );
+    case(b"sample|p:Hut\tt:Gain\n1\t1\n1\t2\n2\t1\n2\t2\n");
+    case(b"treatments first|t:Gain\tp:Hut\tt:Cable\n7\t8\t9\n");
+    case(b"one bad level after good ones|p:Hut\tt:Gain\n5\t6\n7\t0\n");
 }
 
 fn names() {
-    show(b"name of one letter\t", b"p:A\n1\n");
-    show(b"name of two\t", b"p:A1\n1\n");
-    show(b"name of twelve\t", b"p:Abcdefghij12\n1\n");
-    show(b"name of thirteen\t", b"p:Abcdefghij123\n1\n");
-    show(b"name with a digit first\t", b"p:1A\n1\n");
-    show(b"no name\t", b"p:\n1\n");
-    show(b"no colon\t", b"pHut\n1\n");
-    show(b"capital kind\t", b"P:Hut\n1\n");
+    case(b"name of one letter|p:A\n1\n");
+    case(b"name of two|p:A1\n1\n");
+    case(b"name of twelve|p:Abcdefghij12\n1\n");
+    case(b"name of thirteen|p:Abcdefghij123\n1\n");
+    case(b"name with a digit first|p:1A\n1\n");
+    case(b"no name|p:\n1\n");
+    case(b"no colon|pHut\n1\n");
+    case(b"capital kind|P:Hut\n1\n");
 }
 
 fn equal_names() {
-    show(b"equal names of two kinds\t", b"p:Ab\tt:Ab\n1\t1\n");
-    show(
-        b"equal names, first and last\t",
-        b"p:Ab\tp:Ac\tt:Ab\n1\t1\t1\n",
-    );
-    show(b"names of another case\t", b"p:Ab\tp:AB\n1\t1\n");
-    show(b"name that starts another\t", b"p:Ab\tp:Abc\n1\t1\n");
+    case(b"equal names of two kinds|p:Ab\tt:Ab\n1\t1\n");
+    case(b"equal names, first and last|p:Ab\tp:Ac\tt:Ab\n1\t1\t1\n");
+    case(b"names of another case|p:Ab\tp:AB\n1\t1\n");
+    case(b"name that starts another|p:Ab\tp:Abc\n1\t1\n");
 }
 
 fn column_counts() {
-    show(b"no columns\t", b"\n1\n");
-    show(
-        b"six and six\t",
-        b"p:P1\tp:P2\tp:P3\tp:P4\tp:P5\tp:P6\tt:T1\tt:T2\tt:T3\tt:T4\tt:T5\tt:T6\n1\t2\t3\t4\t5\t6\t7\t8\t9\t10\t11\t12\n",
+    case(b"no columns|\n1\n");
+    case(
+        b"six and six|p:P1\tp:P2\tp:P3\tp:P4\tp:P5\tp:P6\tt:T1\tt:T2\tt:T3\tt:T4\tt:T5\tt:T6\n1\t2\t3\t4\t5\t6\t7\t8\t9\t10\t11\t12\n",
     );
-    show(
-        b"seven plot columns\t",
-        b"p:P1\tp:P2\tp:P3\tp:P4\tp:P5\tp:P6\tp:P7\n1\t2\t3\t4\t5\t6\t7\n",
+    case(b"seven plot columns|p:P1\tp:P2\tp:P3\tp:P4\tp:P5\tp:P6\tp:P7\n1\t2\t3\t4\t5\t6\t7\n");
+    case(
+        b"twenty columns|p:P1\tp:P2\tp:P3\tp:P4\tp:P5\tp:P6\tp:P7\tp:P8\tp:P9\tp:Pa\tt:T1\tt:T2\tt:T3\tt:T4\tt:T5\tt:T6\tt:T7\tt:T8\tt:T9\tt:Ta\n",
     );
-    show(
-        b"twenty columns\t",
-        b"p:P1\tp:P2\tp:P3\tp:P4\tp:P5\tp:P6\tp:P7\tp:P8\tp:P9\tp:Pa\tt:T1\tt:T2\tt:T3\tt:T4\tt:T5\tt:T6\tt:T7\tt:T8\tt:T9\tt:Ta\n",
-    );
-    show(
-        b"seven treatment columns\t",
-        b"t:T1\tt:T2\tt:T3\tt:T4\tt:T5\tt:T6\tt:T7\n1\t2\t3\t4\t5\t6\t7\n",
+    case(
+        b"seven treatment columns|t:T1\tt:T2\tt:T3\tt:T4\tt:T5\tt:T6\tt:T7\n1\t2\t3\t4\t5\t6\t7\n",
     );
 }
 
 fn unended() {
-    show(b"empty text\t", b"");
-    show(b"newline alone\t", b"\n");
-    show(b"first line unended\t", b"p:Hut");
-    show(b"first line alone\t", b"p:Hut\n");
-    show(b"last line unended\t", b"p:Hut\n1\n2");
-    show(b"tab at the unended end\t", b"p:Hut\n1\n2\t");
-    show(b"empty line last\t", b"p:Hut\n1\n\n");
-    show(b"empty line between\t", b"p:Hut\n1\n\n1\n");
+    case(b"empty text|");
+    case(b"newline alone|\n");
+    case(b"first line unended|p:Hut");
+    case(b"first line alone|p:Hut\n");
+    case(b"last line unended|p:Hut\n1\n2");
+    case(b"tab at the unended end|p:Hut\n1\n2\t");
+    case(b"empty line last|p:Hut\n1\n\n");
+    case(b"empty line between|p:Hut\n1\n\n1\n");
 }
 
 fn tabs() {
-    show(b"tab before the first column\t", b"\tp:Hut\n1\n");
-    show(b"tab after the last column\t", b"p:Hut\t\n1\t1\n");
-    show(b"tab before a level\t", b"p:Hut\n\t1\n");
-    show(b"tab after a level\t", b"p:Hut\n1\t\n");
-    show(b"two tabs\t", b"p:Hut\tp:Pier\n1\t\t1\n");
-    show(b"too few fields\t", b"p:Hut\tp:Pier\n1\n");
-    show(b"too many fields\t", b"p:Hut\tp:Pier\n1\t1\t1\n");
+    case(b"tab before the first column|\tp:Hut\n1\n");
+    case(b"tab after the last column|p:Hut\t\n1\t1\n");
+    case(b"tab before a level|p:Hut\n\t1\n");
+    case(b"tab after a level|p:Hut\n1\t\n");
+    case(b"two tabs|p:Hut\tp:Pier\n1\t\t1\n");
+    case(b"too few fields|p:Hut\tp:Pier\n1\n");
+    case(b"too many fields|p:Hut\tp:Pier\n1\t1\t1\n");
 }
 
 fn level_range() {
-    show(b"65535\t", b"p:Hut\n65535\n");
-    show(b"65536\t", b"p:Hut\n65536\n");
-    show(b"0\t", b"p:Hut\n0\n");
-    show(b"131073\t", b"p:Hut\n131073\n");
-    show(b"4294967297\t", b"p:Hut\n4294967297\n");
-    show(b"18446744073709551617\t", b"p:Hut\n18446744073709551617\n");
+    case(b"65535|p:Hut\n65535\n");
+    case(b"65536|p:Hut\n65536\n");
+    case(b"0|p:Hut\n0\n");
+    case(b"131073|p:Hut\n131073\n");
+    case(b"4294967297|p:Hut\n4294967297\n");
+    case(b"18446744073709551617|p:Hut\n18446744073709551617\n");
 }
 
 fn level_form() {
-    show(b"00\t", b"p:Hut\n00\n");
-    show(b"01\t", b"p:Hut\n01\n");
-    show(b"10\t", b"p:Hut\n10\n");
-    show(b"+1\t", b"p:Hut\n+1\n");
-    show(b"1.\t", b"p:Hut\n1.\n");
-    show(b"1 and a blank\t", b"p:Hut\n1 \n");
-    show(b"a letter\t", b"p:Hut\nA\n");
+    case(b"00|p:Hut\n00\n");
+    case(b"01|p:Hut\n01\n");
+    case(b"10|p:Hut\n10\n");
+    case(b"+1|p:Hut\n+1\n");
+    case(b"1.|p:Hut\n1.\n");
+    case(b"1 and a blank|p:Hut\n1 \n");
+    case(b"a letter|p:Hut\nA\n");
 }
 
 fn odd_bytes() {
-    show(b"return in the first line\t", b"p:Hut\r\n1\n");
-    show(b"return in a later line\t", b"p:Hut\n1\r\n");
-    show(b"byte 0 in a name\t", b"p:Hu\0t\n1\n");
-    show(b"byte 0 after a level\t", b"p:Hut\n1\0\n");
-    show(b"byte 255 in a name\t", b"p:Hu\xfft\n1\n");
-    show(b"byte 177 as a level\t", b"p:Hut\n\xb1\n");
+    case(b"return in the first line|p:Hut\r\n1\n");
+    case(b"return in a later line|p:Hut\n1\r\n");
+    case(b"byte 0 in a name|p:Hu\0t\n1\n");
+    case(b"byte 0 after a level|p:Hut\n1\0\n");
+    case(b"byte 255 in a name|p:Hu\xfft\n1\n");
+    case(b"byte 177 as a level|p:Hut\n\xb1\n");
 }
 
 // How many lines: each is the level 2, but for the last digit.
 fn line_counts() {
-    many(b"240 lines\t", 486, b'2');
-    many(b"241 lines\t", 488, b'2');
-    many(b"240 lines and a bad one\t", 488, b'0');
-    many(b"241 lines and a bad one\t", 490, b'0');
-    many(b"239 lines and one unended\t", 485, b'2');
-    many(b"240 lines and one unended\t", 487, b'2');
+    many(b"240 lines", 486, b'2');
+    many(b"241 lines", 488, b'2');
+    many(b"240 lines and a bad one", 488, b'0');
+    many(b"241 lines and a bad one", 490, b'0');
+    many(b"239 lines and one unended", 485, b'2');
+    many(b"240 lines and one unended", 487, b'2');
 }
 
 fn lengths() {
-    many(b"32768 bytes\t", 32768, b'2');
-    many(b"32769 bytes\t", 32769, b'2');
-    many(b"32768 bytes, a bad last line\t", 32768, b'/');
+    many(b"32768 bytes", 32768, b'2');
+    many(b"32769 bytes", 32769, b'2');
+    many(b"32768 bytes, a bad last line", 32768, b'/');
 }
 
 fn long_fields() {
-    long(b"a level of digits\t", b'1', b'\n');
-    long(b"a name of letters\t", b'A', b'A');
-    long(b"a first line of tabs\t", b'\t', b'\t');
+    long(b"a level of digits", b'1', b'\n');
+    long(b"a name of letters", b'A', b'A');
+    long(b"a first line of tabs", b'\t', b'\t');
 }
 
 fn short_table() {
@@ -203,10 +191,31 @@ fn start(x: u8, end: u8) -> [u8; 32770] {
     text
 }
 
+// Runs a case: its label, `|` and the text.
+fn case(s: &[u8]) {
+    let k = bar(s);
+    if k < s.len() {
+        show(&s[..k], &s[k + 1..]);
+    }
+}
+
+// The place of the first `|`, or the length.
+fn bar(s: &[u8]) -> usize {
+    let mut k = 0;
+    while k < s.len() {
+        if s[k] == b'|' {
+            return k;
+        }
+        k += 1;
+    }
+    k
+}
+
 // Prints a case: its label, the answer and what changed in a level table that is longer than the reader asks.
 fn show(label: &[u8], text: &[u8]) {
     let mut table = [9999u16; 3000];
     io::write_all(STDOUT_FILENO, label);
+    io::write_all(STDOUT_FILENO, b"\t");
     print(sheet::read_sheet(text, &mut table));
     changes(&table);
 }

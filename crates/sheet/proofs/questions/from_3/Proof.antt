@@ -98,7 +98,7 @@ returns-3 c =
 returns-4 : tie.Need-returns-4
 unfolding levelsAfter
 returns-4 c =
-    let e = over (c .before .before) (c .if4 .taken) in
+    let e = over (c .before .before) (omega arith) in
     (rw e, rw e)
 
 write-requires : tie.Need-write-requires
