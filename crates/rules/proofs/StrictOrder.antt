@@ -1,16 +1,16 @@
 -- Laws of the relation in a family that question 15 accepts: it is a strict order that lies below the diagonal.
 -- Assumes nothing.
-use mathlib.Core.Path.{_≡_, refl, sym, ap, ap₂, _∙_}
+use mathlib.Core.Path.{_≡_, refl, sym, _∙_}
 use mathlib.Core.Bool.{Bool, true, false, not, _&&_, _||_}
-use mathlib.Core.List.{List, []}
-use Prim.Native.Nat.{ℕ, suc, _≤_, _<_}
+use mathlib.Core.List.{[]}
+use Prim.Native.Nat.{ℕ, _≤_, _<_}
 use native.Mathlib.Nat.{lt-irrefl}
 use native.Mathlib.Omega.{arith}
 use lib.Dec.{eqb, ltb}
 use lib.ListN.{length, getD}
 use borrow.Author.Tests.{eqb-true, eqb-false, ltb-true, ltb-false}
-use Rattle.rules.specs.Factor.{Column, classes, number, Finer, finer, coarser}
-use Rattle.rules.specs.Family.{Family, _∈_, Ascending, before}
+use Rattle.rules.specs.Factor.{Column, classes, finer, coarser}
+use Rattle.rules.specs.Family.{Family}
 use Rattle.rules.specs.Relation.{memberAt, coarserAt}
 use Rattle.rules.proofs.Numbering.{by-cases}
 use Rattle.rules.proofs.Members.{clash, before-self, before-classes}
