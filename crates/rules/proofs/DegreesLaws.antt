@@ -60,7 +60,7 @@ sum-size n F (G ∷ S) (d ∷ ds) =
     (λ e. rw (sum-yes n F G S d ds e) (omega (arith, abs-add d (coarserSum n F S ds), sum-size n F S ds)))
     (λ e. rw (sum-no n F G S d ds e) (omega (arith, sum-size n F S ds)))
 
--- the first of m members whose own numbers are at most 240, after k others
+-- members whose own numbers are at most 240, after others whose sizes and 240 add up to 240 × 2 ^ k at most
 module _ (own : Column → ℤ) (n : ℕ) where
   after-bound : (S done : Family) (ds : List ℤ) (k : ℕ) → ((F : Column) → F ∈ S → natAbs (own F) ≤ 240) → sizes ds + 240 ≤ 240 * 2 ^ k → (i : ℕ) → i < length S
       → natAbs (getD (remaindersAfter own n done ds S) i (pos 0)) ≤ 240 * 2 ^ (k + i)
