@@ -1,20 +1,19 @@
 -- More laws of words given by their bits, and of tests of all places.
 -- Assumes nothing.
-use mathlib.Core.Path.{_≡_, refl, sym, ap, ap₂, _∙_}
+use mathlib.Core.Path.{_≡_, refl, sym, ap, _∙_}
 use mathlib.Core.Bool.{Bool, true, false, not, _&&_}
-use Prim.Native.Nat.{ℕ, zero, suc, _+_, _-_, _*_, _/_, _%_, _^_, _≤_, _<_}
-use native.Mathlib.Nat.{not-suc-le-zero, le-of-suc-le-suc, le-refl, div-eq-of-lt, pow-le-pow-right, lt-of-lt-of-le}
+use Prim.Native.Nat.{ℕ, zero, suc, _+_, _-_, _*_, _^_, _≤_, _<_}
+use native.Mathlib.Nat.{not-suc-le-zero, le-of-suc-le-suc, div-eq-of-lt, pow-le-pow-right, lt-of-lt-of-le}
 use native.Mathlib.Omega.{arith}
-use lib.Dec.{eqb, ltb}
+use lib.Dec.{ltb}
 use lib.Bits.{bitAnd}
-use lib.Count.{ones}
-use borrow.Author.Tests.{ne-eqb, ltb-true, ltb-false}
+use borrow.Author.Tests.{ltb-true, ltb-false}
 use Rattle.rules.specs.Lists.{bit, wordOf, bitAt}
 use Rattle.rules.specs.Factor.{every}
 use Rattle.rules.proofs.Numbering.{by-cases}
 use Rattle.rules.proofs.Tests.{every-at, every-all, every-false, Fails}
 use Rattle.rules.proofs.Members.{clash}
-use Rattle.rules.proofs.Words.{bit-le, word-lt, word-snoc, word-ext, word-skip, word-bits, bit-word, and-not-word}
+use Rattle.rules.proofs.Words.{word-lt, word-bits, and-not-word}
 
 -- no bit is set
 pub word-none : (t : ℕ → Bool) (n : ℕ) → ((j : ℕ) → j < n → t j ≡ false) → wordOf t n ≡ 0

@@ -1,20 +1,22 @@
 -- Laws of the degrees of freedom: how large they can be, and what they add up to.
 -- Assumes nothing.
-use mathlib.Core.Path.{_≡_, refl, sym, ap, ap₂, _∙_}
-use mathlib.Core.Bool.{Bool, true, false, not, _&&_}
+use mathlib.Core.Path.{_≡_, refl, sym, ap, _∙_}
+use mathlib.Core.Bool.{true, false}
 use mathlib.Core.List.{List, [], _∷_, _++_, List·Memᴰ·head, List·Memᴰ·tail, List·Memᴰ·cases-cons, List·Memᴰ·not-nil}
 use mathlib.Core.Logic.{_⊎_, inl, inr}
 use Prim.Native.Nat.{ℕ, zero, suc, _+_, _*_, _^_, _≤_, _<_}
-use native.Mathlib.Nat.{not-suc-le-zero, le-of-suc-le-suc, pow-suc, suc-inj, suc-ne-zero, add-suc}
+use native.Mathlib.Nat.{not-suc-le-zero, le-of-suc-le-suc, pow-suc, suc-inj, suc-ne-zero}
 use native.Mathlib.Omega.{arith}
-use lib.IntN.{ℤ, pos, negℤ, natAbs, _+ℤ_, _-ℤ_, +ℤ-assoc, +ℤ-comm, -ℤ-+ℤ-cancel}
-use lib.ListN.{length, getD, length-append}
+use lib.IntN.{ℤ, pos, natAbs, _+ℤ_, +ℤ-assoc, +ℤ-comm, -ℤ-+ℤ-cancel}
+use lib.ListN.{length, getD}
 use Rattle.rules.specs.Factor.{Column, classes, number, equality, finer, coarser}
-use Rattle.rules.specs.Family.{Family, _∈_, Ascending, alike, allNumbered}
-use Rattle.rules.specs.Closing.{family, plotFamily, by-equality}
+use Rattle.rules.specs.Family.{Family, _∈_, Ascending, alike, allNumbered, columnsFrom}
+use Rattle.rules.specs.Closing.{Closing, tooMany, family, plotFamily, by-equality}
+use Rattle.rules.specs.Design.{Answer, question8, plotDesign}
+use Rattle.rules.specs.Structure.{Lent}
 use Rattle.rules.specs.Degrees.{coarserSum, remainder, remaindersAfter, remainders, classNumber, degrees}
 use Rattle.rules.proofs.Numbering.{by-cases}
-use Rattle.rules.proofs.Members.{clash, alike-self}
+use Rattle.rules.proofs.Members.{alike-self}
 use Rattle.rules.proofs.Classes.{finer-test}
 use Rattle.rules.proofs.ClassCount.{equality-finer, classes-equality, classes-most}
 use Rattle.rules.proofs.Degrees.{sum-yes, sum-no, degrees-equation}
@@ -22,7 +24,8 @@ use Rattle.rules.proofs.WellFormed.{Accepted, member-at}
 use Rattle.rules.proofs.StrictOrder.{coarser-irreflexive, finer-equal-places}
 use Rattle.rules.proofs.Signed.{abs-add, abs-sub}
 use Rattle.rules.proofs.Questions.{plot-smallest, plot-length}
-use Rattle.rules.proofs.Demand3.{in-R, to-R, member-numbered}
+use Rattle.rules.proofs.Demand3.{in-R, to-R, member-numbered, column-length, design-verdict}
+use Rattle.rules.proofs.Verdict.{verdict-members}
 use Rattle.rules.proofs.Families.{plot-family-lists}
 
 -- ---- how many there are
@@ -57,7 +60,7 @@ sum-size n F (G ∷ S) (d ∷ ds) =
     (λ e. rw (sum-yes n F G S d ds e) (omega (arith, abs-add d (coarserSum n F S ds), sum-size n F S ds)))
     (λ e. rw (sum-no n F G S d ds e) (omega (arith, sum-size n F S ds)))
 
--- the first of m members whose own numbers are at most 240, after k others
+-- members whose own numbers are at most 240, after others whose sizes and 240 add up to 240 × 2 ^ k at most
 module _ (own : Column → ℤ) (n : ℕ) where
   after-bound : (S done : Family) (ds : List ℤ) (k : ℕ) → ((F : Column) → F ∈ S → natAbs (own F) ≤ 240) → sizes ds + 240 ≤ 240 * 2 ^ k → (i : ℕ) → i < length S
       → natAbs (getD (remaindersAfter own n done ds S) i (pos 0)) ≤ 240 * 2 ^ (k + i)
@@ -182,3 +185,22 @@ module _ (n : ℕ) (Fs : List Column) (on : (F : Column) → F ∈ Fs → length
   -- in a plot design the degrees of freedom of all members add up to N
   pub plot-total : addUp (degrees n S) ≡ pos n
   plot-total = degrees-total n S plot-accepted (plot-length n Fs on S is) (equality-at .place) (equality-at .less) (equality-at .is)
+
+-- ---- the plot design
+
+-- in an accepted plot design the degrees of freedom of all members add up to N
+module _ (n c : ℕ) (levels buffer : List ℕ) (lent : Lent n c levels buffer) where
+  pub design-total : plotDesign n c levels (length buffer) .refusal ≡ 0 → addUp (degrees n (plotDesign n c levels (length buffer) .plot)) ≡ pos n
+  unfolding question8
+  design-total e =
+      ap (λ (a : Answer). addUp (degrees n (a .plot))) verdict ∙ go (plotFamily n Fs) refl (sym (ap (λ (a : Answer). a .refusal) verdict) ∙ e)
+    where
+      Fs : List Column
+      Fs = columnsFrom n levels 0 c
+
+      verdict : plotDesign n c levels (length buffer) ≡ question8 n (plotFamily n Fs)
+      verdict = design-verdict n c levels buffer lent
+
+      go : (x : Closing) → plotFamily n Fs ≡ x → question8 n x .refusal ≡ 0 → addUp (degrees n (question8 n x .plot)) ≡ pos n
+      go tooMany q r = absurd (suc-ne-zero 7 r)
+      go (family P) q r = ap (λ (S : Family). addUp (degrees n S)) (verdict-members n P) ∙ plot-total n Fs (column-length n levels c 0 (lent .plots-most) (lent .table) (omega (arith, lent .columns-most))) P q

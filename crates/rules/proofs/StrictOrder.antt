@@ -1,22 +1,26 @@
 -- Laws of the relation in a family that question 15 accepts: it is a strict order that lies below the diagonal.
 -- Assumes nothing.
-use mathlib.Core.Path.{_≡_, refl, sym, ap, ap₂, _∙_}
+use mathlib.Core.Path.{_≡_, refl, sym, _∙_}
 use mathlib.Core.Bool.{Bool, true, false, not, _&&_, _||_}
-use mathlib.Core.List.{List, []}
-use Prim.Native.Nat.{ℕ, suc, _≤_, _<_}
+use mathlib.Core.List.{[]}
+use Prim.Native.Nat.{ℕ, _≤_, _<_, _^_}
 use native.Mathlib.Nat.{lt-irrefl}
 use native.Mathlib.Omega.{arith}
 use lib.Dec.{eqb, ltb}
 use lib.ListN.{length, getD}
 use borrow.Author.Tests.{eqb-true, eqb-false, ltb-true, ltb-false}
-use Rattle.rules.specs.Factor.{Column, classes, number, Finer, finer, coarser}
-use Rattle.rules.specs.Family.{Family, _∈_, Ascending, before}
-use Rattle.rules.specs.Relation.{memberAt, coarserAt}
+use Rattle.rules.specs.Factor.{Column, classes, finer, coarser}
+use Rattle.rules.specs.Family.{Family}
+use Rattle.rules.specs.Relation.{memberAt, coarserAt, coarserWords}
+use Rattle.rules.specs.Lists.{wordOf}
 use Rattle.rules.proofs.Numbering.{by-cases}
 use Rattle.rules.proofs.Members.{clash, before-self, before-classes}
 use Rattle.rules.proofs.Classes.{finer-test}
 use Rattle.rules.proofs.Bounds.{finer-refl, finer-trans, numbered-equal}
 use Rattle.rules.proofs.Degrees.{coarser-fewer}
+use Rattle.rules.proofs.Lists.{getD-tabulate}
+use Rattle.rules.proofs.Words.{word-lt}
+use Rattle.rules.proofs.Bits.{word-more}
 use Rattle.rules.proofs.WellFormed.{Accepted, numbered-at, ascending-at}
 
 -- what a strictly coarser factor is
@@ -86,6 +90,13 @@ module _ (n : ℕ) (S : Family) (is : Accepted S) (on : (i : ℕ) → i < length
   -- the relation lies below the diagonal
   pub coarser-below : (i j : ℕ) → j < length S → coarserAt n S i j ≡ true → j < i
   coarser-below i j h e = by-cases (ltb j i) (λ b. ltb-true j i b) (λ b. clash e (later-not-coarser i j (ltb-false j i b) h))
+
+  -- so a member's word has bits of earlier members only
+  pub word-below : (i : ℕ) → i < length S → getD (coarserWords n S) i 0 < 2 ^ i
+  unfolding coarserWords
+  word-below i h =
+      let e : wordOf (coarserAt n S i) i ≡ wordOf (coarserAt n S i) (length S) = word-more (coarserAt n S i) i (length S) (omega arith) (λ j l k. later-not-coarser i j l k) in
+      rw (getD-tabulate (λ k. wordOf (coarserAt n S k) (length S)) (length S) i 0 h, ← e) (word-lt (coarserAt n S i) i)
 
   -- a member that stands earlier is coarser exactly when the later one is finer
   pub earlier-coarser : (i j : ℕ) → j < i → i < length S → coarserAt n S i j ≡ finer n (memberAt S i) (memberAt S j)

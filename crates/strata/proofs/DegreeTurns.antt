@@ -1,20 +1,19 @@
 -- Laws of degrees of freedom in code: each turn finds the next, and all are small.
 -- Assumes nothing.
-use mathlib.Core.Path.{_≡_, refl, sym, ap, ap₂, _∙_}
-use mathlib.Core.Bool.{Bool, true, false}
+use mathlib.Core.Path.{_≡_, sym, ap, ap₂, _∙_}
 use mathlib.Core.List.{List, []}
-use Prim.Native.Nat.{ℕ, zero, suc, _+_, _*_, _^_, _≤_, _<_}
-use native.Mathlib.Nat.{pow-le-pow-right, le-trans}
+use Prim.Native.Nat.{ℕ, _^_, _≤_, _<_}
+use native.Mathlib.Nat.{pow-le-pow-right}
 use native.Mathlib.Omega.{arith}
 use lib.Dec.{ltb}
-use lib.IntN.{ℤ, pos, natAbs, _+ℤ_, _-ℤ_}
+use lib.IntN.{ℤ, pos, _-ℤ_}
 use lib.ListN.{length, getD, take, List·getD-eq-default}
 use lib.Seq.{getD-take}
 use borrow.Author.Tests.{ltb-true, ltb-false}
-use Rattle.rules.specs.Factor.{Column, classes, coarser}
-use Rattle.rules.specs.Family.{Family, _∈_, membersOf}
+use Rattle.rules.specs.Factor.{Column, classes}
+use Rattle.rules.specs.Family.{_∈_, membersOf}
 use Rattle.rules.specs.Lists.{forPlaces, bitAt}
-use Rattle.rules.specs.Relation.{memberAt, coarserAt}
+use Rattle.rules.specs.Relation.{coarserAt}
 use Rattle.rules.specs.Degrees.{coarserSum, degrees}
 use Rattle.rules.proofs.Numbering.{by-cases}
 use Rattle.rules.proofs.Buffer.{member-is}
@@ -22,7 +21,6 @@ use Rattle.rules.proofs.ClassCount.{classes-most}
 use Rattle.rules.proofs.Degrees.{degrees-equation}
 use Rattle.rules.proofs.DegreesLaws.{Place, place-of, length-degrees, degrees-bound}
 use Rattle.rules.proofs.Places.{at-places}
-use Rattle.rules.proofs.WellFormed.{Accepted}
 use Rattle.rules.proofs.StrictOrder.{later-not-coarser}
 use Rattle.strata.specs.Lent.{columnAt, Formed}
 use Rattle.strata.specs.Sums.{sumPassing, AllSmall}

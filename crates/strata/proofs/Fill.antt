@@ -3,7 +3,7 @@
 use mathlib.Core.Path.{_≡_, sym, ap, _∙_}
 use mathlib.Core.List.{List}
 use Prim.Native.Nat.{ℕ, _+_, _≤_, _<_}
-use lib.ListN.{length, getD, set, take, replicate}
+use lib.ListN.{getD, set, take, replicate}
 use Rattle.rules.specs.Lists.{tabulate, forPlaces}
 use Rattle.rules.proofs.Lists.{length-tabulate, getD-tabulate}
 use Rattle.rules.proofs.Places.{tabulate-ext, places-start, places-step, places-end}

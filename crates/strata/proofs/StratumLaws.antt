@@ -17,7 +17,6 @@ use Rattle.rules.specs.Factor.{Column, every, finer}
 use Rattle.rules.specs.Family.{Family, membersOf}
 use Rattle.rules.specs.Design.{firstFailing}
 use Rattle.rules.specs.Lists.{tabulate, forPlaces, wordOf, bitAt}
-use Rattle.rules.specs.Relation.{memberAt, coarserAt}
 use Rattle.rules.specs.Degrees.{degrees}
 use Rattle.rules.specs.Strata.{all, isStratum, stratum, sumAt, residualsFrom, residuals, allHaveStratum}
 use Rattle.rules.proofs.Numbering.{by-cases}

@@ -2,18 +2,17 @@
 -- Assumes nothing.
 use mathlib.Core.Path.{_≡_, refl, sym, ap, ap₂, subst, _∙_}
 use mathlib.Core.List.{List}
-use Prim.Native.Nat.{ℕ, _-_, _≤_, _<_}
+use Prim.Native.Nat.{ℕ, _-_, _≤_}
 use native.Mathlib.Omega.{arith}
 use denote.Ref.{now}
 use lib.IntN.{ℤ, pos, _-ℤ_}
-use lib.ListN.{length, getD, set, take, length-set}
+use lib.ListN.{length, getD, take, length-set}
 use mir.Syntax.{w64}
 use mir.Val.{ofZ, toZ}
 use mir.ValLaws.{toZ-ofZ, toZ-pos}
 use Rattle.rules.specs.Factor.{classes}
 use Rattle.rules.specs.Family.{membersOf}
 use Rattle.rules.specs.Lists.{forPlaces, bitAt}
-use Rattle.rules.specs.Relation.{coarserWords}
 use Rattle.rules.specs.Degrees.{degrees}
 use Rattle.rules.proofs.Places.{places-start, places-step, places-end}
 use Rattle.rules.proofs.DegreesLaws.{length-degrees}

@@ -1,13 +1,10 @@
 -- `member_finer` meets its contract: the parts lent are the members, on the same plots.
 -- Assumes nothing.
-use mathlib.Core.Path.{_≡_, ap₂, _∙_}
-use Prim.Native.Nat.{min}
+use mathlib.Core.Path.{ap₂, _∙_}
 use native.Mathlib.Omega.{arith}
 use denote.Ref.{now}
-use lib.ListN.{length, take}
-use lib.Seq.{take-all}
 use borrow.Author.Needs.{needs}
-use Rattle.rules.specs.Factor.{Column, finer}
+use Rattle.rules.specs.Factor.{finer}
 use Rattle.factor.specs.Standing.{testCommon}
 use Rattle.strata.specs.Lent.{columnAt}
 use Rattle.strata.proofs.Lent.{part-of, length-column, finer-common}

@@ -6,7 +6,7 @@ use native.Mathlib.Omega.{arith}
 use denote.Ref.{now}
 use borrow.Author.Needs.{needs}
 use borrow.Author.Tests.{lt-ltb, le-ltb, lt-leb, le-leb, not-true, not-false}
-use Rattle.rules.specs.Family.{membersOf, allNumbered, ordered}
+use Rattle.rules.specs.Family.{membersOf, allNumbered}
 use Rattle.strata.proofs.Lent.{formed-parts}
 use Rattle.strata.proofs.family.well_formed.Statement.{statement}
 use Rattle.strata.proofs.family.well_formed.Tie as tie

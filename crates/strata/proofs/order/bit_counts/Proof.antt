@@ -1,12 +1,10 @@
 -- `bit_counts` meets its contract: the array is filled from its start.
 -- Assumes nothing.
-use mathlib.Core.Path.{_≡_, refl, sym, ap, _∙_}
-use mathlib.Core.List.{List, []}
-use Prim.Native.Nat.{ℕ, _-_, _≤_, _<_}
+use mathlib.Core.Path.{_≡_, refl, _∙_}
+use Prim.Native.Nat.{_-_, _≤_}
 use native.Mathlib.Omega.{arith}
 use lib.Count.{ones}
-use lib.ListN.{length, getD, set, length-set}
-use Rattle.rules.proofs.Places.{places-start}
+use lib.ListN.{length, getD, length-set}
 use Rattle.strata.proofs.Fill.{upTo, up-start, up-step, up-all}
 use Rattle.strata.proofs.order.bit_counts.Statement.{statement}
 use Rattle.strata.proofs.order.bit_counts.Tie as tie

@@ -1,10 +1,10 @@
 -- `coarser_words` meets its contract: the array is filled from its start.
 -- Assumes nothing.
-use mathlib.Core.Path.{_≡_, refl, sym, ap, _∙_}
-use Prim.Native.Nat.{ℕ, _-_, _≤_, _<_}
+use mathlib.Core.Path.{_≡_, refl, _∙_}
+use Prim.Native.Nat.{_-_, _≤_}
 use native.Mathlib.Omega.{arith}
 use denote.Ref.{now}
-use lib.ListN.{length, getD, set, take, length-set}
+use lib.ListN.{length, take, length-set}
 use Rattle.rules.specs.Family.{membersOf}
 use Rattle.rules.specs.Lists.{forPlaces}
 use Rattle.rules.specs.Relation.{coarserWords}

@@ -1,9 +1,9 @@
 -- `direct_words` meets its contract: the array is filled from its start.
 -- Assumes nothing.
-use mathlib.Core.Path.{_≡_, refl, sym, ap, _∙_}
-use Prim.Native.Nat.{ℕ, _-_, _≤_, _<_}
+use mathlib.Core.Path.{_≡_, refl, _∙_}
+use Prim.Native.Nat.{_-_, _≤_}
 use native.Mathlib.Omega.{arith}
-use lib.ListN.{length, getD, set, length-set}
+use lib.ListN.{length, length-set}
 use Rattle.strata.specs.Words.{directWord}
 use Rattle.strata.proofs.Fill.{upTo, up-start, up-step, up-all}
 use Rattle.strata.proofs.order.direct_words.Statement.{statement}

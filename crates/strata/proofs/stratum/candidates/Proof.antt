@@ -6,7 +6,6 @@ use mathlib.Core.Bool.{Bool}
 use Prim.Native.Nat.{ℕ, _-_, _≤_, _<_}
 use native.Mathlib.Omega.{arith}
 use denote.Ref.{now}
-use lib.ListN.{length}
 use Rattle.rules.specs.Factor.{finer}
 use Rattle.rules.specs.Lists.{wordOf}
 use Rattle.rules.proofs.Words.{word-set, word-skip}

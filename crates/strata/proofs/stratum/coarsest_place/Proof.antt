@@ -1,8 +1,7 @@
 -- `coarsest_place` meets its contract: the search from the present place on is the whole search.
 -- Assumes nothing.
-use mathlib.Core.Path.{_≡_, refl, sym, ap, _∙_}
-use mathlib.Core.Bool.{Bool, true, false}
-use Prim.Native.Nat.{ℕ, _-_, _≤_}
+use mathlib.Core.Path.{_≡_, sym, ap, _∙_}
+use Prim.Native.Nat.{_-_, _≤_}
 use native.Mathlib.Omega.{arith}
 use Rattle.strata.specs.Words.{coarsest, firstPassing}
 use Rattle.strata.proofs.StratumLaws.{passing-here, passing-on, passing-end}

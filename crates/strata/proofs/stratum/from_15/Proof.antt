@@ -1,11 +1,10 @@
 -- `from_15` meets its contract: question 15 is asked of both families.
 -- Assumes nothing.
-use mathlib.Core.Path.{_≡_, sym, _∙_}
-use mathlib.Core.Bool.{true, false}
+use mathlib.Core.Path.{sym, _∙_}
 use denote.Ref.{now}
 use borrow.Author.Needs.{needs}
 use borrow.Author.Tests.{not-true, not-false}
-use Rattle.rules.specs.Family.{membersOf, wellFormed}
+use Rattle.rules.specs.Family.{membersOf}
 use Rattle.strata.proofs.Lent.{formed-family}
 use Rattle.strata.proofs.Questions.{strata-15-plot, strata-15-treatment, strata-15-on}
 use Rattle.strata.proofs.stratum.from_15.Statement.{statement}
