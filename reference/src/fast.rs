@@ -1,0 +1,3 @@
+//! The same entries, built for speed.
+
+pub use crate::literal::*;
