@@ -7,6 +7,9 @@ use crate::{COLUMNS, FAMILY, INTERACTIONS, LEVELS, PLOTS};
 /// A refusal with its two places.
 type Refusal = (u32, u64, u64);
 
+/// No refusal.
+const NONE: Refusal = (0, 0, 0);
+
 /// "Column c, plot u (both from 0) is number 240 × c + u; plot columns take c = 0 to 5 and treatment columns c = 6 to 11".
 fn cells(levels: &[u16], first_column: usize, columns: usize, plots: usize) -> Vec<&[u16]> {
     (first_column..first_column + columns).map(|c| &levels[PLOTS * c..PLOTS * c + plots]).collect()
@@ -83,12 +86,17 @@ pub fn plot_design(levels: &[u16], plots: usize, columns: usize, family: &mut [u
     if !no_level_missing(&used) {
         return (7, [0; 3]);
     }
-    let Some(members) = plot_family(&factors(&used), plots) else {
-        return (8, [0; 3]);
-    };
-    write(&members, family);
-    let (number, first, second) = judge_plot_family(&members).unwrap_or((0, 0, 0));
+    let ((number, first, second), members) = close_and_judge_plots(&factors(&used), plots, family);
     (number, [first, second, members.len() as u64])
+}
+
+/// Questions 8 to 10: "After 9 to 14 the plot family is written". The refusal, and the members written.
+fn close_and_judge_plots(columns: &[Factor], plots: usize, buffer: &mut [u8]) -> (Refusal, Vec<Factor>) {
+    let Some(members) = plot_family(columns, plots) else {
+        return ((8, 0, 0), Vec::new());
+    };
+    write(&members, buffer);
+    (judge_plot_family(&members).unwrap_or(NONE), members)
 }
 
 /// "the full design 6 to 14". Answers the refusal, its places and the sizes of the families written, "0 for one not
@@ -107,37 +115,34 @@ pub fn full_design(
     if !within || !(1..=INTERACTIONS).contains(&k) || !long_enough {
         return (6, [0; 4]);
     }
-    if !no_level_missing(&treatment_cells(levels, treatment_columns, plots)) {
+    let plot_used = plot_cells(levels, plot_columns, plots);
+    let treatment_used = treatment_cells(levels, treatment_columns, plots);
+    if !no_level_missing(&plot_used) || !no_level_missing(&treatment_used) {
         return (7, [0; 4]);
     }
-    let (number, [first, second, plot_size]) = plot_design(levels, plots, plot_columns, plot_buffer);
-    if number != 0 {
-        return (number, [first, second, plot_size, 0]);
+    let (refusal, plot_members) = close_and_judge_plots(&factors(&plot_used), plots, plot_buffer);
+    let plot_size = plot_members.len() as u64;
+    if refusal != NONE {
+        return (refusal.0, [refusal.1, refusal.2, plot_size, 0]);
     }
-    let columns = factors(&treatment_cells(levels, treatment_columns, plots));
-    let plot_members = plot_family(&factors(&plot_cells(levels, plot_columns, plots)), plots).unwrap_or_default();
-    let (number, first, second, size) = treatment_design(&plot_members, &columns, plots, k, treatment_buffer);
+    let first_members = first_treatment_family(&factors(&treatment_used), plots, k);
+    let ((number, first, second), size) = judge_treatments(&plot_members, first_members, treatment_buffer);
     (number, [first, second, plot_size, size])
 }
 
-/// Questions 11 to 14: "after 12 to 14 the first treatment family is [written] too".
-fn treatment_design(
-    plot_members: &[Factor],
-    columns: &[Factor],
-    plots: usize,
-    k: usize,
-    buffer: &mut [u8],
-) -> (u32, u64, u64, u64) {
-    let Some(first_members) = first_treatment_family(columns, plots, k) else {
-        return (11, 0, 0, 0);
+/// Questions 11 to 14: "after 12 to 14 the first treatment family is [written] too". The refusal, and the size of the
+/// treatment family written.
+fn judge_treatments(plot_members: &[Factor], first: Option<Vec<Factor>>, buffer: &mut [u8]) -> (Refusal, u64) {
+    let Some(first_members) = first else {
+        return ((11, 0, 0), 0);
     };
     write(&first_members, buffer);
-    if let Some((number, first, second)) = judge_treatment_family(plot_members, &first_members) {
-        return (number, first, second, first_members.len() as u64);
+    if let Some(refusal) = judge_treatment_family(plot_members, &first_members) {
+        return (refusal, first_members.len() as u64);
     }
     let Some(members) = final_treatment_family(plot_members, &first_members) else {
-        return (14, 0, 0, first_members.len() as u64);
+        return ((14, 0, 0), first_members.len() as u64);
     };
     write(&members, buffer);
-    (0, 0, 0, members.len() as u64)
+    (NONE, members.len() as u64)
 }

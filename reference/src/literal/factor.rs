@@ -26,7 +26,8 @@ impl Plots {
     }
 
     pub fn plots(&self) -> impl Iterator<Item = usize> + '_ {
-        (0..256).filter(|&plot| self.contains(plot))
+        let nonempty = (0..4).filter(|&word| self.0[word] != 0);
+        nonempty.flat_map(|word| (64 * word..64 * word + 64).filter(|&plot| self.contains(plot)))
     }
 }
 
