@@ -9,12 +9,16 @@ impl Plots {
         self.0[plot / 64] |= 1 << (plot % 64);
     }
 
-    pub fn contains(&self, plot: usize) -> bool {
-        self.0[plot / 64] >> (plot % 64) & 1 == 1
-    }
-
     pub fn intersection(&self, other: &Plots) -> Plots {
         Plots(std::array::from_fn(|w| self.0[w] & other.0[w]))
+    }
+
+    pub fn union(&self, other: &Plots) -> Plots {
+        Plots(std::array::from_fn(|w| self.0[w] | other.0[w]))
+    }
+
+    pub fn without(&self, other: &Plots) -> Plots {
+        Plots(std::array::from_fn(|w| self.0[w] & !other.0[w]))
     }
 
     pub fn is_inside(&self, other: &Plots) -> bool {
@@ -25,9 +29,15 @@ impl Plots {
         self.0.iter().map(|word| word.count_ones() as usize).sum()
     }
 
-    pub fn plots(&self) -> impl Iterator<Item = usize> + '_ {
-        let nonempty = (0..4).filter(|&word| self.0[word] != 0);
-        nonempty.flat_map(|word| (64 * word..64 * word + 64).filter(|&plot| self.contains(plot)))
+    /// The plots in ascending order.
+    pub fn plots(&self) -> impl Iterator<Item = usize> {
+        let mut rest = *self;
+        std::iter::from_fn(move || {
+            let w = rest.0.iter().position(|&word| word != 0)?;
+            let bit = rest.0[w].trailing_zeros() as usize;
+            rest.0[w] &= rest.0[w] - 1;
+            Some(64 * w + bit)
+        })
     }
 }
 
@@ -112,19 +122,28 @@ impl Factor {
 
     /// "In the supremum they share one exactly when a chain of plots joins them, each step within an F-class or a G-class."
     pub fn supremum(&self, other: &Factor) -> Factor {
-        let mut label: Vec<Option<usize>> = vec![None; self.plots()];
+        let mut label = vec![usize::MAX; self.plots()];
         for start in 0..self.plots() {
-            let mut reached = vec![start];
-            while let Some(plot) = reached.pop() {
-                if label[plot].is_some() {
-                    continue;
+            if label[start] == usize::MAX {
+                for plot in self.joined_by_chains(other, start).plots() {
+                    label[plot] = start;
                 }
-                label[plot] = Some(start);
-                reached.extend(self.classes[self.class_of[plot]].plots());
-                reached.extend(other.classes[other.class_of[plot]].plots());
             }
         }
         Factor::of_labels(&label)
+    }
+
+    /// The plots that a chain joins to the given one: from each plot reached, steps to all others of its two classes.
+    fn joined_by_chains(&self, other: &Factor, start: usize) -> Plots {
+        let mut reached = Plots::default();
+        reached.insert(start);
+        let mut ends = vec![start];
+        while let Some(plot) = ends.pop() {
+            let step = self.classes[self.class_of[plot]].union(&other.classes[other.class_of[plot]]);
+            ends.extend(step.without(&reached).plots());
+            reached = reached.union(&step);
+        }
+        reached
     }
 
     /// "F and G are orthogonal when for each class K of the supremum, and each F-class A and G-class B inside K, the size of
