@@ -12,6 +12,7 @@ mod names;
 mod order;
 mod sheet;
 mod table;
+mod work;
 
 pub use design::{full_design, plot_design};
 pub use names::name;

@@ -96,17 +96,31 @@ pub struct Members {
 pub struct TooMany;
 
 impl Members {
-    pub fn new(points: usize, limit: usize) -> Members {
+    pub const fn new() -> Members {
         Members {
-            points,
+            points: 0,
             count: 0,
-            limit,
+            limit: 0,
             columns: [[0; PLOTS]; MEMBERS],
             classes: [0; MEMBERS],
             sizes: [[0; 256]; MEMBERS],
             above: [0; MEMBERS],
             crooked: [0; MEMBERS],
         }
+    }
+
+    /// Begins anew with no member.
+    pub fn begin(&mut self, points: usize, limit: usize) {
+        (self.points, self.limit, self.count) = (points, limit, 0);
+    }
+
+    /// Takes over the members of a family in order, given by their columns over these points.
+    pub fn begin_with(&mut self, columns: &[Column; MEMBERS], order: &[u8; MEMBERS], family: &Members) {
+        for (place, &i) in order[..family.count].iter().enumerate() {
+            self.columns[place][..self.points].copy_from_slice(&columns[place][..self.points]);
+            self.classes[place] = family.classes[usize::from(i)];
+        }
+        self.count = family.count;
     }
 
     pub fn column(&self, i: usize) -> &[u8] {
@@ -126,6 +140,7 @@ impl Members {
         let i = self.count;
         self.columns[i][..self.points].copy_from_slice(&column[..self.points]);
         self.classes[i] = classes;
+        (self.above[i], self.crooked[i]) = (0, 0);
         self.count += 1;
         Ok((i, true))
     }
@@ -220,13 +235,9 @@ impl Members {
 
     /// Closes treatment members under supremum, noting each pair that is not orthogonal.
     pub fn close_treatments(&mut self, weights: &Column, walk: &mut Walk) -> Result<(), TooMany> {
-        let mut measured = 0;
-        let mut j = 1;
+        let mut j = 0;
         while j < self.count {
-            while measured <= j {
-                self.measure(measured, weights);
-                measured += 1;
-            }
+            self.measure(j, weights);
             for i in 0..j {
                 if self.comparable(i, j) || !self.walk_pair(i, j, walk) {
                     continue;

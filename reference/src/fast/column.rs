@@ -1,7 +1,6 @@
 //! Columns of class numbers: numbering, and the walk over two of them that gives infimum and supremum.
 
 use crate::{COLUMNS, PLOTS};
-use std::cell::RefCell;
 
 /// Class numbers from 1, one a point; points past those in use hold anything.
 pub type Column = [u8; PLOTS];
@@ -90,17 +89,8 @@ pub struct Walk {
     table: [u8; PLOTS * PLOTS],
 }
 
-thread_local! {
-    static WALK: RefCell<Walk> = const { RefCell::new(Walk::new()) };
-}
-
-/// Runs with this thread's working memory; whatever it holds is overwritten before it is read.
-pub fn with_walk<R>(run: impl FnOnce(&mut Walk) -> R) -> R {
-    WALK.with_borrow_mut(run)
-}
-
 impl Walk {
-    const fn new() -> Walk {
+    pub const fn new() -> Walk {
         Walk {
             cells: 0,
             infimum: [0; PLOTS],

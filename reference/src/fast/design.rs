@@ -1,7 +1,8 @@
 //! Questions 6 to 14.
 
 use super::closing::{Members, Points, TooMany};
-use super::column::{with_walk, ByClass, Column, Columns, Walk};
+use super::column::{Column, Columns, Walk};
+use super::work::{with_work, Work};
 use crate::{COLUMNS, FAMILY, INTERACTIONS, LEVELS, MEMBERS, PLOTS};
 
 /// What a design answers, with the numbers of classes of the families written.
@@ -22,11 +23,18 @@ impl Design {
     }
 }
 
-/// A closed plot family in order: members between U and E, over points.
-struct PlotFamily {
+/// A closed family in order, without U and, of plots, without E.
+struct Closed<'a> {
     points: Points,
-    members: Members,
+    members: &'a mut Members,
     order: [u8; MEMBERS],
+}
+
+impl Closed<'_> {
+    /// The index of the member at a place, from 0, among those here.
+    fn at(&self, place: usize) -> usize {
+        usize::from(self.order[place])
+    }
 }
 
 /// Whether no used cell is missing (question 7).
@@ -67,9 +75,9 @@ fn classes(members: &Members, order: &[u8; MEMBERS], equality: bool, plots: usiz
 }
 
 /// Closes the plot columns (question 8).
-fn close_plots(columns: &Columns, plots: usize, walk: &mut Walk) -> Result<PlotFamily, TooMany> {
+fn close_plots<'a>(columns: &Columns, plots: usize, members: &'a mut Members, walk: &mut Walk) -> Result<Closed<'a>, TooMany> {
     let points = Points::of_columns(columns, plots, walk);
-    let mut members = Members::new(points.count, MEMBERS - 2);
+    members.begin(points.count, MEMBERS - 2);
     for c in 0..columns.count {
         let count = columns.classes[c];
         if count > 1 && usize::from(count) < plots {
@@ -78,21 +86,20 @@ fn close_plots(columns: &Columns, plots: usize, walk: &mut Walk) -> Result<PlotF
     }
     members.close_plots(plots, walk)?;
     let order = members.order();
-    Ok(PlotFamily { points, members, order })
+    Ok(Closed { points, members, order })
 }
 
 /// The place of the first member whose classes differ in size (question 9); works out the sizes on the way.
-fn first_uneven(family: &mut PlotFamily, plots: usize) -> Option<usize> {
-    let members = &mut family.members;
-    for (place, &i) in family.order[..members.count].iter().enumerate() {
-        let i = usize::from(i);
-        let count = usize::from(members.classes[i]);
+fn first_uneven(family: &mut Closed, plots: usize) -> Option<usize> {
+    for place in 0..family.members.count {
+        let i = family.at(place);
+        let count = usize::from(family.members.classes[i]);
         if plots % count != 0 {
             return Some(place + 2);
         }
-        members.measure(i, &family.points.weights);
+        family.members.measure(i, &family.points.weights);
         let size = (plots / count) as u8;
-        if members.sizes[i][1..=count].iter().any(|&s| s != size) {
+        if family.members.sizes[i][1..=count].iter().any(|&s| s != size) {
             return Some(place + 2);
         }
     }
@@ -100,13 +107,20 @@ fn first_uneven(family: &mut PlotFamily, plots: usize) -> Option<usize> {
 }
 
 /// Questions 8 to 10: writes the plot family and judges it. The family, unless it is refused.
-fn judge_plots(columns: &Columns, plots: usize, buffer: &mut [u8], walk: &mut Walk, design: &mut Design) -> Option<PlotFamily> {
-    let Ok(mut family) = close_plots(columns, plots, walk) else {
+fn judge_plots<'a>(
+    columns: &Columns,
+    plots: usize,
+    buffer: &mut [u8],
+    members: &'a mut Members,
+    walk: &mut Walk,
+    design: &mut Design,
+) -> Option<Closed<'a>> {
+    let Ok(mut family) = close_plots(columns, plots, members, walk) else {
         design.refused(8, 0, 0);
         return None;
     };
-    design.plot_size = write(&family.points, &family.members, &family.order, true, plots, buffer);
-    design.plot_classes = classes(&family.members, &family.order, true, plots);
+    design.plot_size = write(&family.points, family.members, &family.order, true, plots, buffer);
+    design.plot_classes = classes(family.members, &family.order, true, plots);
     if let Some(place) = first_uneven(&mut family, plots) {
         design.refused(9, place, 0);
         return None;
@@ -150,129 +164,118 @@ fn add_infima(
 }
 
 /// Closes the infima of 1 to k treatment columns (question 11).
-fn close_treatments(columns: &Columns, k: usize, plots: usize, walk: &mut Walk) -> Result<(Points, Members), TooMany> {
+fn close_treatments<'a>(
+    columns: &Columns,
+    k: usize,
+    plots: usize,
+    members: &'a mut Members,
+    walk: &mut Walk,
+) -> Result<Closed<'a>, TooMany> {
     let points = Points::of_columns(columns, plots, walk);
-    let mut members = Members::new(points.count, MEMBERS - 1);
+    members.begin(points.count, MEMBERS - 1);
     let mut factors = Factors { count: columns.count, columns: [[0; PLOTS]; COLUMNS], classes: columns.classes };
     for c in 0..columns.count {
         factors.columns[c] = points.reduce(&columns.columns[c]);
     }
-    add_infima(&mut members, &factors, (&[1; PLOTS], 1), 0, k, walk)?;
+    add_infima(members, &factors, (&[1; PLOTS], 1), 0, k, walk)?;
     members.close_treatments(&points.weights, walk)?;
-    Ok((points, members))
+    let order = members.order();
+    Ok(Closed { points, members, order })
 }
 
-/// The members of both families over the points that both part.
-struct Together {
-    points: Points,
-    plots: [Column; MEMBERS],
-    treatments: [Column; MEMBERS],
-    treatment_sizes: [ByClass; MEMBERS],
-}
-
-impl Together {
-    fn new(family: &PlotFamily, points: &Points, first: &Members, order: &[u8; MEMBERS], plots: usize, walk: &mut Walk) -> Together {
-        let together = family.points.together(points, plots, walk);
-        let mut found = Together {
-            plots: [[0; PLOTS]; MEMBERS],
-            treatments: [[0; PLOTS]; MEMBERS],
-            treatment_sizes: first.sizes,
-            points: together,
-        };
-        let count = found.points.count;
-        for (column, &i) in found.plots.iter_mut().zip(&family.order[..family.members.count]) {
-            let member = &family.members.columns[usize::from(i)];
-            for (number, &plot) in column[..count].iter_mut().zip(&found.points.first) {
-                *number = member[usize::from(family.points.of[usize::from(plot)] - 1)];
-            }
+/// The members in order over points of which each is a part of one of the family's points.
+fn spread(family: &Closed, points: &Points, columns: &mut [Column; MEMBERS]) {
+    for (place, column) in columns[..family.members.count].iter_mut().enumerate() {
+        let member = &family.members.columns[family.at(place)];
+        for (number, &plot) in column[..points.count].iter_mut().zip(&points.first) {
+            *number = member[usize::from(family.points.of[usize::from(plot)] - 1)];
         }
-        for (j, (column, &i)) in found.treatments.iter_mut().zip(&order[..first.count]).enumerate() {
-            let member = &first.columns[usize::from(i)];
-            for (number, &plot) in column[..count].iter_mut().zip(&found.points.first) {
-                *number = member[usize::from(points.of[usize::from(plot)] - 1)];
-            }
-            found.treatment_sizes[j] = first.sizes[usize::from(i)];
-        }
-        found
     }
 }
 
-/// Question 13 over all pairs, gathering the suprema for question 14 on the way: the final members over the points that both
-/// part, or the first failing pair, places from 0 among the members without U.
-fn judge_pairs(
-    family: &PlotFamily,
-    first: &Members,
-    order: &[u8; MEMBERS],
-    together: &Together,
-    walk: &mut Walk,
-) -> Result<Result<Members, TooMany>, (usize, usize)> {
-    let points = together.points.count;
-    let mut last = Ok(Members::new(points, MEMBERS - 1));
-    for (j, &i) in order[..first.count].iter().enumerate() {
-        add_to(&mut last, &together.treatments[j], first.classes[usize::from(i)]);
-    }
-    for (i, &at) in family.order[..family.members.count].iter().enumerate() {
-        let (f, f_classes) = (&together.plots[i][..points], family.members.classes[usize::from(at)]);
-        let f_sizes = &family.members.sizes[usize::from(at)];
-        for (j, &of) in order[..first.count].iter().enumerate() {
-            let (g, g_classes) = (&together.treatments[j][..points], first.classes[usize::from(of)]);
+/// The columns of both families over the points that both part.
+struct Together<'a> {
+    points: &'a Points,
+    plots: &'a [Column; MEMBERS],
+    treatments: &'a [Column; MEMBERS],
+}
+
+/// What question 13 and the suprema after it come to.
+enum Pairs {
+    /// The first failing pair, places from 0 among the members without U.
+    Crooked(usize, usize),
+    TooMany,
+    Closed,
+}
+
+/// Question 13 over all pairs, gathering the suprema for question 14 on the way.
+fn judge_pairs(family: &Closed, first: &Closed, together: &Together, last: &mut Members, walk: &mut Walk) -> Pairs {
+    let count = together.points.count;
+    let mut few = true;
+    for i in 0..family.members.count {
+        let (f, f_classes) = (&together.plots[i][..count], family.members.classes[family.at(i)]);
+        for j in 0..first.members.count {
+            let (g, g_classes) = (&together.treatments[j][..count], first.members.classes[first.at(j)]);
             walk.meet(f, f_classes, g, g_classes);
             if walk.cells == usize::from(f_classes) {
                 continue;
             }
             if walk.cells == usize::from(g_classes) {
-                add_to(&mut last, &together.plots[i], f_classes);
+                few = few && last.add(&together.plots[i], f_classes).is_ok();
                 continue;
             }
             walk.join(f_classes);
-            if !walk.orthogonal(&together.points.weights[..points], f_sizes, f_classes, &together.treatment_sizes[j]) {
-                return Err((i, j));
+            let sizes = (&family.members.sizes[family.at(i)], &first.members.sizes[first.at(j)]);
+            if !walk.orthogonal(&together.points.weights[..count], sizes.0, f_classes, sizes.1) {
+                return Pairs::Crooked(i, j);
             }
-            if walk.joined > 1 && last.is_ok() {
+            if few && walk.joined > 1 {
                 let mut column = [0; PLOTS];
                 walk.supremum(f, &mut column);
-                add_to(&mut last, &column, walk.joined as u8);
+                few = last.add(&column, walk.joined as u8).is_ok();
             }
         }
     }
-    Ok(last)
-}
-
-fn add_to(members: &mut Result<Members, TooMany>, column: &Column, classes: u8) {
-    if let Ok(known) = members {
-        if known.add(column, classes).is_err() {
-            *members = Err(TooMany);
-        }
+    if few {
+        Pairs::Closed
+    } else {
+        Pairs::TooMany
     }
 }
 
 /// Questions 11 to 14.
-fn judge_treatments(family: &PlotFamily, columns: &Columns, k: usize, plots: usize, buffer: &mut [u8], walk: &mut Walk, design: &mut Design) {
-    let Ok((points, mut first)) = close_treatments(columns, k, plots, walk) else {
-        return design.refused(11, 0, 0);
-    };
-    let order = first.order();
-    design.treatment_size = write(&points, &first, &order, false, plots, buffer);
-    design.treatment_classes = classes(&first, &order, false, plots);
-    if let Some((i, j)) = first.first_crooked_pair(&order) {
+fn judge_treatments(
+    family: &Closed,
+    first: Closed,
+    plots: usize,
+    buffer: &mut [u8],
+    (last, plot_columns, first_columns): (&mut Members, &mut [Column; MEMBERS], &mut [Column; MEMBERS]),
+    walk: &mut Walk,
+    design: &mut Design,
+) {
+    design.treatment_size = write(&first.points, first.members, &first.order, false, plots, buffer);
+    design.treatment_classes = classes(first.members, &first.order, false, plots);
+    if let Some((i, j)) = first.members.first_crooked_pair(&first.order) {
         return design.refused(12, i + 2, j + 2);
     }
-    if family.members.count == 0 || first.count == 0 {
+    if family.members.count == 0 || first.members.count == 0 {
         return;
     }
-    if first.count == 1 {
-        first.measure(0, &points.weights);
-    }
-    let together = Together::new(family, &points, &first, &order, plots, walk);
-    match judge_pairs(family, &first, &order, &together, walk) {
-        Err((i, j)) => design.refused(13, i + 2, j + 2),
-        Ok(Err(TooMany)) => design.refused(14, 0, 0),
-        Ok(Ok(last)) if last.count > first.count => {
+    let points = family.points.together(&first.points, plots, walk);
+    spread(family, &points, plot_columns);
+    spread(&first, &points, first_columns);
+    last.begin(points.count, MEMBERS - 1);
+    last.begin_with(first_columns, &first.order, first.members);
+    let together = Together { points: &points, plots: plot_columns, treatments: first_columns };
+    match judge_pairs(family, &first, &together, last, walk) {
+        Pairs::Crooked(i, j) => design.refused(13, i + 2, j + 2),
+        Pairs::TooMany => design.refused(14, 0, 0),
+        Pairs::Closed if last.count > first.members.count => {
             let order = last.order();
-            design.treatment_size = write(&together.points, &last, &order, false, plots, buffer);
-            design.treatment_classes = classes(&last, &order, false, plots);
+            design.treatment_size = write(&points, last, &order, false, plots, buffer);
+            design.treatment_classes = classes(last, &order, false, plots);
         }
-        Ok(Ok(_)) => {}
+        Pairs::Closed => {}
     }
 }
 
@@ -284,11 +287,19 @@ pub fn judge(
     plots: usize,
     plot_buffer: &mut [u8],
     treatment_buffer: &mut [u8],
-    walk: &mut Walk,
+    work: &mut Work,
 ) -> Design {
     let mut design = Design::default();
-    if let Some(family) = judge_plots(plot_columns, plots, plot_buffer, walk, &mut design) {
-        judge_treatments(&family, treatment_columns, k, plots, treatment_buffer, walk, &mut design);
+    let walk = &mut work.walk;
+    let members = &mut work.plot_members;
+    if let Some(family) = judge_plots(plot_columns, plots, plot_buffer, members, walk, &mut design) {
+        match close_treatments(treatment_columns, k, plots, &mut work.first_members, walk) {
+            Err(TooMany) => design.refused(11, 0, 0),
+            Ok(first) => {
+                let last = (&mut work.final_members, &mut work.plot_columns, &mut work.first_columns);
+                judge_treatments(&family, first, plots, treatment_buffer, last, walk, &mut design);
+            }
+        }
     }
     design
 }
@@ -304,7 +315,7 @@ pub fn plot_design(levels: &[u16], plots: usize, columns: usize, family: &mut [u
     }
     let columns = Columns::number(levels, 0, columns, plots);
     let mut design = Design::default();
-    with_walk(|walk| judge_plots(&columns, plots, family, walk, &mut design));
+    with_work(|work| judge_plots(&columns, plots, family, &mut work.plot_members, &mut work.walk, &mut design).is_some());
     (design.refusal, [design.first, design.second, design.plot_size].map(|n| n as u64))
 }
 
@@ -329,6 +340,6 @@ pub fn full_design(
     }
     let of_plots = Columns::number(levels, 0, plot_columns, plots);
     let of_treatments = Columns::number(levels, COLUMNS, treatment_columns, plots);
-    let design = with_walk(|walk| judge(&of_plots, &of_treatments, k, plots, plot_buffer, treatment_buffer, walk));
+    let design = with_work(|work| judge(&of_plots, &of_treatments, k, plots, plot_buffer, treatment_buffer, work));
     (design.refusal, [design.first, design.second, design.plot_size, design.treatment_size].map(|n| n as u64))
 }

@@ -1,9 +1,10 @@
 //! Names of members: questions 2, 3, 6, 7 and 15.
 
-use super::column::{is_finer, leaders, with_walk, Column, Columns, Walk};
+use super::column::{is_finer, leaders, Column, Columns, Walk};
 use super::design::no_level_missing;
 use super::order::{ones, Family};
 use super::sheet::Header;
+use super::work::with_work;
 use crate::{COLUMNS, FAMILY, LEVELS, NAME, PLOTS, TEXT};
 
 /// The columns of one kind, ready for naming.
@@ -146,6 +147,6 @@ pub fn name(
     let columns = Columns::number(levels, first, count, plots);
     let namer = Namer::new(header.names(treatment), &columns, plots);
     let classes = family.classes[place - 1];
-    let length = with_walk(|walk| namer.write(family.column(place - 1), classes, place, name, walk));
+    let length = with_work(|work| namer.write(family.column(place - 1), classes, place, name, &mut work.walk));
     (0, [length as u64])
 }

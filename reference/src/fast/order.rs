@@ -1,6 +1,6 @@
 //! Order, degrees of freedom and strata of families already made.
 
-use super::column::{is_finer, leaders};
+use super::column::{is_finer, leaders, Column};
 use crate::{FAMILY, MEMBERS, PLOTS};
 
 /// A family in a buffer, known to be in the numbering and order.
@@ -50,21 +50,25 @@ impl<'a> Family<'a> {
         &self.buffer[PLOTS * i..PLOTS * i + self.plots]
     }
 
-    /// For each member its strictly coarser ones. They have fewer classes, so they stand before it; what is coarser than one
-    /// of them needs no look.
+    /// For each member its strictly coarser ones.
     pub fn coarser(&self) -> [u32; MEMBERS] {
-        let mut words = [0u32; MEMBERS];
-        for i in 1..self.size {
-            let first = leaders(self.column(i));
-            let mut word = 0;
-            for j in (0..i).rev() {
-                if word >> j & 1 == 0 && self.classes[j] < self.classes[i] && is_finer(&first, self.column(j)) {
-                    word |= 1 << j | words[j];
-                }
-            }
-            words[i] = word;
+        let mut words = [0; MEMBERS];
+        for i in 0..self.size {
+            words[i] = self.coarser_word(i, &leaders(self.column(i)), &words);
         }
         words
+    }
+
+    /// The coarser members of one whose leaders are given, with the words of those before it. They have fewer classes, so
+    /// they stand before it; what is coarser than one of them needs no look.
+    fn coarser_word(&self, i: usize, leaders: &Column, words: &[u32; MEMBERS]) -> u32 {
+        let mut word = 0;
+        for j in (0..i).rev() {
+            if word >> j & 1 == 0 && self.classes[j] < self.classes[i] && is_finer(leaders, self.column(j)) {
+                word |= 1 << j | words[j];
+            }
+        }
+        word
     }
 
     /// Degrees of freedom, from the words of coarser members.
@@ -127,25 +131,28 @@ pub fn degrees(family: &[u8], plots: usize, size: usize) -> (u32, [i64; 32]) {
     }
 }
 
-/// The strata of all treatment members, places from 0; None when one has none. The coarsest candidate stands first, and those
-/// finer than it are candidates too, so only the others need a look.
-pub fn places(plots: &Family, coarser: &[u32; MEMBERS], treatments: &Family) -> Option<[u8; MEMBERS]> {
-    let mut first = [[0; PLOTS]; MEMBERS];
-    for (i, first) in first[..plots.size].iter_mut().enumerate() {
-        *first = leaders(plots.column(i));
-    }
-    let mut places = [0; MEMBERS];
-    for (j, place) in places[..treatments.size].iter_mut().enumerate() {
-        let column = treatments.column(j);
-        let candidate = |i: &usize| plots.classes[*i] >= treatments.classes[j] && is_finer(&first[*i], column);
-        let stratum = (0..plots.size).find(candidate)?;
-        let other = |i: &usize| coarser[*i] >> stratum & 1 == 0 && candidate(i);
-        if (stratum + 1..plots.size).any(|i| other(&i)) {
-            return None;
+/// The order of the plot family and the strata of all treatment members, places from 0; None when one has none. The coarsest
+/// candidate stands first, and those finer than it are candidates too, so only the others need a look.
+pub fn places(plots: &Family, treatments: &Family) -> Option<([u32; MEMBERS], [u8; MEMBERS])> {
+    const NONE: u8 = u8::MAX;
+    let mut words = [0; MEMBERS];
+    let mut places = [NONE; MEMBERS];
+    for i in 0..plots.size {
+        let leaders = leaders(plots.column(i));
+        words[i] = plots.coarser_word(i, &leaders, &words);
+        for (j, place) in places[..treatments.size].iter_mut().enumerate() {
+            let known = *place != NONE && words[i] >> *place & 1 == 1;
+            if known || plots.classes[i] < treatments.classes[j] || !is_finer(&leaders, treatments.column(j)) {
+                continue;
+            }
+            if *place != NONE {
+                return None;
+            }
+            *place = i as u8;
         }
-        *place = stratum as u8;
     }
-    Some(places)
+    let found = !places[..treatments.size].contains(&NONE);
+    found.then_some((words, places))
 }
 
 /// Strata by treatment member and residuals by plot member.
@@ -164,8 +171,7 @@ pub fn strata(
     let (Some(plot_family), Some(treatment_family)) = families else {
         return (15, answer);
     };
-    let coarser = plot_family.coarser();
-    let Some(places) = places(&plot_family, &coarser, &treatment_family) else {
+    let Some((coarser, places)) = places(&plot_family, &treatment_family) else {
         return (16, answer);
     };
     let treatment_degrees = treatment_family.degrees(&treatment_family.coarser());

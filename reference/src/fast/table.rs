@@ -1,10 +1,11 @@
 //! The printed table.
 
-use super::column::{with_walk, Columns, Walk};
+use super::column::{Columns, Walk};
 use super::design::{judge, Design};
 use super::names::{put, Namer};
 use super::order::{places, Family};
 use super::sheet::Header;
+use super::work::with_work;
 use crate::{COLUMNS, FAMILY, INTERACTIONS, LEVELS, MEMBERS, NAME, TABLE, TEXT};
 
 /// The text so far.
@@ -86,8 +87,7 @@ fn refused(text: &mut Text, design: &Design, plots: &Named, treatments: &Named, 
 
 /// The table of an accepted design.
 fn table(text: &mut Text, plots: &Named, treatments: &Named, walk: &mut Walk) {
-    let coarser = plots.family.coarser();
-    let Some(strata) = places(&plots.family, &coarser, &treatments.family) else {
+    let Some((coarser, strata)) = places(&plots.family, &treatments.family) else {
         return text.refused(16, b"-", b"-");
     };
     let degrees = plots.family.degrees(&coarser);
@@ -125,8 +125,9 @@ fn print(sheet: &[u8], text: &mut Text) {
     let of_plots = Columns::number(&levels, 0, header.plot_columns, plots);
     let of_treatments = Columns::number(&levels, COLUMNS, header.treatment_columns, plots);
     let (mut plot_buffer, mut treatment_buffer) = ([0; FAMILY], [0; FAMILY]);
-    with_walk(|walk| {
-        let design = judge(&of_plots, &of_treatments, INTERACTIONS, plots, &mut plot_buffer, &mut treatment_buffer, walk);
+    with_work(|work| {
+        let design = judge(&of_plots, &of_treatments, INTERACTIONS, plots, &mut plot_buffer, &mut treatment_buffer, work);
+        let walk = &mut work.walk;
         let named = |buffer, size, classes: [u8; MEMBERS], treatment, columns| Named {
             family: Family { buffer, plots, size, classes },
             namer: Namer::new(header.names(treatment), columns, plots),
