@@ -173,8 +173,8 @@ fn designs(random: &mut Random) -> u32 {
 
 #[test]
 fn designs_agree() {
-    let seen = cases("designs", 6000, designs);
-    if setting("REFERENCE_CASES", 6000) >= 6000 {
+    let seen = cases("designs", 4000, designs);
+    if setting("REFERENCE_CASES", 4000) >= 4000 {
         let expected = [0, 6, 7, 8, 9, 10, 11, 12, 13, 14];
         assert!(expected.iter().all(|number| seen.contains_key(number)), "each refusal occurs: {seen:?}");
     }
@@ -260,8 +260,8 @@ fn orders(random: &mut Random) -> u32 {
 
 #[test]
 fn relations_and_degrees_agree() {
-    let seen = cases("relations and degrees", 8000, orders);
-    if setting("REFERENCE_CASES", 6000) >= 6000 {
+    let seen = cases("relations and degrees", 5000, orders);
+    if setting("REFERENCE_CASES", 4000) >= 4000 {
         assert!([0, 6, 15].iter().all(|number| seen.contains_key(number)), "{seen:?}");
     }
 }
@@ -290,8 +290,8 @@ fn strata(random: &mut Random) -> u32 {
 
 #[test]
 fn strata_agree() {
-    let seen = cases("strata", 8000, strata);
-    if setting("REFERENCE_CASES", 6000) >= 6000 {
+    let seen = cases("strata", 5000, strata);
+    if setting("REFERENCE_CASES", 4000) >= 4000 {
         assert!([0, 6, 15, 16].iter().all(|number| seen.contains_key(number)), "{seen:?}");
     }
 }
@@ -359,8 +359,8 @@ fn sheets(random: &mut Random) -> u32 {
 
 #[test]
 fn sheets_and_tables_agree() {
-    let seen = cases("sheets and tables", 6000, sheets);
-    if setting("REFERENCE_CASES", 6000) >= 6000 {
+    let seen = cases("sheets and tables", 4000, sheets);
+    if setting("REFERENCE_CASES", 4000) >= 4000 {
         let expected = [0, 2, 3, 4, 5, 8, 9, 10, 11, 12, 13, 14];
         assert!(expected.iter().all(|number| seen.contains_key(number)), "each refusal occurs: {seen:?}");
     }
@@ -401,8 +401,8 @@ fn names(random: &mut Random) -> u32 {
 
 #[test]
 fn names_agree() {
-    let seen = cases("names", 16_000, names);
-    if setting("REFERENCE_CASES", 6000) >= 6000 {
+    let seen = cases("names", 10_000, names);
+    if setting("REFERENCE_CASES", 4000) >= 4000 {
         assert!([0, 2, 3, 6, 7, 15].iter().all(|number| seen.contains_key(number)), "{seen:?}");
     }
 }

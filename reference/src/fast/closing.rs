@@ -85,11 +85,21 @@ pub struct Members {
     limit: usize,
     pub columns: [Column; MEMBERS],
     pub classes: [u8; MEMBERS],
+    /// For each member a number that differs only where the columns do.
+    keys: [u64; MEMBERS],
     pub sizes: [ByClass; MEMBERS],
-    /// For each member those known to be coarser, a bit each.
-    above: [u32; MEMBERS],
+    /// For each member those known to be coarser, a bit each; there may be more.
+    pub above: [u32; MEMBERS],
     /// For each member those not orthogonal to it, a bit each.
     crooked: [u32; MEMBERS],
+}
+
+/// A number from the count of classes and some of the points; equal columns have equal ones.
+#[inline]
+fn key(column: &Column, points: usize, classes: u8) -> u64 {
+    let step = points / 8;
+    let some = |key: u64, i: usize| key << 7 ^ u64::from(column[i * step]);
+    (1..8).fold(u64::from(classes), some)
 }
 
 /// More members than a family may have.
@@ -103,6 +113,7 @@ impl Members {
             limit: 0,
             columns: [[0; PLOTS]; MEMBERS],
             classes: [0; MEMBERS],
+            keys: [0; MEMBERS],
             sizes: [[0; 256]; MEMBERS],
             above: [0; MEMBERS],
             crooked: [0; MEMBERS],
@@ -119,6 +130,7 @@ impl Members {
         for (place, &i) in order[..family.count].iter().enumerate() {
             self.columns[place][..self.points].copy_from_slice(&columns[place][..self.points]);
             self.classes[place] = family.classes[usize::from(i)];
+            self.keys[place] = key(&columns[place], self.points, self.classes[place]);
         }
         self.count = family.count;
     }
@@ -127,11 +139,12 @@ impl Members {
         &self.columns[i][..self.points]
     }
 
-    /// Adds a column with so many classes unless it is known; answers its index and whether it is new.
-    pub fn add(&mut self, column: &Column, classes: u8) -> Result<(usize, bool), TooMany> {
+    /// Adds a column with so many classes unless it is known; answers its index.
+    pub fn add(&mut self, column: &Column, classes: u8) -> Result<usize, TooMany> {
+        let key = key(column, self.points, classes);
         for i in 0..self.count {
-            if self.classes[i] == classes && self.columns[i][..self.points] == column[..self.points] {
-                return Ok((i, false));
+            if self.keys[i] == key && self.columns[i][..self.points] == column[..self.points] {
+                return Ok(i);
             }
         }
         if self.count >= self.limit {
@@ -140,9 +153,10 @@ impl Members {
         let i = self.count;
         self.columns[i][..self.points].copy_from_slice(&column[..self.points]);
         self.classes[i] = classes;
+        self.keys[i] = key;
         (self.above[i], self.crooked[i]) = (0, 0);
         self.count += 1;
-        Ok((i, true))
+        Ok(i)
     }
 
     fn comparable(&self, i: usize, j: usize) -> bool {
@@ -154,26 +168,30 @@ impl Members {
         self.above[finer] |= 1 << coarser | self.above[coarser];
     }
 
-    /// A new infimum of i and j: what is above either is above it, and what is below both is below it.
-    fn note_infimum(&mut self, new: usize, i: usize, j: usize) {
-        self.above[new] = 1 << i | 1 << j | self.above[i] | self.above[j];
+    /// The infimum of i and j: what is above either is above it, and what is below both is below it.
+    fn note_infimum(&mut self, at: usize, i: usize, j: usize) {
         let both = 1 << i | 1 << j;
-        for above in &mut self.above[..new] {
-            if *above & both == both {
-                *above |= 1 << new;
+        self.above[at] |= both | self.above[i] | self.above[j];
+        let word = 1 << at | self.above[at];
+        for (x, above) in self.above[..self.count].iter_mut().enumerate() {
+            if *above & both == both && x != at {
+                *above |= word;
             }
         }
     }
 
-    /// A new supremum of i and j: what is above both is above it, and what is below either is below it.
-    fn note_supremum(&mut self, new: usize, i: usize, j: usize) {
-        self.above[new] = self.above[i] & self.above[j];
-        let word = 1 << new | self.above[new];
-        for (x, above) in self.above[..new].iter_mut().enumerate() {
-            if x == i || x == j || (*above >> i | *above >> j) & 1 == 1 {
+    /// The supremum of i and j: what is above both is above it, and what is below either is below it.
+    fn note_supremum(&mut self, at: usize, i: usize, j: usize) {
+        self.above[at] |= self.above[i] & self.above[j] & !(1 << at);
+        let word = 1 << at | self.above[at];
+        let either = 1 << i | 1 << j;
+        for above in &mut self.above[..self.count] {
+            if *above & either != 0 {
                 *above |= word;
             }
         }
+        self.above[i] |= word;
+        self.above[j] |= word;
     }
 
     /// Walks a pair; false when one is finer than the other, which is noted: such a pair is orthogonal and brings nothing.
@@ -199,10 +217,8 @@ impl Members {
         }
         let mut column = [0; PLOTS];
         walk.supremum(&self.columns[i][..self.points], &mut column);
-        let (at, new) = self.add(&column, walk.joined as u8)?;
-        if new {
-            self.note_supremum(at, i, j);
-        }
+        let at = self.add(&column, walk.joined as u8)?;
+        self.note_supremum(at, i, j);
         Ok(())
     }
 
@@ -217,10 +233,8 @@ impl Members {
                 }
                 if walk.cells < plots {
                     let infimum = walk.infimum;
-                    let (at, new) = self.add(&infimum, walk.cells as u8)?;
-                    if new {
-                        self.note_infimum(at, i, j);
-                    }
+                    let at = self.add(&infimum, walk.cells as u8)?;
+                    self.note_infimum(at, i, j);
                 }
                 self.add_supremum(i, j, walk)?;
                 if walk.cells * walk.joined != usize::from(self.classes[i]) * usize::from(self.classes[j]) {

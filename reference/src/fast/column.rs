@@ -106,11 +106,12 @@ impl Walk {
     #[inline]
     pub fn meet(&mut self, f: &[u8], f_classes: u8, g: &[u8], g_classes: u8) {
         let width = usize::from(g_classes);
+        let before = width + 1;
         let table = &mut self.table[..usize::from(f_classes) * width];
         table.fill(0);
         let mut cells = 0u8;
         for ((&a, &b), infimum) in f.iter().zip(g).zip(&mut self.infimum) {
-            let cell = &mut table[usize::from(a - 1) * width + usize::from(b - 1)];
+            let cell = &mut table[usize::from(a) * width + usize::from(b) - before];
             if *cell == 0 {
                 self.f[usize::from(cells)] = a;
                 self.g[usize::from(cells)] = b;
@@ -126,7 +127,7 @@ impl Walk {
     /// class, so the classes of the supremum are numbered by first appearance.
     #[inline]
     pub fn join(&mut self, f_classes: u8) {
-        let mut parent: ByClass = std::array::from_fn(|class| class as u8);
+        let mut parent = EACH_ITS_OWN;
         let mut met: ByClass = [0; 256];
         let mut joined = usize::from(f_classes);
         for (&a, &b) in self.f[..self.cells].iter().zip(&self.g) {
@@ -184,6 +185,17 @@ impl Walk {
         })
     }
 }
+
+/// Every class its own root.
+const EACH_ITS_OWN: ByClass = {
+    let mut classes = [0; 256];
+    let mut class = 0;
+    while class < 256 {
+        classes[class] = class as u8;
+        class += 1;
+    }
+    classes
+};
 
 /// The root of a class, shortening the way to it.
 #[inline]

@@ -1,7 +1,8 @@
 //! Questions 6 to 14.
 
 use super::closing::{Members, Points, TooMany};
-use super::column::{Column, Columns, Walk};
+use super::column::{ByClass, Column, Columns, Walk};
+use super::order::ones;
 use super::work::{with_work, Work};
 use crate::{COLUMNS, FAMILY, INTERACTIONS, LEVELS, MEMBERS, PLOTS};
 
@@ -193,11 +194,51 @@ fn spread(family: &Closed, points: &Points, columns: &mut [Column; MEMBERS]) {
     }
 }
 
+/// A member of one of both families over the points that both part.
+struct Member<'a> {
+    column: &'a [u8],
+    classes: u8,
+    sizes: &'a ByClass,
+}
+
+/// How a plot member F and a treatment member G stand.
+enum Pair {
+    Finer,
+    Coarser,
+    /// Neither is finer; they are orthogonal.
+    Crossed,
+    Crooked,
+}
+
+/// Walks a pair. Where neither is finer the walk holds the supremum afterwards.
+fn pair(f: &Member, g: &Member, weights: &[u8], walk: &mut Walk) -> Pair {
+    walk.meet(f.column, f.classes, g.column, g.classes);
+    if walk.cells == usize::from(f.classes) {
+        return Pair::Finer;
+    }
+    if walk.cells == usize::from(g.classes) {
+        return Pair::Coarser;
+    }
+    walk.join(f.classes);
+    if walk.orthogonal(weights, f.sizes, f.classes, g.sizes) {
+        Pair::Crossed
+    } else {
+        Pair::Crooked
+    }
+}
+
 /// The columns of both families over the points that both part.
 struct Together<'a> {
     points: &'a Points,
     plots: &'a [Column; MEMBERS],
     treatments: &'a [Column; MEMBERS],
+}
+
+impl<'a> Together<'a> {
+    fn member(&self, columns: &'a [Column; MEMBERS], family: &'a Closed, place: usize) -> Member<'a> {
+        let (i, members) = (family.at(place), &family.members);
+        Member { column: &columns[place][..self.points.count], classes: members.classes[i], sizes: &members.sizes[i] }
+    }
 }
 
 /// What question 13 and the suprema after it come to.
@@ -208,39 +249,60 @@ enum Pairs {
     Closed,
 }
 
-/// Question 13 over all pairs, gathering the suprema for question 14 on the way.
+/// For each treatment member those known to be finer than it, and itself, a bit each.
+fn at_or_below(members: &Members) -> [u32; MEMBERS] {
+    let mut below: [u32; MEMBERS] = std::array::from_fn(|j| 1 << j);
+    for x in 0..members.count {
+        for j in ones(members.above[x]) {
+            below[j] |= 1 << x;
+        }
+    }
+    below
+}
+
+/// Question 13 over all pairs, gathering the suprema for question 14 on the way. A pair of which one is finer is orthogonal
+/// and has the coarser one as supremum; what is known of the order within the families saves walks over such pairs.
 fn judge_pairs(family: &Closed, first: &Closed, together: &Together, last: &mut Members, walk: &mut Walk) -> Pairs {
-    let count = together.points.count;
+    let below = at_or_below(first.members);
+    let weights = &together.points.weights[..together.points.count];
+    let mut coarser_than = [0; MEMBERS];
     let mut few = true;
     for i in 0..family.members.count {
-        let (f, f_classes) = (&together.plots[i][..count], family.members.classes[family.at(i)]);
+        let f = together.member(together.plots, family, i);
+        let mut coarser = ones(family.members.above[family.at(i)]).fold(0, |known, above| known | coarser_than[above]);
+        let mut finer = 0u32;
         for j in 0..first.members.count {
-            let (g, g_classes) = (&together.treatments[j][..count], first.members.classes[first.at(j)]);
-            walk.meet(f, f_classes, g, g_classes);
-            if walk.cells == usize::from(f_classes) {
+            let b = first.at(j);
+            if (coarser | finer) >> b & 1 == 1 {
                 continue;
             }
-            if walk.cells == usize::from(g_classes) {
-                few = few && last.add(&together.plots[i], f_classes).is_ok();
-                continue;
-            }
-            walk.join(f_classes);
-            let sizes = (&family.members.sizes[family.at(i)], &first.members.sizes[first.at(j)]);
-            if !walk.orthogonal(&together.points.weights[..count], sizes.0, f_classes, sizes.1) {
-                return Pairs::Crooked(i, j);
-            }
-            if few && walk.joined > 1 {
-                let mut column = [0; PLOTS];
-                walk.supremum(f, &mut column);
-                few = last.add(&column, walk.joined as u8).is_ok();
+            match pair(&f, &together.member(together.treatments, first, j), weights, walk) {
+                Pair::Finer => coarser |= 1 << b | first.members.above[b],
+                Pair::Coarser => finer |= below[b],
+                Pair::Crossed => few = few && add_supremum(&f, last, walk).is_ok(),
+                Pair::Crooked => return Pairs::Crooked(i, j),
             }
         }
+        if finer != 0 {
+            few = few && last.add(&together.plots[i], f.classes).is_ok();
+        }
+        coarser_than[family.at(i)] = coarser;
     }
     if few {
         Pairs::Closed
     } else {
         Pairs::TooMany
     }
+}
+
+/// Adds the supremum of the pair just walked.
+fn add_supremum(f: &Member, last: &mut Members, walk: &Walk) -> Result<(), TooMany> {
+    if walk.joined > 1 {
+        let mut column = [0; PLOTS];
+        walk.supremum(f.column, &mut column);
+        last.add(&column, walk.joined as u8)?;
+    }
+    Ok(())
 }
 
 /// Questions 11 to 14.
