@@ -7,6 +7,7 @@
 //! slices: nothing is assumed of the caller.
 
 #![forbid(unsafe_code)]
+#![allow(clippy::type_complexity, clippy::needless_range_loop)]
 
 pub mod fast;
 pub mod literal;

@@ -78,9 +78,9 @@ pub struct Walk {
     pub cells: usize,
     /// The infimum: for each point the number of its cell.
     pub infimum: Column,
-    /// For each cell its classes in F and G.
-    f: Column,
-    g: Column,
+    /// For each cell, from 0, its classes in F and G.
+    f: ByClass,
+    g: ByClass,
     /// Number of classes of the supremum.
     pub joined: usize,
     /// For each class of F the number of its class in the supremum.
@@ -94,8 +94,8 @@ impl Walk {
         Walk {
             cells: 0,
             infimum: [0; PLOTS],
-            f: [0; PLOTS],
-            g: [0; PLOTS],
+            f: [0; 256],
+            g: [0; 256],
             joined: 0,
             joined_of: [0; 256],
             table: [0; PLOTS * PLOTS],

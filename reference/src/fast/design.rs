@@ -95,9 +95,6 @@ fn first_uneven(family: &mut Closed, plots: usize) -> Option<usize> {
     for place in 0..family.members.count {
         let i = family.at(place);
         let count = usize::from(family.members.classes[i]);
-        if plots % count != 0 {
-            return Some(place + 2);
-        }
         family.members.measure(i, &family.points.weights);
         let size = (plots / count) as u8;
         if family.members.sizes[i][1..=count].iter().any(|&s| s != size) {
