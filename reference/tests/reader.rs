@@ -1,0 +1,215 @@
+//! The reader of sheets: its form, its limits, its order of questions and the cells that it writes.
+
+mod common;
+
+use common::*;
+use reference::{LEVELS, NAME, PLOTS, TEXT};
+
+/// Both implementations answer this number, and a refusal leaves the table as it was.
+fn reads(text: &[u8], number: u32) {
+    for entries in &BOTH {
+        let mut levels = pattern_levels(LEVELS + 4);
+        let (found, counts) = (entries.read_sheet)(text, &mut levels);
+        assert_eq!(found, number, "{}: {:?}", entries.title, String::from_utf8_lossy(&text[..text.len().min(80)]));
+        if number != 0 {
+            assert_eq!((counts, levels), ([0; 3], pattern_levels(LEVELS + 4)));
+        }
+    }
+}
+
+fn plot_lines(count: usize) -> String {
+    "p:Aa\n".to_string() + &"1\n".repeat(count)
+}
+
+#[test]
+fn the_sample_sheet_is_read_and_only_used_cells_change() {
+    for entries in &BOTH {
+        let mut levels = pattern_levels(LEVELS + 4);
+        let text = b"t:Gain\tp:Hut\tt:Cable\n7\t1\t65535\n8\t2\t9\n";
+        assert_eq!((entries.read_sheet)(text, &mut levels), (0, [2, 1, 2]));
+        let mut expected = pattern_levels(LEVELS + 4);
+        expected[..2].copy_from_slice(&[1, 2]);
+        expected[6 * PLOTS..6 * PLOTS + 2].copy_from_slice(&[7, 8]);
+        expected[7 * PLOTS..7 * PLOTS + 2].copy_from_slice(&[65535, 9]);
+        assert_eq!(levels, expected, "{}", entries.title);
+    }
+}
+
+#[test]
+fn a_short_table_comes_before_all() {
+    for entries in &BOTH {
+        for text in [&b""[..], b"p:Aa\n1\n", b"x"] {
+            let mut levels = pattern_levels(LEVELS - 1);
+            assert_eq!((entries.read_sheet)(text, &mut levels), (1, [0; 3]));
+            assert_eq!(levels, pattern_levels(LEVELS - 1));
+        }
+        assert_eq!((entries.read_sheet)(b"", &mut []), (1, [0; 3]));
+    }
+}
+
+#[test]
+fn names_have_two_to_twelve_letters_or_digits() {
+    for good in ["p:A1", "t:Zz", "p:aBcDeFgHiJkL", "t:x99999999999", "p:Aa\tt:AA", "p:Hut\tp:hut"] {
+        reads(format!("{good}\n{}\n", good.split('\t').map(|_| "1").collect::<Vec<_>>().join("\t")).as_bytes(), 0);
+    }
+    let bad = [
+        "p:A", "p:", "p", "", "P:Aa", "q:Aa", "p;Aa", "p:1a", "p:A_", "p:A ", " p:Aa", "p:aBcDeFgHiJkLm", "p:Aa\r", "p:A\u{e9}",
+        "p:Aa\t", "\tp:Aa", "p:Aa\t\tt:Bb", "p:Aa\tt:Aa", "p:Aa\tp:Aa", "p:Aa t:Bb", "p:p:", "p:A\0",
+    ];
+    for heading in bad {
+        reads(format!("{heading}\n1\n").as_bytes(), 3);
+    }
+}
+
+#[test]
+fn at_most_six_columns_of_one_kind() {
+    let line = |plots: usize, treatments: usize| {
+        let plots = (0..plots).map(|c| format!("p:Pp{c}"));
+        let all: Vec<String> = plots.chain((0..treatments).map(|c| format!("t:Tt{c}"))).collect();
+        format!("{}\n{}\n", all.join("\t"), vec!["1"; all.len()].join("\t"))
+    };
+    reads(line(6, 6).as_bytes(), 0);
+    reads(line(6, 0).as_bytes(), 0);
+    reads(line(7, 0).as_bytes(), 3);
+    reads(line(0, 7).as_bytes(), 3);
+    reads(line(7, 5).as_bytes(), 3);
+    reads(line(7, 6).as_bytes(), 3);
+    reads(line(40, 40).as_bytes(), 3);
+}
+
+#[test]
+fn every_line_is_ended() {
+    reads(b"p:Aa", 3);
+    reads(b"p:Aa\n1", 4);
+    reads(b"p:Aa\n1\n2", 4);
+    reads((plot_lines(240) + "1").as_bytes(), 4);
+    reads(b"\n", 3);
+    reads(b"\np:Aa\n1\n", 3);
+    reads(b"p:Aa\n\n", 4);
+    reads(b"p:Aa\n1\n\n", 4);
+    reads(b"p:Aa\n\n1\n", 4);
+    reads(b"p:Aa\r\n1\n", 3);
+    reads(b"p:Aa\n1\r\n", 4);
+}
+
+#[test]
+fn levels_are_1_to_65535_without_leading_zeros() {
+    for good in ["1", "9", "10", "65535", "59999", "60000"] {
+        reads(format!("p:Aa\n{good}\n").as_bytes(), 0);
+    }
+    let bad = [
+        "0", "00", "01", "65536", "65540", "70000", "99999", "100000", "131073", "4294967297", "18446744073709551617", "+1", "-1",
+        " 1", "1 ", "1.0", "1e1", "x", "1\t", "\t1", "1\t1", "\u{663}", "1\0", ":", "/",
+    ];
+    for level in bad {
+        reads(format!("p:Aa\n{level}\n").as_bytes(), 4);
+    }
+    reads(format!("p:Aa\n{}\n", "1".repeat(32_000)).as_bytes(), 4);
+    reads(format!("p:Aa\n{}1\n", "0".repeat(32_000)).as_bytes(), 4);
+    reads(b"p:Aa\tt:Bb\n1\n", 4);
+    reads(b"p:Aa\tt:Bb\n1 1\n", 4);
+    reads(b"p:Aa\tt:Bb\n1\t1\t1\n", 4);
+    reads(b"p:Aa\tt:Bb\n1\t\n", 4);
+}
+
+#[test]
+fn one_to_240_plot_lines_after_every_line_was_judged() {
+    reads(b"p:Aa\n", 5);
+    reads(plot_lines(1).as_bytes(), 0);
+    reads(plot_lines(240).as_bytes(), 0);
+    reads(plot_lines(241).as_bytes(), 5);
+    reads((plot_lines(240) + "0\n").as_bytes(), 4);
+    reads((plot_lines(300) + "x\n").as_bytes(), 4);
+    reads((plot_lines(300) + "1").as_bytes(), 4);
+}
+
+#[test]
+fn text_of_1_to_32768_bytes() {
+    reads(b"", 2);
+    let text = "p:Aaa\n".to_string() + &"1\n".repeat(16_381);
+    assert_eq!(text.len(), TEXT);
+    reads(text.as_bytes(), 5);
+    reads(text.replacen("Aaa", "Aaaa", 1).as_bytes(), 2);
+    reads(&vec![0; TEXT + 1], 2);
+    reads(&vec![0; TEXT], 3);
+    reads(&vec![10; 40_000], 2);
+}
+
+#[test]
+fn the_program_prints_one_line_for_a_refused_sheet() {
+    let cases: [(&[u8], &str); 5] = [
+        (b"", "refused 2 - -"),
+        (&[b'p'; TEXT + 1], "refused 2 - -"),
+        (b"p:Hut", "refused 3 - -"),
+        (b"p:Hut\n0\n", "refused 4 - -"),
+        (b"p:Hut\n", "refused 5 - -"),
+    ];
+    for entries in &BOTH {
+        for (text, expected) in cases {
+            assert_eq!(output(entries, text), lines(&[expected]), "{}", entries.title);
+        }
+    }
+}
+
+#[test]
+fn naming_asks_2_3_6_7_15_in_that_order() {
+    let family = family_buffer(&[vec![1, 1], vec![1, 2]]);
+    let unordered = family_buffer(&[vec![1, 2], vec![1, 1]]);
+    let (full, missing) = (level_table(&[vec![1, 2]], &[vec![1, 1]]), level_table(&[vec![1, 0]], &[vec![1, 1]]));
+    for entries in &BOTH {
+        let mut name = pattern(NAME);
+        let mut asked = |text: &[u8], levels: &[u16], family: &[u8], size, place| {
+            (entries.name)(text, levels, family, 2, size, 0, place, &mut name)
+        };
+        assert_eq!(asked(b"", &[], &[], 0, 0), (2, [0]));
+        assert_eq!(asked(&[b'p'; TEXT + 1], &[], &[], 0, 0), (2, [0]));
+        assert_eq!(asked(b"p:Hut", &[], &[], 0, 0), (3, [0]));
+        assert_eq!(asked(b"p:Hut\nrubbish", &[], &[], 0, 0), (6, [0]));
+        assert_eq!(asked(b"p:Hut\nrubbish", &missing, &unordered, 2, 3), (6, [0]));
+        assert_eq!(asked(b"p:Hut\nrubbish", &missing, &unordered, 2, 2), (7, [0]));
+        assert_eq!(asked(b"p:Hut\nrubbish", &full, &unordered, 2, 2), (15, [0]));
+        assert_eq!(asked(b"p:Hut\nrubbish", &full, &family, 2, 2), (0, [1]));
+        assert_eq!(name[0], b'E');
+        let mut short = pattern(NAME - 1);
+        assert_eq!((entries.name)(b"p:Hut\n", &full, &family, 2, 2, 0, 2, &mut short), (6, [0]));
+        assert_eq!(short, pattern(NAME - 1));
+        let treatment = (entries.name)(b"p:Hut\n", &missing, &family, 2, 2, 9, 1, &mut name);
+        assert_eq!((treatment, name[0]), ((0, [1]), b'U'));
+    }
+}
+
+#[test]
+fn an_infimum_lists_all_its_finest_coarser_columns() {
+    let columns = [vec![1, 1, 2, 2, 1, 1, 2, 2], vec![1, 2, 1, 2, 1, 2, 1, 2], vec![1, 2, 2, 1, 1, 2, 2, 1]];
+    let member = vec![1, 2, 3, 4, 1, 2, 3, 4];
+    for entries in &BOTH {
+        let mut name = pattern(NAME);
+        let levels = level_table(&columns, &[]);
+        let family = family_buffer(&[member.clone()]);
+        let (number, [length]) = (entries.name)(b"p:Aa\tt:Dd\tp:Bb\tp:Cc\n", &levels, &family, 8, 1, 0, 1, &mut name);
+        assert_eq!((number, &name[..length as usize]), (0, &b"I(Aa,Bb,Cc)"[..]), "{}", entries.title);
+        let twice = level_table(&[columns[0].clone(), columns[1].clone(), columns[0].clone(), vec![5; 8]], &[]);
+        let (number, [length]) =
+            (entries.name)(b"p:Aa\tp:Bb\tp:Cc\tp:Dd\n", &twice, &family, 8, 1, 0, 1, &mut name);
+        assert_eq!((number, &name[..length as usize]), (0, &b"I(Aa,Bb)"[..]), "{}", entries.title);
+        let (number, [length]) = (entries.name)(b"p:Aa\n", &levels, &family, 8, 1, 0, 1, &mut name);
+        assert_eq!((number, &name[..length as usize]), (0, &b"#1"[..]), "{}", entries.title);
+    }
+}
+
+#[test]
+fn the_longest_name_fits() {
+    // Six two-level columns on 64 plots doubled: their infimum has 64 classes of two plots.
+    let names: Vec<String> = (0..6).map(|c| format!("t:Abcdefghijk{c}")).collect();
+    let columns: Vec<Vec<u16>> = (0..6).map(|c| (0..128).map(|u: usize| (u >> c & 1) as u16 + 1).collect()).collect();
+    let member: Vec<u8> = (0..128).map(|u| (u % 64 + 1) as u8).collect();
+    for entries in &BOTH {
+        let mut name = pattern(NAME);
+        let text = names.join("\t") + "\n";
+        let levels = level_table(&[], &columns);
+        let family = family_buffer(&[member.clone()]);
+        let answer = (entries.name)(text.as_bytes(), &levels, &family, 128, 1, 1, 1, &mut name);
+        assert_eq!(answer, (0, [80]), "{}", entries.title);
+        assert_eq!(name[80..], pattern(NAME)[80..]);
+    }
+}
