@@ -1,5 +1,6 @@
 -- Laws of the sheet's definitions.
 -- Assumes nothing.
+use Rattle.rules.specs.Sample.{sampleSheet}
 use mathlib.Core.Path.{_≡_, refl, sym, ap, ap₂, _∙_}
 use mathlib.Core.Logic.{_⊎_, inl, inr, ⊎-elim}
 use mathlib.Core.Bool.{Bool, true, false, not, _&&_, _||_, true≢false}
@@ -705,16 +706,14 @@ decimal-level n h k =
     let v = decimal-back n in
     level-is (decimalOf n) (digits-first (suc n) n [] (omega arith) h) (digits-all (suc n) n [] refl) (omega arith) (omega arith)
 
--- ---- the sample sheet: p:Hut, t:Gain; 1 1; 1 2; 2 1; 2 2
+-- ---- the sampleSheet sheet
 
-unfoldable pub sample : List ℕ
-sample =
-    112 ∷ 58 ∷ 72 ∷ 117 ∷ 116 ∷ 9 ∷ 116 ∷ 58 ∷ 71 ∷ 97 ∷ 105 ∷ 110 ∷ 10 ∷ 49 ∷ 9 ∷ 49 ∷ 10 ∷ 49 ∷ 9 ∷ 50 ∷ 10 ∷ 50 ∷ 9 ∷ 49 ∷ 10 ∷ 50 ∷ 9 ∷ 50 ∷ 10 ∷ []
-
-pub sample-read : reading sample (replicate 2880 0) ≡ read 4 1 1
-unfolding sample reading readingFrom3 question3 question4 question5 counts isHeader header laterLines has upTo past fields widen lines extend all isColumn isName countKind isKind namesDiffer newName sameBytes isPlotLine isRow isLevel noLeadingZero decimalFrom
+-- its counts
+pub sample-read : reading sampleSheet (replicate 2880 0) ≡ read 4 1 1
+unfolding reading readingFrom3 question3 question4 question5 counts isHeader header laterLines has upTo past fields widen lines extend all isColumn isName countKind isKind namesDiffer newName sameBytes isPlotLine isRow isLevel noLeadingZero decimalFrom
 sample-read = refl
 
-pub sample-table : levelsAfter (read 4 1 1) sample (replicate 2880 0) ≡ 1 ∷ 1 ∷ 2 ∷ 2 ∷ replicate 1436 0 ++ 1 ∷ 2 ∷ 1 ∷ 2 ∷ replicate 1436 0
-unfolding sample levelsAfter header laterLines upTo past fields widen lines extend columnsAfter isKind withPlots withPlot decimalFrom
-sample-table = refl
+-- its level table
+pub sample-levels : levelsAfter (read 4 1 1) sampleSheet (replicate 2880 0) ≡ 1 ∷ 1 ∷ 2 ∷ 2 ∷ replicate 1436 0 ++ 1 ∷ 2 ∷ 1 ∷ 2 ∷ replicate 1436 0
+unfolding levelsAfter header laterLines upTo past fields widen lines extend columnsAfter isKind withPlots withPlot decimalFrom
+sample-levels = refl

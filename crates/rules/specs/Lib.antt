@@ -11,3 +11,6 @@ pub mod Degrees
 pub mod Strata
 pub mod Names
 pub mod Trials
+pub mod Naming
+pub mod Table
+pub mod Sample
