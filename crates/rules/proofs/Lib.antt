@@ -30,3 +30,4 @@ pub mod Places
 pub mod Bits
 pub mod Signed
 pub mod DegreesLaws
+pub mod Treatments
