@@ -31,3 +31,5 @@ pub mod Bits
 pub mod Signed
 pub mod DegreesLaws
 pub mod Treatments
+pub mod Made
+pub mod ReadSheets
