@@ -33,3 +33,4 @@ pub mod DegreesLaws
 pub mod Treatments
 pub mod Made
 pub mod ReadSheets
+pub mod Printing
