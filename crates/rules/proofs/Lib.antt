@@ -34,3 +34,5 @@ pub mod Treatments
 pub mod Made
 pub mod ReadSheets
 pub mod Printing
+pub mod NameSize
+pub mod TableSize
