@@ -36,3 +36,4 @@ pub mod ReadSheets
 pub mod Printing
 pub mod NameSize
 pub mod TableSize
+pub mod Totals

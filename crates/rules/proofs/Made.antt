@@ -23,18 +23,13 @@ use Rattle.rules.proofs.Extremes.{length-universal, number-universal}
 use Rattle.rules.proofs.Families.{Lists, plot-family-lists, first-family-lists, final-ascending, final-only, final-all, InFinalTreatmentFamily}
 use Rattle.rules.proofs.Demand3.{member-length, member-numbered, column-length}
 use Rattle.rules.proofs.Treatments.{final-length, plot-family-strata}
+use Rattle.rules.proofs.DegreesLaws.{numbered-all}
 use Rattle.rules.proofs.First.{failing-first, FirstPlace, pair-first, FirstPlaces, cross-first, FirstCross}
 use Rattle.rules.proofs.WellFormed.{Accepted, accepted}
 use Rattle.rules.proofs.Buffer.{written-members, length-written}
 use Rattle.rules.proofs.Sheet.{and-left, and-right}
 
 -- ---- question 15
-
-numbered-all : (S : Family) → ((F : Column) → F ∈ S → number F ≡ F) → allNumbered S ≡ true
-unfolding allNumbered
-numbered-all [] h = refl
-numbered-all (F ∷ S) h =
-    rw (ap (λ (G : Column). alike G F) (h F (List·Memᴰ·head refl)) ∙ alike-self F, allNumbered) (numbered-all S (λ G m. h G (List·Memᴰ·tail m)))
 
 -- 1 to 32 members, numbered and ascending: question 15 accepts them
 pub well-formed : (S : Family) → 0 < length S → length S ≤ 32 → Ascending S → ((F : Column) → F ∈ S → number F ≡ F) → wellFormed S ≡ true

@@ -5,12 +5,12 @@ use mathlib.Core.Logic.{_⊎_, inl, inr}
 use mathlib.Core.Bool.{Bool, true, false, not, _&&_}
 use mathlib.Core.List.{List, [], _∷_, _++_, map}
 use Prim.Native.Nat.{ℕ, zero, suc, _+_, _*_, _-_, _^_, _≤_, _<_}
-use native.Mathlib.Nat.{not-suc-le-zero, zero-add, pow-le-pow-right, suc-ne-zero}
+use native.Mathlib.Nat.{zero-add, pow-le-pow-right, suc-ne-zero}
 use native.Mathlib.Omega.{arith}
 use lib.Arith.{lt-of-le-ne}
 use lib.Dec.{eqb, leb, ltb}
 use lib.IntN.{ℤ, pos, negsuc, natAbs, _+ℤ_, _-ℤ_}
-use lib.ListN.{length, getD, length-append}
+use lib.ListN.{length, getD, length-append, List·getD-eq-default}
 use borrow.Author.Tests.{eqb-true, eqb-false, ltb-true, ltb-false, le-leb, lt-leb}
 use Rattle.rules.specs.Factor.{Column}
 use Rattle.rules.specs.Family.{Family, _∈_}
@@ -166,22 +166,15 @@ bound = 515396075520
 
 module _ (n : ℕ) (S : Family) (small : n ≤ 240) (made : WellMade n S) where
   degrees-at : (k : ℕ) → natAbs (getD (degrees n S) k (pos 0)) ≤ bound
-  degrees-at k = within (degrees n S) k (length-degrees n S)
-    where
-      far : (ds : List ℤ) (j : ℕ) → length ds ≤ j → natAbs (getD ds j (pos 0)) ≤ bound
-      far [] j h = omega arith
-      far (d ∷ ds) zero h = absurd (not-suc-le-zero h)
-      far (d ∷ ds) (suc j) h = far ds j (omega arith)
-
-      within : (ds : List ℤ) (j : ℕ) → length (degrees n S) ≡ length S → natAbs (getD (degrees n S) k (pos 0)) ≤ bound
-      within ds j q =
-          by-cases (ltb k (length S))
-          (λ e. let l = ltb-true k (length S) e in
-          let m : k ≤ 31 = omega (arith, made .few) in
-          let two : 0 < 2 = omega arith in
-          let p : 2 ^ k ≤ 2 ^ 31 = pow-le-pow-right two m in
-          omega (arith, degrees-bound n S small (made .on) k l))
-          (λ e. far (degrees n S) k (rw q (ltb-false k (length S) e)))
+  degrees-at k =
+      by-cases (ltb k (length S))
+      (λ e. let l = ltb-true k (length S) e in
+      let m : k ≤ 31 = omega (arith, made .few) in
+      let two : 0 < 2 = omega arith in
+      let p : 2 ^ k ≤ 2 ^ 31 = pow-le-pow-right two m in
+      omega (arith, degrees-bound n S small (made .on) k l))
+      (λ e. let l : length (degrees n S) ≤ k = omega (arith, length-degrees n S, ltb-false k (length S) e) in
+      rw (List·getD-eq-default (degrees n S) (pos 0) {n = k} l) (omega arith))
 
   degrees-small : AllSmall (degrees n S)
   degrees-small k = omega (arith, degrees-at k)
