@@ -37,3 +37,4 @@ pub mod Printing
 pub mod NameSize
 pub mod TableSize
 pub mod Totals
+pub mod NameBytes
