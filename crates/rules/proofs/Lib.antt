@@ -38,3 +38,4 @@ pub mod NameSize
 pub mod TableSize
 pub mod Totals
 pub mod NameBytes
+pub mod NameLaws
