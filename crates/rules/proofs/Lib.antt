@@ -39,3 +39,4 @@ pub mod TableSize
 pub mod Totals
 pub mod NameBytes
 pub mod NameLaws
+pub mod NamesAnswered

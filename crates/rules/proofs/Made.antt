@@ -1,31 +1,30 @@
 -- Laws of the families that a full design makes: question 15 never refuses them, and the places of a refusal are places in them.
 -- Assumes nothing.
-use mathlib.Core.Path.{_≡_, refl, sym, ap, ap₂, _∙_, subst}
+use mathlib.Core.Path.{_≡_, refl, sym, ap, _∙_, subst}
 use mathlib.Core.Logic.{_⊎_, inl, inr}
-use mathlib.Core.Bool.{Bool, true, false, _&&_}
+use mathlib.Core.Bool.{Bool, true, _&&_}
 use mathlib.Core.List.{List, [], _∷_, _++_, List·Memᴰ·head, List·Memᴰ·tail, List·Memᴰ·not-nil}
-use Prim.Native.Nat.{ℕ, zero, suc, _+_, _*_, _≤_, _<_, zero-le, suc-le-suc}
-use native.Mathlib.Nat.{suc-ne-zero, not-suc-le-zero}
+use Prim.Native.Nat.{ℕ, zero, suc, _≤_, _<_, zero-le, suc-le-suc}
+use native.Mathlib.Nat.{not-suc-le-zero}
 use native.Mathlib.Omega.{arith}
-use lib.Dec.{eqb, ltb, leb, lit≤}
-use lib.ListN.{length, getD}
+use lib.Dec.{ltb, leb, lit≤}
+use lib.ListN.{length}
 use borrow.Author.Tests.{ltb-true, leb-true, lt-ltb, le-leb}
-use Rattle.rules.specs.Factor.{Column, number, supremum, infimum, universal, equality, uniform, orthogonal}
-use Rattle.rules.specs.Family.{Family, _∈_, Ascending, alike, ordered, allNumbered, wellFormed, columnsFrom, membersOf, written}
-use Rattle.rules.specs.Closing.{Closing, tooMany, family, plotFamily, firstTreatmentFamily, finalTreatmentFamily, InFirstTreatmentFamily, of-universal, of-infimum, of-supremum, Chosen, none-of, skipping, taking, infimumAll, InPlotFamily, by-universal, by-equality}
+use Rattle.rules.specs.Factor.{Column, number, supremum, universal, equality, uniform, orthogonal}
+use Rattle.rules.specs.Family.{Family, _∈_, Ascending, wellFormed, columnsFrom, membersOf}
+use Rattle.rules.specs.Closing.{Closing, tooMany, family, plotFamily, firstTreatmentFamily, finalTreatmentFamily, InFirstTreatmentFamily, of-universal, of-infimum, of-supremum, Chosen, none-of, skipping, taking, infimumAll, by-universal, by-equality}
 use Rattle.rules.specs.Design.{Answer, Places, none, refused, firstFailing, firstPair, firstCross, question8, question9, question10, question11, question12, question13, question14, withTreatments, fullQuestion7, allNonzero, plotsWithin, withinLimits, fullWithinLimits, fullDesign, plotBuffer, treatmentBuffer}
 use Rattle.rules.specs.Strata.{allHaveStratum}
 use Rattle.rules.specs.Table.{firstKind, secondKind, familyOf}
 use Rattle.rules.proofs.Numbering.{by-cases, length-infimum, number-infimum}
 use Rattle.rules.proofs.Supremum.{length-supremum, number-supremum}
-use Rattle.rules.proofs.Members.{clash, alike-self, ascending-ordered}
+use Rattle.rules.proofs.Members.{ascending-ordered}
 use Rattle.rules.proofs.Extremes.{length-universal, number-universal}
-use Rattle.rules.proofs.Families.{Lists, plot-family-lists, first-family-lists, final-ascending, final-only, final-all, InFinalTreatmentFamily}
+use Rattle.rules.proofs.Families.{plot-family-lists, first-family-lists, final-ascending, final-only, final-all}
 use Rattle.rules.proofs.Demand3.{member-length, member-numbered, column-length}
 use Rattle.rules.proofs.Treatments.{final-length, plot-family-strata}
 use Rattle.rules.proofs.DegreesLaws.{numbered-all}
-use Rattle.rules.proofs.First.{failing-first, FirstPlace, pair-first, FirstPlaces, cross-first, FirstCross}
-use Rattle.rules.proofs.WellFormed.{Accepted, accepted}
+use Rattle.rules.proofs.First.{failing-first, pair-first, FirstPlaces, cross-first, FirstCross}
 use Rattle.rules.proofs.Buffer.{written-members, length-written}
 use Rattle.rules.proofs.Sheet.{and-left, and-right}
 

@@ -1,15 +1,14 @@
 -- Laws of the bytes of names: what kind of name they are and what they name can be read off them.
 -- Assumes nothing.
 use mathlib.Core.Path.{_≡_, refl, sym, ap, ap₂, _∙_, subst}
-use mathlib.Core.Logic.{_⊎_, inl, inr}
 use mathlib.Core.Bool.{Bool, true, false, not, _&&_, _||_}
 use mathlib.Core.List.{List, [], _∷_, _++_, append-assoc, List·Memᴰ·head, List·Memᴰ·tail}
-use Prim.Native.Nat.{ℕ, zero, suc, _+_, _≤_, _<_}
+use Prim.Native.Nat.{ℕ, zero, suc, _≤_, _<_}
 use native.Mathlib.Nat.{not-suc-le-zero, le-of-suc-le-suc}
 use native.Mathlib.Omega.{arith}
 use lib.Dec.{eqb, leb}
 use lib.ListN.{length, getD, drop}
-use borrow.Author.Tests.{eqb-true, eqb-false, ne-eqb, leb-true, le-leb}
+use borrow.Author.Tests.{ne-eqb, leb-true, le-leb}
 use Rattle.rules.specs.Family.{_∈_}
 use Rattle.rules.specs.Lists.{decimalOf}
 use Rattle.rules.specs.Sheet.{Field, all, within, letter, digit, letterOrDigit, isName, isColumn, isKind, countKind, sameBytes, newName, namesDiffer, plotMark, treatmentMark, decimal}

@@ -1,22 +1,22 @@
 -- Two different members of a family never have the same name.
 -- Assumes nothing.
-use mathlib.Core.Path.{_≡_, refl, sym, ap, ap₂, _∙_, subst}
-use mathlib.Core.Logic.{_↔_, _⊎_, inl, inr}
-use mathlib.Core.Bool.{Bool, true, false, not, _&&_, _||_}
+use mathlib.Core.Path.{_≡_, refl, sym, ap, _∙_, subst}
+use mathlib.Core.Logic.{_⊎_, inl, inr}
+use mathlib.Core.Bool.{Bool, true, false, not, _&&_}
 use mathlib.Core.List.{List, [], _∷_, _++_, List·Memᴰ·head, List·Memᴰ·tail, List·Memᴰ·cases-cons, List·Memᴰ·not-nil}
 use Prim.Native.Nat.{ℕ, zero, suc, _+_, _-_, _≤_, _<_}
-use native.Mathlib.Nat.{not-suc-le-zero, le-of-suc-le-suc, suc-inj, suc-ne-zero, zero-add, add-zero}
+use native.Mathlib.Nat.{not-suc-le-zero, suc-inj, suc-ne-zero, add-zero}
 use native.Mathlib.Omega.{arith}
 use lib.Arith.{lt-of-le-ne}
-use lib.Dec.{eqb, ltb, leb}
+use lib.Dec.{eqb, ltb}
 use lib.ListN.{length, getD}
 use borrow.Author.Tests.{eqb-true, eqb-false, ltb-true, ltb-false}
-use Rattle.rules.specs.Factor.{Column, Same, Finer, Equivalent, every, finer, coarser, number, classes, infimum, universal, equality}
-use Rattle.rules.specs.Family.{Family, _∈_, Ascending, alike, before, columnsFrom, wellFormed}
+use Rattle.rules.specs.Factor.{Column, Same, Finer, every, finer, coarser, number, classes, universal, equality}
+use Rattle.rules.specs.Family.{Family, _∈_, alike, before, columnsFrom, wellFormed}
 use Rattle.rules.specs.Relation.{memberAt}
-use Rattle.rules.specs.Lists.{passingFrom, decimalOf}
+use Rattle.rules.specs.Lists.{passingFrom}
 use Rattle.rules.specs.Sheet.{header, countKind, isName, question3}
-use Rattle.rules.specs.Names.{Name, name-U, name-E, name-column, name-infimum, name-place, equivalentColumn, infimumAbove, columnAbove, hides, listed, nameByInfimum, nameByColumn, nameOf, withCommas, bytesOf}
+use Rattle.rules.specs.Names.{equivalentColumn, infimumAbove, columnAbove, hides, listed, nameByInfimum, nameByColumn, nameOf, withCommas, bytesOf}
 use Rattle.rules.specs.Naming.{Kind, plot, treatment, markOf, firstColumn, kindNames, kindColumns, nameAt}
 use Rattle.rules.proofs.Numbering.{by-cases}
 use Rattle.rules.proofs.Members.{clash, alike-sound, before-self}
@@ -25,11 +25,11 @@ use Rattle.rules.proofs.Extremes.{length-universal}
 use Rattle.rules.proofs.Classes.{finer-test}
 use Rattle.rules.proofs.ClassCount.{classes-equivalent, classes-most, finer-universal, one-class-is, each-class-is}
 use Rattle.rules.proofs.Degrees.{coarser-fewer}
-use Rattle.rules.proofs.Tests.{Fails, every-false}
+use Rattle.rules.proofs.Tests.{every-false}
 use Rattle.rules.proofs.Buffer.{length-columns}
 use Rattle.rules.proofs.Demand3.{column-length}
 use Rattle.rules.proofs.WellFormed.{Accepted, accepted, member-at, numbered-at, ascending-at}
-use Rattle.rules.proofs.Sheet.{and-left, and-right, HeaderForm, header-form}
+use Rattle.rules.proofs.Sheet.{and-left, and-right, header-form}
 use Rattle.rules.proofs.NameBytes.{length-kind-names, kind-names-good, kind-names-differ, Sort, sort-U, sort-E, sort-column, sort-infimum, sort-place, sortOf, sort-of-U, sort-of-E, sort-of-column, sort-of-infimum, sort-of-place, commas-injective}
 
 -- ---- the numbers that pass a test

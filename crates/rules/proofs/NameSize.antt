@@ -1,27 +1,27 @@
 -- Laws of the lengths of decimal numbers and of names: a name has at most 80 bytes.
 -- Assumes nothing.
-use mathlib.Core.Path.{_≡_, refl, sym, ap, _∙_}
-use mathlib.Core.Bool.{Bool, true, false, not, _&&_, _||_}
-use mathlib.Core.List.{List, [], _∷_, _++_}
+use mathlib.Core.Path.{_≡_, refl}
+use mathlib.Core.Bool.{Bool, true, _&&_, _||_}
+use mathlib.Core.List.{List, [], _∷_}
 use Prim.Native.Nat.{ℕ, zero, suc, _+_, _*_, _-_, _/_, _%_, _^_, _≤_, _<_}
 use native.Mathlib.Nat.{not-suc-le-zero, pow-suc}
 use native.Mathlib.Omega.{arith}
 use lib.Dec.{eqb, leb, ltb}
 use lib.IntN.{ℤ, pos, negsuc, natAbs}
 use lib.ListN.{length, getD, drop, length-append}
-use borrow.Author.Tests.{leb-true, ltb-true, ltb-false}
+use borrow.Author.Tests.{leb-true, ltb-false}
 use Rattle.rules.specs.Factor.{Column, classes}
-use Rattle.rules.specs.Family.{Family, alike, columnsFrom}
+use Rattle.rules.specs.Family.{Family, alike}
 use Rattle.rules.specs.Relation.{memberAt}
 use Rattle.rules.specs.Lists.{passingFrom, digitsBefore, decimalOf}
 use Rattle.rules.specs.Sheet.{Field, all, within, letter, letterOrDigit, isName, isColumn, isKind, countKind, header, plotMark, treatmentMark, question3}
-use Rattle.rules.specs.Names.{Name, name-U, name-E, name-column, name-infimum, name-place, equivalentColumn, infimumAbove, listed, nameByInfimum, nameByColumn, nameOf, withCommas, bytesOf}
+use Rattle.rules.specs.Names.{name-column, name-infimum, name-place, equivalentColumn, infimumAbove, listed, nameByInfimum, nameByColumn, nameOf, withCommas, bytesOf}
 use Rattle.rules.specs.Naming.{Kind, plot, treatment, markOf, firstColumn, kindNames, kindColumns, nameAt}
 use Rattle.rules.specs.Table.{signed}
 use Rattle.rules.proofs.Numbering.{by-cases}
 use Rattle.rules.proofs.Members.{clash}
 use Rattle.rules.proofs.Buffer.{length-columns}
-use Rattle.rules.proofs.Sheet.{and-left, and-right, HeaderForm, header-form}
+use Rattle.rules.proofs.Sheet.{and-left, and-right, header-form}
 
 -- ---- decimal numbers
 

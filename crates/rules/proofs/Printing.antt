@@ -1,27 +1,27 @@
 -- Laws of an accepted design: its degrees of freedom, strata and residuals are answered, not refused, and are those of the families made.
 -- Assumes nothing.
-use mathlib.Core.Path.{_≡_, refl, sym, ap, ap₂, _∙_, subst}
+use mathlib.Core.Path.{_≡_, refl}
 use mathlib.Core.Logic.{_⊎_, inl, inr}
-use mathlib.Core.Bool.{Bool, true, false, not, _&&_, _||_}
-use mathlib.Core.List.{List, [], _∷_, _++_, map, List·Memᴰ·cases-cons, List·Memᴰ·not-nil}
-use Prim.Native.Nat.{ℕ, zero, suc, _+_, _*_, _≤_, _<_}
+use mathlib.Core.Bool.{Bool, true, not}
+use mathlib.Core.List.{List, [], _∷_, map, List·Memᴰ·cases-cons, List·Memᴰ·not-nil}
+use Prim.Native.Nat.{ℕ, zero, suc, _≤_}
 use native.Mathlib.Omega.{arith}
-use lib.Dec.{eqb, leb, ltb}
-use lib.IntN.{ℤ, pos}
+use lib.Dec.{eqb}
+use lib.IntN.{pos}
 use lib.ListN.{length}
-use borrow.Author.Tests.{le-leb, lt-ltb, eqb-true, eqb-false}
+use borrow.Author.Tests.{le-leb, lt-ltb, eqb-false}
 use Rattle.rules.specs.Factor.{Column}
 use Rattle.rules.specs.Family.{Family, _∈_, wellFormed, membersOf}
 use Rattle.rules.specs.Design.{Answer, plotsWithin, plotBuffer, treatmentBuffer}
 use Rattle.rules.specs.Lists.{forPlaces}
 use Rattle.rules.specs.Relation.{familyWithin}
-use Rattle.rules.specs.Degrees.{degrees, DegreesAnswer, degreesOfFreedom}
-use Rattle.rules.specs.Strata.{all, allHaveStratum, isStratum, stratum, residuals, StrataAnswer, question15, question16, strata}
+use Rattle.rules.specs.Degrees.{degrees, degreesOfFreedom}
+use Rattle.rules.specs.Strata.{all, allHaveStratum, isStratum, stratum, residuals, question15, question16, strata}
 use Rattle.rules.proofs.Numbering.{by-cases}
 use Rattle.rules.proofs.Members.{clash}
 use Rattle.rules.proofs.Sheet.{not-yes}
-use Rattle.rules.proofs.First.{failing-first, FirstPlace}
-use Rattle.rules.proofs.Made.{WellMade, Tells, plot-back, plot-buffer-length, treatment-back, treatment-buffer-length}
+use Rattle.rules.proofs.First.{failing-first}
+use Rattle.rules.proofs.Made.{Tells, plot-back, plot-buffer-length, treatment-back, treatment-buffer-length}
 
 -- question 6 of a family on 1 to 240 plots in a buffer that is long enough
 family-within : (n : ℕ) → 1 ≤ n → n ≤ 240 → (b : List ℕ) → 7680 ≤ length b → familyWithin n b ≡ true

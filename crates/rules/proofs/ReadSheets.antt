@@ -2,21 +2,21 @@
 -- Assumes nothing.
 use mathlib.Core.Path.{_≡_, refl, sym, ap, _∙_, subst}
 use mathlib.Core.Logic.{_⊎_, inl, inr}
-use mathlib.Core.Bool.{Bool, true, false, _&&_}
+use mathlib.Core.Bool.{true}
 use mathlib.Core.List.{List, [], _∷_, _++_}
-use Prim.Native.Nat.{ℕ, zero, suc, _+_, _*_, _≤_, _<_}
+use Prim.Native.Nat.{ℕ, zero, suc, _≤_}
 use native.Mathlib.Omega.{arith}
-use lib.Dec.{leb, ltb, lit≤}
+use lib.Dec.{leb, lit≤}
 use lib.ListN.{length}
-use borrow.Author.Tests.{le-leb, lt-ltb}
+use borrow.Author.Tests.{le-leb}
 use Rattle.rules.specs.Factor.{Column, uniform, orthogonal}
 use Rattle.rules.specs.Family.{Family, columnsFrom}
 use Rattle.rules.specs.Closing.{plotFamily, firstTreatmentFamily, finalTreatmentFamily, Closing, tooMany, family}
-use Rattle.rules.specs.Design.{Answer, nonzero, allNonzero, plotsWithin, withinLimits, fullWithinLimits, fullQuestion7, fullDesign, Places, firstFailing, firstPair, firstCross, question8, question9, question10, question11, question12, question13, question14, withTreatments}
-use Rattle.rules.specs.Sheet.{Outcome, read, refused, question1, question2, question3, question4, question5, counts, readingFrom3, reading, levelsAfter, header, countKind, plotMark, treatmentMark}
+use Rattle.rules.specs.Design.{Answer, nonzero, allNonzero, withinLimits, fullWithinLimits, fullQuestion7, fullDesign, Places, firstFailing, firstPair, firstCross, question8, question9, question10, question11, question12, question13, question14, withTreatments}
+use Rattle.rules.specs.Sheet.{Outcome, read, refused, question1, question2, question3, readingFrom3, reading, levelsAfter}
 use Rattle.rules.proofs.Numbering.{by-cases}
 use Rattle.rules.proofs.Members.{clash}
-use Rattle.rules.proofs.Sheet.{Accepts, read-accepts, length-after, read-limits, plot-levels-nonzero, treatment-levels-nonzero}
+use Rattle.rules.proofs.Sheet.{read-accepts, length-after, read-limits, plot-levels-nonzero, treatment-levels-nonzero}
 
 not-read : {A : Type 0} (q n p t : ℕ) → refused q ≡ read n p t → A
 not-read q n p t e = let z : _≡_ {A = ℕ} 0 1 = cc in absurd (no z)

@@ -1,30 +1,30 @@
 -- Laws of the length of the printed table: it always fits.
 -- Assumes nothing.
-use mathlib.Core.Path.{_≡_, refl, sym, ap, ap₂, _∙_, subst}
-use mathlib.Core.Logic.{_⊎_, inl, inr}
-use mathlib.Core.Bool.{Bool, true, false, not, _&&_}
+use mathlib.Core.Path.{_≡_, refl, sym, ap, _∙_}
+use mathlib.Core.Logic.{inl}
+use mathlib.Core.Bool.{true, not, _&&_}
 use mathlib.Core.List.{List, [], _∷_, _++_, map}
-use Prim.Native.Nat.{ℕ, zero, suc, _+_, _*_, _-_, _^_, _≤_, _<_}
+use Prim.Native.Nat.{ℕ, zero, suc, _+_, _*_, _^_, _≤_, _<_}
 use native.Mathlib.Nat.{zero-add, pow-le-pow-right, suc-ne-zero}
 use native.Mathlib.Omega.{arith}
 use lib.Arith.{lt-of-le-ne}
 use lib.Dec.{eqb, leb, ltb}
-use lib.IntN.{ℤ, pos, negsuc, natAbs, _+ℤ_, _-ℤ_}
+use lib.IntN.{ℤ, pos, natAbs}
 use lib.ListN.{length, getD, length-append, List·getD-eq-default}
 use borrow.Author.Tests.{eqb-true, eqb-false, ltb-true, ltb-false, le-leb, lt-leb}
 use Rattle.rules.specs.Factor.{Column}
-use Rattle.rules.specs.Family.{Family, _∈_}
-use Rattle.rules.specs.Design.{Answer, Places, fullDesign}
+use Rattle.rules.specs.Family.{Family}
+use Rattle.rules.specs.Design.{Answer, fullDesign}
 use Rattle.rules.specs.Lists.{bit, decimalOf}
 use Rattle.rules.specs.Degrees.{degrees}
 use Rattle.rules.specs.Strata.{stratum, sumAt, residualsFrom, residuals}
-use Rattle.rules.specs.Sheet.{Outcome, read, refused, header, laterLines, countKind, plotMark, treatmentMark, newline, tab, question1, question2, question3, question4, question5, counts, readingFrom3, reading, levelsAfter}
-use Rattle.rules.specs.Naming.{Kind, plot, treatment, nameAt}
+use Rattle.rules.specs.Sheet.{Outcome, read, refused, header, laterLines, countKind, plotMark, treatmentMark, question1, question2, question3, question4, question5, counts, readingFrom3, reading, levelsAfter}
+use Rattle.rules.specs.Naming.{Kind, plot, treatment}
 use Rattle.rules.specs.Table.{Row, rowBytes, rowsBytes, wordStratum, wordSource, wordDf, wordResidual, wordTotal, wordAll, wordRefused, dash, signed, sourceRows, isZero, residualRows, stratumRows, strataRows, namesFrom, acceptedRows, refusedRow, firstKind, secondKind, familyOf, placeName, designRefusedRow, designRows, emptyTable, outcomeRows, tableRows, tableText}
 use Rattle.rules.proofs.Numbering.{by-cases}
 use Rattle.rules.proofs.Signed.{abs-add, abs-sub}
 use Rattle.rules.proofs.DegreesLaws.{length-degrees, degrees-bound}
-use Rattle.rules.proofs.Sheet.{Accepts, read-accepts}
+use Rattle.rules.proofs.Sheet.{read-accepts}
 use Rattle.rules.proofs.Made.{WellMade, Placed, Tells, full-tells}
 use Rattle.rules.proofs.ReadSheets.{read-questions}
 use Rattle.rules.proofs.NameSize.{decimal-length, signed-length, name-length}

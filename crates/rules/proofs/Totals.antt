@@ -1,6 +1,6 @@
 -- Laws of the numbers of an accepted sheet: the totals of the strata add up to the number of plots, and in each stratum the treatment members and the residual make up the total.
 -- Assumes nothing.
-use mathlib.Core.Path.{_≡_, refl, sym, ap, _∙_}
+use mathlib.Core.Path.{_≡_, sym, ap, _∙_}
 use mathlib.Core.Logic.{inl}
 use mathlib.Core.List.{List, [], _∷_, map}
 use Prim.Native.Nat.{ℕ, zero, suc, _+_, _<_}
@@ -8,14 +8,14 @@ use native.Mathlib.Nat.{not-suc-le-zero, le-of-suc-le-suc, add-zero}
 use native.Mathlib.Omega.{arith}
 use lib.IntN.{ℤ, pos, _+ℤ_, _-ℤ_, -ℤ-+ℤ-cancel}
 use lib.ListN.{length, getD}
-use Rattle.rules.specs.Factor.{Column, equality}
+use Rattle.rules.specs.Factor.{equality}
 use Rattle.rules.specs.Family.{Family, _∈_}
-use Rattle.rules.specs.Design.{Answer, fullDesign}
+use Rattle.rules.specs.Design.{fullDesign}
 use Rattle.rules.specs.Degrees.{degrees}
 use Rattle.rules.specs.Strata.{stratum, sumAt, residualsFrom, residuals}
 use Rattle.rules.proofs.WellFormed.{accepted}
-use Rattle.rules.proofs.DegreesLaws.{length-degrees, addUp, degrees-total, Place, place-of}
-use Rattle.rules.proofs.Made.{WellMade, Tells, full-tells}
+use Rattle.rules.proofs.DegreesLaws.{length-degrees, addUp, degrees-total, place-of}
+use Rattle.rules.proofs.Made.{WellMade, full-tells}
 
 -- the degrees of freedom of a family that has E add up to the number of plots
 pub made-total : (n : ℕ) (P : Family) → WellMade n P → equality n ∈ P → addUp (degrees n P) ≡ pos n
