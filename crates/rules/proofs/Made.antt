@@ -21,7 +21,7 @@ use Rattle.rules.proofs.Supremum.{length-supremum, number-supremum}
 use Rattle.rules.proofs.Members.{ascending-ordered}
 use Rattle.rules.proofs.Extremes.{length-universal, number-universal}
 use Rattle.rules.proofs.Families.{plot-family-lists, first-family-lists, final-ascending, final-only, final-all}
-use Rattle.rules.proofs.Demand3.{member-length, member-numbered, column-length}
+use Rattle.rules.proofs.Demand3.{Fits, member-length, member-numbered, column-length}
 use Rattle.rules.proofs.Treatments.{final-length, plot-family-strata}
 use Rattle.rules.proofs.DegreesLaws.{numbered-all}
 use Rattle.rules.proofs.First.{failing-first, pair-first, FirstPlaces, cross-first, FirstCross}
@@ -256,113 +256,57 @@ pub record Tells (n : ℕ) (a : Answer) : Type 0 where
   pub second-place : 1 ≤ a .places .second → Placed n (familyOf (secondKind (a .refusal)) a) (a .places .second)
   pub most : a .refusal ≤ 14
 
-neither : {A : Type 0} (q m : ℕ) → 1 ≤ q → q < m → (q ≡ 0) ⊎ (m ≤ q) → A
-neither q m h l (inl e) = let z : 1 ≤ 0 = omega arith in absurd (not-suc-le-zero z)
-neither q m h l (inr g) = let z : 1 ≤ 0 = omega arith in absurd (not-suc-le-zero z)
+made-fits : {n : ℕ} {S : Family} → WellMade n S → Fits n S
+made-fits m = record { few = m .few; each = m .on }
 
-positive : {A : Type 0} (q : ℕ) → 1 ≤ q → q ≡ 0 → A
-positive q h e = let z : 1 ≤ 0 = omega arith in absurd (not-suc-le-zero z)
+none-fits : {n : ℕ} → Fits n []
+none-fits = record { few = zero-le; each = λ F k. absurd (List·Memᴰ·not-nil k) }
 
--- a refusal before any family is made
-no-families : (n q : ℕ) → 1 ≤ q → q ≤ 8 → Tells n (refused q)
-no-families n q h l = record {
-  plot-made = λ w. neither q 9 h (suc-le-suc l) w;
-  treatment-made = λ w. neither q 12 h (omega arith) w;
-  has-equality = λ e. positive q h e;
-  strata = λ e. positive q h e;
-  plot-few = zero-le;
-  plot-on = λ F k. absurd (List·Memᴰ·not-nil k);
-  treatment-few = zero-le;
-  treatment-on = λ F k. absurd (List·Memᴰ·not-nil k);
-  first-place = λ w. absurd (not-suc-le-zero w);
-  second-place = λ w. absurd (not-suc-le-zero w);
-  most = omega arith;
+nowhere : {A : Type 0} → 1 ≤ 0 → A
+nowhere h = absurd (not-suc-le-zero h)
+
+below : {A : Type 0} (q m : ℕ) → q < m → m ≤ q → A
+below q m l h = let z : 1 ≤ 0 = omega arith in nowhere z
+
+-- a refusal, by what it carries
+refusal-tells : (n : ℕ) (a : Answer) → 1 ≤ a .refusal → a .refusal ≤ 14 → Fits n (a .plot) → Fits n (a .treatment) → (9 ≤ a .refusal → WellMade n (a .plot)) → (12 ≤ a .refusal → WellMade n (a .treatment))
+    → (1 ≤ a .places .first → Placed n (familyOf (firstKind (a .refusal)) a) (a .places .first)) → (1 ≤ a .places .second → Placed n (familyOf (secondKind (a .refusal)) a) (a .places .second)) → Tells n a
+refusal-tells n a some most p s mp ms f g = record {
+  plot-made = λ w. from 9 w mp;
+  treatment-made = λ w. from 12 w ms;
+  has-equality = λ e. no e;
+  strata = λ e. no e;
+  plot-few = p .few;
+  plot-on = p .each;
+  treatment-few = s .few;
+  treatment-on = s .each;
+  first-place = f;
+  second-place = g;
+  most = most;
 }
+  where
+    no : {A : Type 0} → a .refusal ≡ 0 → A
+    no e = let z : 1 ≤ 0 = omega arith in nowhere z
+
+    from : {A : Type 0} (m : ℕ) → (a .refusal ≡ 0) ⊎ (m ≤ a .refusal) → (m ≤ a .refusal → A) → A
+    from m (inl e) h = no e
+    from m (inr l) h = h l
 
 -- what each way of deciding tells
 pub decided-tells : (n : ℕ) (a : Answer) → Decided n a → Tells n a
 unfolding firstKind secondKind
-decided-tells n a by-6 = no-families n 6 (lit≤ tt) (lit≤ tt)
-decided-tells n a by-7 = no-families n 7 (lit≤ tt) (lit≤ tt)
-decided-tells n a by-8 = no-families n 8 (lit≤ tt) (lit≤ tt)
-decided-tells n a (by-9 m l h) = record {
-  plot-made = λ w. m;
-  treatment-made = λ w. neither 9 12 (lit≤ tt) (lit≤ tt) w;
-  has-equality = λ e. positive 9 (lit≤ tt) e;
-  strata = λ e. positive 9 (lit≤ tt) e;
-  plot-few = m .few;
-  plot-on = m .on;
-  treatment-few = zero-le;
-  treatment-on = λ F k. absurd (List·Memᴰ·not-nil k);
-  first-place = λ w. record { made = m; most = h };
-  second-place = λ w. absurd (not-suc-le-zero w);
-  most = lit≤ tt;
-}
-decided-tells n a (by-10 m f) = record {
-  plot-made = λ w. m;
-  treatment-made = λ w. neither 10 12 (lit≤ tt) (lit≤ tt) w;
-  has-equality = λ e. positive 10 (lit≤ tt) e;
-  strata = λ e. positive 10 (lit≤ tt) e;
-  plot-few = m .few;
-  plot-on = m .on;
-  treatment-few = zero-le;
-  treatment-on = λ F k. absurd (List·Memᴰ·not-nil k);
-  first-place = λ w. record { made = m; most = omega (arith, f .order, f .most) };
-  second-place = λ w. record { made = m; most = f .most };
-  most = lit≤ tt;
-}
-decided-tells n a (by-11 m) = record {
-  plot-made = λ w. m;
-  treatment-made = λ w. neither 11 12 (lit≤ tt) (lit≤ tt) w;
-  has-equality = λ e. positive 11 (lit≤ tt) e;
-  strata = λ e. positive 11 (lit≤ tt) e;
-  plot-few = m .few;
-  plot-on = m .on;
-  treatment-few = zero-le;
-  treatment-on = λ F k. absurd (List·Memᴰ·not-nil k);
-  first-place = λ w. absurd (not-suc-le-zero w);
-  second-place = λ w. absurd (not-suc-le-zero w);
-  most = lit≤ tt;
-}
-decided-tells n a (by-12 m s f) = record {
-  plot-made = λ w. m;
-  treatment-made = λ w. s;
-  has-equality = λ e. positive 12 (lit≤ tt) e;
-  strata = λ e. positive 12 (lit≤ tt) e;
-  plot-few = m .few;
-  plot-on = m .on;
-  treatment-few = s .few;
-  treatment-on = s .on;
-  first-place = λ w. record { made = s; most = omega (arith, f .order, f .most) };
-  second-place = λ w. record { made = s; most = f .most };
-  most = lit≤ tt;
-}
-decided-tells n a (by-13 m s f) = record {
-  plot-made = λ w. m;
-  treatment-made = λ w. s;
-  has-equality = λ e. positive 13 (lit≤ tt) e;
-  strata = λ e. positive 13 (lit≤ tt) e;
-  plot-few = m .few;
-  plot-on = m .on;
-  treatment-few = s .few;
-  treatment-on = s .on;
-  first-place = λ w. record { made = m; most = f .most-first };
-  second-place = λ w. record { made = s; most = f .most-second };
-  most = lit≤ tt;
-}
-decided-tells n a (by-14 m s) = record {
-  plot-made = λ w. m;
-  treatment-made = λ w. s;
-  has-equality = λ e. positive 14 (lit≤ tt) e;
-  strata = λ e. positive 14 (lit≤ tt) e;
-  plot-few = m .few;
-  plot-on = m .on;
-  treatment-few = s .few;
-  treatment-on = s .on;
-  first-place = λ w. absurd (not-suc-le-zero w);
-  second-place = λ w. absurd (not-suc-le-zero w);
-  most = lit≤ tt;
-}
+decided-tells n a by-6 = refusal-tells n (refused 6) (lit≤ tt) (lit≤ tt) none-fits none-fits (below 6 9 (lit≤ tt)) (below 6 12 (lit≤ tt)) nowhere nowhere
+decided-tells n a by-7 = refusal-tells n (refused 7) (lit≤ tt) (lit≤ tt) none-fits none-fits (below 7 9 (lit≤ tt)) (below 7 12 (lit≤ tt)) nowhere nowhere
+decided-tells n a by-8 = refusal-tells n (refused 8) (lit≤ tt) (lit≤ tt) none-fits none-fits (below 8 9 (lit≤ tt)) (below 8 12 (lit≤ tt)) nowhere nowhere
+decided-tells n a (by-9 m l h) = refusal-tells n _ (lit≤ tt) (lit≤ tt) (made-fits m) none-fits (λ w. m) (below 9 12 (lit≤ tt)) (λ w. record { made = m; most = h }) nowhere
+decided-tells n a (by-10 m f) =
+    refusal-tells n _ (lit≤ tt) (lit≤ tt) (made-fits m) none-fits (λ w. m) (below 10 12 (lit≤ tt)) (λ w. record { made = m; most = omega (arith, f .order, f .most) }) (λ w. record { made = m; most = f .most })
+decided-tells n a (by-11 m) = refusal-tells n _ (lit≤ tt) (lit≤ tt) (made-fits m) none-fits (λ w. m) (below 11 12 (lit≤ tt)) nowhere nowhere
+decided-tells n a (by-12 m s f) =
+    refusal-tells n _ (lit≤ tt) (lit≤ tt) (made-fits m) (made-fits s) (λ w. m) (λ w. s) (λ w. record { made = s; most = omega (arith, f .order, f .most) }) (λ w. record { made = s; most = f .most })
+decided-tells n a (by-13 m s f) =
+    refusal-tells n _ (lit≤ tt) (lit≤ tt) (made-fits m) (made-fits s) (λ w. m) (λ w. s) (λ w. record { made = m; most = f .most-first }) (λ w. record { made = s; most = f .most-second })
+decided-tells n a (by-14 m s) = refusal-tells n _ (lit≤ tt) (lit≤ tt) (made-fits m) (made-fits s) (λ w. m) (λ w. s) nowhere nowhere
 decided-tells n a (by-none m s q f) = record {
   plot-made = λ w. m;
   treatment-made = λ w. s;
@@ -372,9 +316,9 @@ decided-tells n a (by-none m s q f) = record {
   plot-on = m .on;
   treatment-few = s .few;
   treatment-on = s .on;
-  first-place = λ w. absurd (not-suc-le-zero w);
-  second-place = λ w. absurd (not-suc-le-zero w);
-  most = lit≤ tt;
+  first-place = nowhere;
+  second-place = nowhere;
+  most = zero-le;
 }
 
 -- the same of every full design
