@@ -144,9 +144,12 @@ sort-of-column [] e = absurd (not-suc-le-zero (name-long [] e))
 sort-of-column (x ∷ []) e = absurd (not-suc-le-zero (le-of-suc-le-suc (name-long (x ∷ []) e)))
 sort-of-column (x ∷ y ∷ ys) e =
     let letters = name-letters (x ∷ y ∷ ys) e in
-    rw (ne-eqb x 35 (λ z. clash (rw z at (and-left (letterOrDigit x) (all letterOrDigit (y ∷ ys)) letters)) refl),
-    ne-eqb y 40 (λ z. clash (rw z at (and-left (letterOrDigit y) (all letterOrDigit ys) (and-right (letterOrDigit x) (all letterOrDigit (y ∷ ys)) letters))) refl),
-    le-leb 2 (suc (suc (length ys))) (omega arith), sortOf)
+    rw (
+      ne-eqb x 35 (λ z. clash (rw z at (and-left (letterOrDigit x) (all letterOrDigit (y ∷ ys)) letters)) refl),
+      ne-eqb y 40 (λ z. clash (rw z at (and-left (letterOrDigit y) (all letterOrDigit ys) (and-right (letterOrDigit x) (all letterOrDigit (y ∷ ys)) letters))) refl),
+      le-leb 2 (suc (suc (length ys))) (omega arith),
+      sortOf,
+    )
 
 -- ---- names with commas
 

@@ -32,8 +32,16 @@ module _ (text levels : List ℕ) (n p t : ℕ) (e : reading text levels ≡ rea
   name-answered kind b size place nameLength S room long some most is formed =
       let a = read-accepts text levels n p t e in
       let within : namingWithin n size place (length (levelsAfter (read n p t) text levels)) (length b) nameLength ≡ true =
-          rw (lt-ltb 0 n (a .plots-some), le-leb n 240 (a .plots-few), lt-ltb 0 place some, le-leb place size most, length-table text levels n p t e, le-leb 2880 (length levels) (a .table-fits), le-leb 7680 (length b) room,
-          le-leb 96 nameLength long) in
+      rw (
+        lt-ltb 0 n (a .plots-some),
+        le-leb n 240 (a .plots-few),
+        lt-ltb 0 place some,
+        le-leb place size most,
+        length-table text levels n p t e,
+        le-leb 2880 (length levels) (a .table-fits),
+        le-leb 7680 (length b) room,
+        le-leb 96 nameLength long,
+      ) in
       rw (read-questions text levels n p t e .0, read-questions text levels n p t e .1, within, naming, is) (rw (kind-nonzero kind, formed, namingFrom7))
 
   -- the plot member at a place of a design's answer, read from the buffer it was written to

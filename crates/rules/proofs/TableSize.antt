@@ -139,8 +139,16 @@ module _ (name : List ℕ) (short : length name ≤ 80) (i : ℕ) where
       → length (rowsBytes (stratumRows name i ts ss ds total r)) + 178 * countFrom (suc i) ss ≤ 178 * countFrom i ss + 211
   stratum-length ts ss ds total r a b ht hr =
       let last : Row = name ∷ wordTotal ∷ signed total ∷ [] in
-      omega (arith, stratum-is ts ss ds total r, rows-cons last [], rows-none, row-three name wordTotal (signed total), small-signed total ht, residual-length (sourceRows name i ts ss ds) r hr,
-      source-length ts ss ds a b)
+      omega (
+        arith,
+        stratum-is ts ss ds total r,
+        rows-cons last [],
+        rows-none,
+        row-three name wordTotal (signed total),
+        small-signed total ht,
+        residual-length (sourceRows name i ts ss ds) r hr,
+        source-length ts ss ds a b,
+      )
 
 strata-is : (i : ℕ) (p : List ℕ) (ps : List (List ℕ)) (e : ℤ) (es : List ℤ) (r : ℤ) (rs : List ℤ) (ts : List (List ℕ)) (ss : List ℕ) (ds : List ℤ)
     → length (rowsBytes (strataRows i (p ∷ ps) (e ∷ es) (r ∷ rs) ts ss ds)) ≡ length (rowsBytes (stratumRows p i ts ss ds e r)) + length (rowsBytes (strataRows (suc i) ps es rs ts ss ds))
@@ -155,8 +163,12 @@ strata-length i [] es rs ts ss ds hp he hr ht hd = omega (arith, rows-none)
 strata-length i (p ∷ ps) [] rs ts ss ds hp he hr ht hd = omega (arith, rows-none)
 strata-length i (p ∷ ps) (e ∷ es) [] ts ss ds hp he hr ht hd = omega (arith, rows-none)
 strata-length i (p ∷ ps) (e ∷ es) (r ∷ rs) ts ss ds hp he hr ht hd =
-    omega (arith, strata-is i p ps e es r rs ts ss ds, stratum-length p (hp 0) i ts ss ds e r ht hd (he 0) (hr 0),
-    strata-length (suc i) ps es rs ts ss ds (λ k. hp (suc k)) (λ k. he (suc k)) (λ k. hr (suc k)) ht hd)
+    omega (
+      arith,
+      strata-is i p ps e es r rs ts ss ds,
+      stratum-length p (hp 0) i ts ss ds e r ht hd (he 0) (hr 0),
+      strata-length (suc i) ps es rs ts ss ds (λ k. hp (suc k)) (λ k. he (suc k)) (λ k. hr (suc k)) ht hd,
+    )
 
 -- ---- the numbers are small
 
@@ -238,8 +250,21 @@ module _ (text : List ℕ) (n : ℕ) (levels : List ℕ) (P R : Family) where
   pub accepted-length : question3 text ≡ true → n ≤ 240 → WellMade n P → WellMade n R → length (rowsBytes (acceptedRows text n levels P R)) ≤ 12482
   unfolding residuals
   accepted-length q small mP mR =
-      omega (arith, accepted-is, rows-cons lastRow [], rows-none, row-three wordStratum wordSource wordDf, row-three wordAll wordTotal (decimalOf n), decimal-length n 2 (omega arith), whole,
-      count-most 1 places, length-map (stratum n P) R, length-names plot text n levels P 1 (length P), mP .few, mR .few)
+      omega (
+        arith,
+        accepted-is,
+        rows-cons lastRow [],
+        rows-none,
+        row-three wordStratum wordSource wordDf,
+        row-three wordAll wordTotal (decimalOf n),
+        decimal-length n 2 (omega arith),
+        whole,
+        count-most 1 places,
+        length-map (stratum n P) R,
+        length-names plot text n levels P 1 (length P),
+        mP .few,
+        mR .few,
+      )
     where
       whole : length (rowsBytes middle) ≤ 178 * countFrom 1 places + 211 * length plotNames
       whole =
@@ -269,7 +294,7 @@ design-length text n levels a q small t = go (a .refusal) refl
         let k = firstKind (a .refusal) in
         let l = secondKind (a .refusal) in
         let r = refused-length (a .refusal) (placeName k text n levels (familyOf k a) (a .places .first)) (placeName l text n levels (familyOf l a) (a .places .second)) (omega (arith, t .most))
-            (place-length k text n levels (familyOf k a) (a .places .first) q (t .first-place)) (place-length l text n levels (familyOf l a) (a .places .second) q (t .second-place)) in
+        (place-length k text n levels (familyOf k a) (a .places .first) q (t .first-place)) (place-length l text n levels (familyOf l a) (a .places .second) q (t .second-place)) in
         rw (e, designRows) (omega (arith, r))
 
 -- a reading refuses by 1 to 5
