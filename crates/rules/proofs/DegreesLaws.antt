@@ -148,7 +148,7 @@ module _ (n : ℕ) (S : Family) (is : Accepted S) (on : (F : Column) → F ∈ S
 
 -- ---- the plot family
 
-numbered-all : (S : Family) → ((F : Column) → F ∈ S → number F ≡ F) → allNumbered S ≡ true
+pub numbered-all : (S : Family) → ((F : Column) → F ∈ S → number F ≡ F) → allNumbered S ≡ true
 unfolding allNumbered
 numbered-all [] h = refl
 numbered-all (F ∷ S) h = rw (ap (λ (G : Column). alike G F) (h F (List·Memᴰ·head refl)) ∙ alike-self F, allNumbered) (numbered-all S (λ G m. h G (List·Memᴰ·tail m)))

@@ -31,3 +31,12 @@ pub mod Bits
 pub mod Signed
 pub mod DegreesLaws
 pub mod Treatments
+pub mod Made
+pub mod ReadSheets
+pub mod Printing
+pub mod NameSize
+pub mod TableSize
+pub mod Totals
+pub mod NameBytes
+pub mod NameLaws
+pub mod NamesAnswered
