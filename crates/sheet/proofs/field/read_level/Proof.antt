@@ -119,12 +119,12 @@ returns-6 c =
     let s = b .before .before .before .before .before .args in
     let t = now (s .text) in
     let e : fieldOf (drop (b .loop .at) t) ≡ [] =
-        ⊎-elim
-        (λ w. field-none t (b .loop .at) (w .left))
-        (⊎-elim
-        (λ w. field-tab t (b .loop .at) (w .0 .taken) (w .2 .taken))
-        (λ w. field-newline t (b .loop .at) (w .0 .taken) (w .3 .taken)))
-        (c .loop-test .came) in
+    ⊎-elim
+    (λ w. field-none t (b .loop .at) (w .left))
+    (⊎-elim
+    (λ w. field-tab t (b .loop .at) (w .0 .taken) (w .2 .taken))
+    (λ w. field-newline t (b .loop .at) (w .0 .taken) (w .3 .taken)))
+    (c .loop-test .came) in
     digits-end t (s .start) (b .loop .at) (b .loop .v) (b .loop .inv) e
 
 pub read-level-spec : {M : Type 1} → statement M
