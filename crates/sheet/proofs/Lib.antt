@@ -1,5 +1,6 @@
 pub mod Walk
 pub mod Stops
+pub mod LevelLaws
 pub mod RowLaws
 pub mod StoreLaws
 pub mod HeaderLaws

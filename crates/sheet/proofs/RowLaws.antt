@@ -8,16 +8,15 @@ use native.Mathlib.Omega.{arith}
 use native.Mathlib.Nat.{add-zero}
 use lib.Dec.{eqb, ltb}
 use lib.ListN.{length, getD, drop, drop-of-length-le, length-drop}
-use lib.Seq.{slice, drop-cons, drop-drop}
+use lib.Seq.{drop-cons, drop-drop}
 use borrow.Author.Tests.{eq-eqb, ne-eqb, eqb-true, eqb-false, lt-ltb, le-ltb, ltb-true}
 use Rattle.rules.specs.Sheet.{Field, Line, upTo, past, has, fields, lines, all, isLevel, isRow, isPlotLine}
 use Rattle.rules.proofs.Numbering.{by-cases}
 use Rattle.rules.proofs.Members.{clash}
 use Rattle.rules.proofs.Sheet.{and-false, fields-some}
-use Rattle.sheet.specs.Walk.{fieldOf, levelOf, levelThere, levelEnd, rowThere, rowEnd}
+use Rattle.sheet.specs.Walk.{fieldOf, levelThere, levelEnd, rowThere, rowEnd}
 use Rattle.sheet.specs.Answers.{judged}
-use Rattle.sheet.proofs.Stops.{AtTab, AtNewline, Stop, at-tab, at-newline, at-end, stop, field-byte, field-part, past-drop, lines-cons}
-use Rattle.sheet.proofs.Walk.{level-not, level-yes}
+use Rattle.sheet.proofs.Stops.{AtTab, AtNewline, Stop, at-tab, at-newline, at-end, stop, field-byte, past-drop, lines-cons}
 
 eqb-suc : (a b : ℕ) → eqb (suc a) (suc b) ≡ eqb a b
 eqb-suc a b =
@@ -55,6 +54,10 @@ module _ (s at : ℕ) (xs : List ℕ) where
       (λ h. rw (h, ne-eqb (getD xs (length (fieldOf xs)) 0) s (n (ltb-true (length (fieldOf xs)) (length xs) h))))
       (λ h. rw h)
 
+  pub level-bad : isLevel (fieldOf xs) ≡ false → levelThere s xs ≡ false
+  unfolding levelThere
+  level-bad e = rw e (and-false (ltb (length (fieldOf xs)) (length xs) && eqb (getD xs (length (fieldOf xs)) 0) s))
+
 -- by the place e where the field ends
 module _ (text : List ℕ) (start e s : ℕ) (d : e ≡ start + length (fieldOf (drop start text))) where
   pub level-far : length text ≤ e → levelThere s (drop start text) ≡ false
@@ -63,18 +66,11 @@ module _ (text : List ℕ) (start e s : ℕ) (d : e ≡ start + length (fieldOf 
   pub level-other : (getD text e 0 ≡ s → ⊥) → levelThere s (drop start text) ≡ false
   level-other n = not-there s start (drop start text) (λ l b. n (field-byte text start e d ∙ b))
 
-  pub level-bad : levelOf (slice start e text) ≡ 0 → levelThere s (drop start text) ≡ false
+  pub level-good : e < length text → getD text e 0 ≡ s → isLevel (fieldOf (drop start text)) ≡ true → levelThere s (drop start text) ≡ true
   unfolding levelThere
-  level-bad z =
-      rw (level-not (fieldOf (drop start text)) (sym (ap levelOf (field-part text start e d)) ∙ z))
-      (and-false (ltb (length (fieldOf (drop start text))) (length (drop start text)) && eqb (getD (drop start text) (length (fieldOf (drop start text))) 0) s))
-
-  pub level-good : e < length text → getD text e 0 ≡ s → (levelOf (slice start e text) ≡ 0 → ⊥) → levelThere s (drop start text) ≡ true
-  unfolding levelThere
-  level-good h b n =
-      let l : length (fieldOf (drop start text)) < length (drop start text) = omega (arith, length-drop start text) in
-      rw (lt-ltb (length (fieldOf (drop start text))) (length (drop start text)) l, eq-eqb (getD (drop start text) (length (fieldOf (drop start text))) 0) s (sym (field-byte text start e d) ∙ b))
-      (level-yes (fieldOf (drop start text)) (λ z. n (ap levelOf (field-part text start e d) ∙ z)))
+  level-good h b l =
+      let k : length (fieldOf (drop start text)) < length (drop start text) = omega (arith, length-drop start text) in
+      rw (lt-ltb (length (fieldOf (drop start text))) (length (drop start text)) k, eq-eqb (getD (drop start text) (length (fieldOf (drop start text))) 0) s (sym (field-byte text start e d) ∙ b)) l
 
 -- ---- a line
 

@@ -9,15 +9,13 @@ use native.Mathlib.Nat.{not-suc-le-zero, le-of-suc-le-suc}
 use native.Mathlib.Numerals.{add-one}
 use lib.Dec.{eqb, ltb}
 use lib.ListN.{length, getD, drop, set}
-use lib.Seq.{slice}
 use borrow.Author.Tests.{ltb-true, ltb-false}
 use Rattle.rules.specs.Sheet.{Field, Line, upTo, has, fields, lines, all, isLevel, decimal, withPlot, withPlots, isPlotLine}
 use Rattle.rules.proofs.Sheet.{and-left, and-right}
 use Rattle.rules.proofs.Members.{clash}
 use Rattle.rules.proofs.Numbering.{by-cases}
-use Rattle.sheet.specs.Walk.{fieldOf, levelOf, levelThere, rowThere, isPlace}
-use Rattle.sheet.proofs.Stops.{AtTab, AtNewline, Stop, at-tab, at-newline, at-end, stop, field-part, field-next}
-use Rattle.sheet.proofs.Walk.{level-some}
+use Rattle.sheet.specs.Walk.{fieldOf, levelThere, rowThere, isPlace}
+use Rattle.sheet.proofs.Stops.{AtTab, AtNewline, Stop, at-tab, at-newline, at-end, stop, field-next}
 use Rattle.sheet.proofs.RowLaws.{row-turn, row-last, not-there, lines-turn, lines-none}
 
 -- ---- a level that is there
@@ -66,6 +64,11 @@ pub left-inside : (m : ℕ) (xs : List ℕ) → rowThere (suc m) xs ≡ true →
 left-inside zero xs e = there-less 10 xs (sym (row-last xs) ∙ e)
 left-inside (suc m) xs e = there-less 9 xs (and-left (levelThere 9 xs) _ (sym (row-turn m xs) ∙ e))
 
+-- it is a level
+pub left-level : (m : ℕ) (xs : List ℕ) → rowThere (suc m) xs ≡ true → isLevel (fieldOf xs) ≡ true
+left-level zero xs e = there-level 10 xs (sym (row-last xs) ∙ e)
+left-level (suc m) xs e = there-level 9 xs (and-left (levelThere 9 xs) _ (sym (row-turn m xs) ∙ e))
+
 no-fields : (cs : List ℕ) (u : ℕ) (levels : List ℕ) → withPlot cs u [] levels ≡ levels
 unfolding withPlot
 no-fields [] u levels = refl
@@ -76,17 +79,14 @@ unfolding withPlot
 one-field c cs u f fs levels = refl
 
 module _ (c : ℕ) (cs : List ℕ) (u : ℕ) (text : List ℕ) (at e : ℕ) (levels W : List ℕ) (E : ℕ) (d : e ≡ at + length (fieldOf (drop at text))) where
-  stored : (s : ℕ) → levelThere s (drop at text) ≡ true → levelOf (slice at e text) ≡ decimal (fieldOf (drop at text))
-  stored s h = ap levelOf (field-part text at e d) ∙ level-some (fieldOf (drop at text)) (there-level s (drop at text) h)
-
   -- a turn: one field is stored
   pub left-turn : (m : ℕ) → Left (suc m) (c ∷ cs) u (drop at text) at levels W E
-      → Left m cs u (drop (e + 1) text) (e + 1) (set levels (240 * c + u) (levelOf (slice at e text))) W E
+      → Left m cs u (drop (e + 1) text) (e + 1) (set levels (240 * c + u) (decimal (fieldOf (drop at text)))) W E
   left-turn zero l =
       let h : levelThere 10 (drop at text) ≡ true = sym (row-last (drop at text)) ∙ l .0 in
       let r = there-newline (drop at text) h in
       let w = rw (r .parts) at (l .1) in (
-        ap (set levels (240 * c + u)) (stored 10 h) ∙ sym (no-fields cs u (set levels (240 * c + u) (decimal (fieldOf (drop at text)))))
+        sym (no-fields cs u (set levels (240 * c + u) (decimal (fieldOf (drop at text)))))
             ∙ sym (one-field c cs u (fieldOf (drop at text)) [] levels) ∙ w,
         omega (arith, l .2, r .size),
       )
@@ -97,8 +97,7 @@ module _ (c : ℕ) (cs : List ℕ) (u : ℕ) (text : List ℕ) (at e : ℕ) (lev
       let there = and-right (levelThere 9 (drop at text)) (rowThere (suc m) (drop (suc (length (fieldOf (drop at text)))) (drop at text))) both in
       let w = rw (r .parts, field-next text at e d) at (l .1) in (
         rw (field-next text at e d) at there,
-        ap (λ (v : ℕ). withPlot cs u (fields (upTo 10 (drop (e + 1) text))) (set levels (240 * c + u) v)) (stored 9 h)
-            ∙ sym (one-field c cs u (fieldOf (drop at text)) (fields (upTo 10 (drop (e + 1) text))) levels) ∙ w,
+        sym (one-field c cs u (fieldOf (drop at text)) (fields (upTo 10 (drop (e + 1) text))) levels) ∙ w,
         omega (arith, l .2, rw (field-next text at e d) at (r .size)),
       )
 

@@ -1,20 +1,17 @@
 -- Laws of the steps of a walk over a text.
 -- Assumes nothing.
-use mathlib.Core.Path.{_≡_, refl, sym, ap, _∙_}
-use mathlib.Core.Bool.{true, false, _&&_}
+use mathlib.Core.Path.{_≡_, ap}
+use mathlib.Core.Bool.{_&&_}
 use mathlib.Core.List.{List, [], _∷_}
-use Prim.Native.Nat.{ℕ, zero, suc, _+_, _≤_, _<_}
+use Prim.Native.Nat.{ℕ, _+_, _≤_, _<_}
 use native.Mathlib.Omega.{arith}
 use native.Mathlib.Numerals.{add-one}
 use lib.Dec.{eqb}
 use lib.ListN.{length, getD, take, drop, drop-of-length-le, length-take}
 use lib.Seq.{slice, slice-cons, drop-cons}
 use borrow.Author.Tests.{ne-eqb}
-use Rattle.rules.specs.Sheet.{all, digit, decimal, noLeadingZero, isLevel, sameBytes}
-use Rattle.rules.specs.Limits.{mostLevel}
-use Rattle.rules.proofs.Sheet.{level-none, level-is, level-least}
-use Rattle.rules.proofs.Numbering.{by-cases}
-use Rattle.sheet.specs.Walk.{fieldOf, levelOf}
+use Rattle.rules.specs.Sheet.{sameBytes}
+use Rattle.sheet.specs.Walk.{fieldOf}
 
 -- ---- a byte more of a field
 
@@ -56,32 +53,3 @@ module _ (xs : List ℕ) (a a-to b b-to : ℕ) (h : a < a-to) (k : a-to ≤ leng
   pub same-next : sameBytes (slice a a-to xs) (slice b b-to xs) ≡ eqb (getD xs a 0) (getD xs b 0) && sameBytes (slice (a + 1) a-to xs) (slice (b + 1) b-to xs)
   unfolding sameBytes
   same-next = rw (slice-next xs a a-to h k, slice-next xs b b-to l m)
-
--- ---- levels
-
-module _ (f : List ℕ) where
-  pub no-level : isLevel f ≡ false → levelOf f ≡ 0
-  unfolding levelOf
-  no-level e = rw (e, levelOf)
-
-  -- the number that was found in digits without a leading zero is the answer, also where it is 0
-  pub level-found : noLeadingZero f ≡ true → all digit f ≡ true → decimal f ≤ mostLevel → levelOf f ≡ decimal f
-  unfolding levelOf
-  level-found e d k = go (decimal f) refl
-    where
-      go : (v : ℕ) → decimal f ≡ v → levelOf f ≡ decimal f
-      go zero z = no-level (level-none f z) ∙ sym z
-      go (suc v) z = rw (level-is f e d (omega arith) k, levelOf)
-
-  pub level-some : isLevel f ≡ true → levelOf f ≡ decimal f
-  unfolding levelOf
-  level-some e = rw (e, levelOf)
-
-  pub level-not : levelOf f ≡ 0 → isLevel f ≡ false
-  level-not z = by-cases (isLevel f) (λ e. absurd (no (level-least f e) (sym (level-some e) ∙ z))) (λ e. e)
-    where
-      no : 1 ≤ decimal f → decimal f ≡ 0 → ⊥
-      no h e = omega arith
-
-  pub level-yes : (levelOf f ≡ 0 → ⊥) → isLevel f ≡ true
-  level-yes n = by-cases (isLevel f) (λ e. e) (λ e. absurd (n (no-level e)))

@@ -8,16 +8,20 @@ use lib.Dec.{eqb, ltb}
 use lib.ListN.{length, getD, drop}
 use Rattle.rules.specs.Sheet.{Field, tab, newline, all, upTo, has, fields, lines, isLevel, isRow, isPlotLine, decimal, decimalFrom, plotMark, treatmentMark, header, laterLines, question3, question4}
 use Rattle.rules.specs.Limits.{tableCells, mostPlots, mostFields}
+use Rattle.sheet.specs.declared.field.FieldLevel.{FieldLevel}
 
 -- the field that xs starts with: the bytes before the first tab or newline
 unfoldable pub fieldOf : List ℕ → Field
 fieldOf [] = []
 fieldOf (x ∷ xs) = elim (eqb x tab || eqb x newline) [ true ↦ [] | false ↦ x ∷ fieldOf xs ]
 
--- the level that a field writes; 0 where it writes none
-unfoldable pub levelOf : Field → ℕ
-unfolding isLevel decimalFrom
-levelOf f = elim (isLevel f) [ true ↦ decimal f | false ↦ 0 ]
+abbrev pub noLevel : FieldLevel
+noLevel = record { end = 0; level = 0 }
+
+-- the level that xs starts with and the place where its field ends, when xs stands at `at`
+unfoldable pub levelAt : ℕ → List ℕ → FieldLevel
+unfolding fieldOf isLevel decimalFrom
+levelAt at xs = elim (isLevel (fieldOf xs)) [ true ↦ record { end = at + length (fieldOf xs); level = decimal (fieldOf xs) } | false ↦ noLevel ]
 
 -- p or t
 abbrev pub isMark : ℕ → Bool

@@ -4,7 +4,7 @@ ghost use Prim.Native.Nat.{_+_, _≤_};
 ghost use lib.ListN.{length, drop};
 ghost use lib.Seq.{slice};
 ghost use Rattle.rules.specs.Sheet.{letter as isLetter, letterOrDigit, isName, isColumn, sameBytes};
-ghost use Rattle.sheet.specs.Walk.{fieldOf, levelOf, isMark};
+ghost use Rattle.sheet.specs.Walk.{fieldOf, levelAt, noLevel, isMark};
 use limits::LEVEL;
 
 // The end of the field that starts at `at`: the place of the next byte 9 or 10, or the text's length.
@@ -25,32 +25,55 @@ pub fn end_of(text: &[u8], start: usize) -> usize
     at
 }
 
-// The level that the field from `start` to `stop` writes; 0 where it writes none.
-pub fn level_of(text: &[u8], start: usize, stop: usize) -> u16
-    requires { ⌜ stop ≤ length (now text) ⌝ }
-    ensures { λ r. ⌜ r ≡ levelOf (slice start stop (now (text .entry))) ⌝ }
+// The level of a field, and the field's end; 0 and 0 for a field that is no level.
+pub struct FieldLevel {
+    pub end: usize,
+    pub level: u16,
+}
+
+// Reads the field that starts at `start`, up to the first byte that tells that it is no level.
+pub fn read_level(text: &[u8], start: usize) -> FieldLevel
+    ensures { λ r. ⌜ r ≡ levelAt start (drop start (now (text .entry))) ⌝ }
 {
-    if stop <= start {
-        return 0;
+    if text.len() <= start {
+        return no_level();
     }
-    if text[start] == b'0' {
-        return 0;
+    if text[start] < b'1' {
+        return no_level();
     }
+    let mut at = start;
     let mut v: u32 = 0;
-    for i in start..stop {
-        let x = text[i];
+    while at < text.len() {
+        let x = text[at];
+        if x == b'\t' {
+            break;
+        }
+        if x == b'\n' {
+            break;
+        }
         if x < b'0' {
-            return 0;
+            return no_level();
         }
         if b'9' < x {
-            return 0;
+            return no_level();
         }
         v = 10 * v + (x - b'0') as u32;
         if LEVEL < v {
-            return 0;
+            return no_level();
         }
+        at += 1;
     }
-    v as u16
+    FieldLevel {
+        end: at,
+        level: v as u16,
+    }
+}
+
+// The answer for a field that is no level.
+fn no_level() -> FieldLevel
+    ensures { λ r. ⌜ r ≡ noLevel ⌝ }
+{
+    FieldLevel { end: 0, level: 0 }
 }
 
 // Whether a byte is a letter.

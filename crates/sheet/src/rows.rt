@@ -53,14 +53,16 @@ fn row_end(text: &[u8], start: usize, n: usize) -> usize
 fn level_end(text: &[u8], start: usize, stop: u8) -> usize
     ensures { λ r. ⌜ r ≡ levelEnd stop start (drop start (now (text .entry))) ⌝ }
 {
-    let e = field::end_of(text, start);
+    let found = field::read_level(text, start);
+    let level = found.level;
+    if level == 0 {
+        return 0;
+    }
+    let e = found.end;
     if text.len() <= e {
         return 0;
     }
     if text[e] != stop {
-        return 0;
-    }
-    if field::level_of(text, start, e) == 0 {
         return 0;
     }
     e + 1
@@ -99,11 +101,11 @@ fn store_row(
 {
     let mut at = start;
     for i in 0..n {
-        let e = field::end_of(text, at);
-        let level = field::level_of(text, at, e);
+        let found = field::read_level(text, at);
+        let level = found.level;
         let column = columns[i];
         levels[PLOTS * column + u] = level;
-        at = e + 1;
+        at = found.end + 1;
     }
     at
 }

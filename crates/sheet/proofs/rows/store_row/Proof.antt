@@ -1,17 +1,20 @@
 -- `sheet::rows::store_row` meets its contract. The loop's invariant: what is left of the line's work, done from here, is the whole of it.
 -- Assumes nothing.
-use Prim.Native.Nat.{suc, _+_, _-_, _<_, _≤_}
+use Prim.Native.Nat.{ℕ, suc, _+_, _-_, _<_, _≤_}
 use mathlib.Core.Path.{_≡_, refl}
 use native.Mathlib.Omega.{arith}
 use native.Mathlib.Numerals.{add-one}
 use native.Mathlib.Nat.{sub-zero}
-use mathlib.Core.List.{_∷_}
+use mathlib.Core.Bool.{true}
+use mathlib.Core.List.{List, _∷_}
 use borrow.Author.Needs.{needs}
 use denote.Ref.{now}
 use lib.ListN.{length, getD, take, drop, length-set, length-take, length-drop}
 use lib.Seq.{drop-cons, getD-take}
-use Rattle.rules.specs.Sheet.{upTo, fields, withPlot}
-use Rattle.sheet.proofs.StoreLaws.{Left, left-start, left-inside, left-turn, place-at}
+use Rattle.rules.specs.Sheet.{upTo, fields, isLevel, decimal, withPlot}
+use Rattle.sheet.specs.Walk.{fieldOf, rowThere}
+use Rattle.sheet.proofs.LevelLaws.{level-ends, level-number}
+use Rattle.sheet.proofs.StoreLaws.{Left, left-start, left-inside, left-level, left-turn, place-at}
 use Rattle.sheet.proofs.rows.store_row.Statement.{statement}
 use Rattle.sheet.proofs.rows.store_row.Tie as tie
 
@@ -22,25 +25,42 @@ Inv-loop text start columns n u levels₀ at₀ i₀ levels at i =
 abbrev μ-loop : tie.MeasureT-loop
 μ-loop text start columns n u levels₀ at₀ i₀ levels at i = n - i
 
--- the field at hand is inside the text
-inside : (c : tie.After-end-of Inv-loop μ-loop) → c .end-of .result < length (now (c .before .before .before .before .before .before .args .text))
-inside c =
-    let b = c .before .before in
-    let a = b .before .before .before .before .args in
-    let m : a .n - b .loop .i ≡ suc (a .n - (b .loop .i + 1)) = omega arith in
-    let l = rw m at (b .loop .inv .2) in
-    let k = left-inside (a .n - (b .loop .i + 1)) (drop (b .loop .at) (now (a .text))) (l .0) in
-    omega (arith, c .end-of .ensures, length-drop (b .loop .at) (now (a .text)))
+-- the field at hand is a level inside the text
+module _ (c : tie.After-read-level Inv-loop μ-loop) where
+  abbrev text : List ℕ
+  text = now (c .before .before .before .before .before .before .args .text)
+
+  abbrev at : ℕ
+  at = c .before .before .loop .at
+
+  here : rowThere (suc (c .before .before .before .before .before .before .args .n - (c .before .before .loop .i + 1))) (drop at text) ≡ true
+  here =
+      let b = c .before .before in
+      let n = b .before .before .before .before .args .n in
+      let m : n - b .loop .i ≡ suc (n - (b .loop .i + 1)) = omega arith in
+      (rw m at (b .loop .inv .2)) .0
+
+  found : isLevel (fieldOf (drop at text)) ≡ true
+  found = left-level _ (drop at text) here
+
+  place-after : c .read-level .result .end ≡ at + length (fieldOf (drop at text))
+  place-after = level-ends at (drop at text) (c .read-level .result) (c .read-level .ensures) found
+
+  number : c .read-level .result .level ≡ decimal (fieldOf (drop at text))
+  number = level-number at (drop at text) (c .read-level .result) (c .read-level .ensures) found
+
+  inside : c .read-level .result .end < length text
+  inside = let k = left-inside _ (drop at text) here in omega (arith, place-after, length-drop at text)
 
 -- there is a column for each field
-columns-fit : (c : tie.After-level-of Inv-loop μ-loop) → c .before .before .before .before .before .before .before .args .n ≤ length (now (c .before .before .before .before .before .before .before .args .columns))
+columns-fit : (c : tie.After-read-level Inv-loop μ-loop) → c .before .before .before .before .before .before .args .n ≤ length (now (c .before .before .before .before .before .before .args .columns))
 columns-fit c =
-    let s = c .before .before .before .before .before .before .before in
+    let s = c .before .before .before .before .before .before in
     omega (arith, s .pre .size, length-take (s .args .n) (now (s .args .columns)))
 
-place : (c : tie.After-shared-slice-known3 Inv-loop μ-loop) → getD (now (c .before .before .before .before .before .before .before .before .args .columns)) (c .before .before .before .before .loop .i) 0 < 12
+place : (c : tie.After-shared-slice-known3 Inv-loop μ-loop) → getD (now (c .before .before .before .before .before .before .before .args .columns)) (c .before .before .before .loop .i) 0 < 12
 place c =
-    let b = c .before .before .before .before in
+    let b = c .before .before .before in
     let s = b .before .before .before .before in
     let cs = take (s .args .n) (now (s .args .columns)) in
     let k = s .pre .size in
@@ -54,11 +74,8 @@ loop-holds c =
     let l = left-start (a .n) (take (a .n) (now (a .columns))) (a .u) (drop (a .start) (now (a .text))) (a .start) (now (a .levels)) (s .pre .some) (s .pre .form) in
     (omega arith, refl, rw sub-zero l)
 
-end-of-requires : tie.Need-end-of-requires Inv-loop μ-loop
-end-of-requires c κs = search needs
-
-level-of-requires : tie.Need-level-of-requires Inv-loop μ-loop
-level-of-requires c κs = let e = inside c in omega arith
+read-level-requires : tie.Need-read-level-requires Inv-loop μ-loop
+read-level-requires c κs = search needs
 
 mul-column : tie.Need-mul-column Inv-loop μ-loop
 mul-column c = let e = columns-fit c in omega arith
@@ -70,14 +87,14 @@ mul-levels : tie.Need-mul-levels Inv-loop μ-loop
 mul-levels c = let e = place c in omega arith
 
 add-levels : tie.Need-add-levels Inv-loop μ-loop
-add-levels c = let e = place c in omega (arith, c .before .before .before .before .before .before .before .before .pre .plot)
+add-levels c = let e = place c in omega (arith, c .before .before .before .before .before .before .before .pre .plot)
 
 mul-levels-2 : tie.Need-mul-levels-2 Inv-loop μ-loop
-mul-levels-2 c = let e = place c in omega (arith, c .before .before .before .before .before .before .before .before .pre .plot)
+mul-levels-2 c = let e = place c in omega (arith, c .before .before .before .before .before .before .before .pre .plot)
 
 slice-write-levels : tie.Need-slice-write-levels Inv-loop μ-loop
 slice-write-levels c =
-    let e = place c in omega (arith, c .before .before .before .before .before .before .before .before .pre .plot, c .before .before .before .before .before .before .before .before .pre .room)
+    let e = place c in omega (arith, c .before .before .before .before .before .before .before .pre .plot, c .before .before .before .before .before .before .before .pre .room)
 
 add-at : tie.Need-add-at Inv-loop μ-loop
 add-at c = let e = inside (c .before .before) in omega arith
@@ -101,10 +118,10 @@ loop-again c =
     let d : drop i cs ≡ getD (now (a .columns)) i 0 ∷ drop (i + 1) cs = rw (add-one, ← v) (drop-cons cs i 0 h) in
     let m : a .n - i ≡ suc (a .n - (i + 1)) = omega arith in
     let l = rw (m, d) at (b .loop .inv .2) in
-    let r = left-turn (getD (now (a .columns)) i 0) (drop (i + 1) cs) (a .u) (now (a .text)) (b .loop .at) (c .before .before .end-of .result) (b .loop .levels)
+    let r = left-turn (getD (now (a .columns)) i 0) (drop (i + 1) cs) (a .u) (now (a .text)) (b .loop .at) (c .before .before .read-level .result .end) (b .loop .levels)
     (withPlot cs (a .u) (fields (upTo 10 (drop (a .start) (now (a .text))))) (now (a .levels))) (a .start + suc (length (upTo 10 (drop (a .start) (now (a .text))))))
-    (c .before .before .end-of .ensures) (a .n - (i + 1)) l in
-    (omega arith, simp length-set (b .loop .inv .1), rw (c .before .level-of .ensures) r)
+    (place-after (c .before .before)) (a .n - (i + 1)) l in
+    (omega arith, simp length-set (b .loop .inv .1), rw (number (c .before .before)) r)
 
 same-length : tie.Need-same-length Inv-loop μ-loop
 same-length c = c .before .loop .inv .1
@@ -124,8 +141,7 @@ store-row-spec =
     Inv-loop
     μ-loop
     loop-holds
-    end-of-requires
-    level-of-requires
+    read-level-requires
     mul-column
     shared-slice-read-column
     mul-levels
