@@ -100,7 +100,7 @@ loop-again c =
     (λ w.
     let z = heads-turn text (b .loop .at) (c .end-of .result) (b .loop .p) (b .loop .t) (6 + b .loop .t) (b .loop .p) (b .loop .t + 1) (c .end-of .ensures) (treatment-here text (b .loop .at) (b .loop .p) (b .loop .t) h (w .0 .left)) (a .n - (i + 1)) (drop i S) l in
     let g : getD S i 0 ≡ 6 + b .loop .t = sym v ∙ z .0 in
-    (omega arith, omega arith, omega arith, ap length (w .1) ∙ length-set (b .loop .r) i (6 + b .loop .t) ∙ b .loop .inv .3, w .1 ∙ (rw g at step), rw (w .2, w .3, ← q) (z .1)))
+    (omega arith, omega arith, omega arith, ap length (w .1) ∙ length-set (b .loop .r) i _ ∙ b .loop .inv .3, w .1 ∙ (rw g at step), rw (w .2, w .3, ← q) (z .1)))
     (j .if1 .came)
 
 returns : tie.Need-returns Inv-loop μ-loop
