@@ -38,9 +38,7 @@ pub fn plot_from_8(levels: &[Level], n: usize, columns: usize, family: &mut [u8]
     );
     let size = closing.size;
     let order = closing.order;
-    judge_plots(
-        &plot, size, &order, &counts, &meets, &joins, n, family,
-    )
+    judge_plots(&plot, size, &order, &counts, &meets, &joins, n, family)
 }
 
 // Questions 8 to 14.
@@ -79,7 +77,16 @@ pub fn full_from_8(
     let order = closings.order;
     let size = closings.treatment;
     judge(
-        &plot, plot_size, &order, &counts, &meets, &joins, &first, size, n, plot_family,
+        &plot,
+        plot_size,
+        &order,
+        &counts,
+        &meets,
+        &joins,
+        &first,
+        size,
+        n,
+        plot_family,
         treatment_family,
     )
 }
