@@ -18,16 +18,19 @@ use limits::FAMILY;
 use limits::Level;
 use limits::MEMBERS;
 
-// The size of a closed plot family, or TOO_MANY, and where each member was found.
+// A closed plot family: its size, or TOO_MANY; where its members were found, in their order; and, by where they were found, their
+// numbers of classes and the places of each pair's infimum and supremum.
 pub struct PlotClosing {
     pub size: usize,
     pub order: [u8; MEMBERS],
+    pub counts: [u8; MEMBERS],
+    pub meets: [u8; PAIRS],
+    pub joins: [u8; PAIRS],
 }
 
-// The same, with the size of the first treatment family, or TOO_MANY.
+// A closed plot family, and the size of the first treatment family, or TOO_MANY.
 pub struct Closings {
-    pub plot: usize,
-    pub order: [u8; MEMBERS],
+    pub plot: PlotClosing,
     pub treatment: usize,
 }
 
@@ -49,28 +52,43 @@ fn close_plots(
 }
 
 // Closes the plot family and leaves it in its order, with the tables that question 10 is decided by.
-pub fn plot_family(
-    levels: &[Level],
-    n: usize,
-    columns: usize,
-    plot: &mut [u8],
-    counts: &mut [u8; MEMBERS],
-    meets: &mut [u8; PAIRS],
-    joins: &mut [u8; PAIRS],
-) -> PlotClosing
-    requires { ⌜ (1 ≤ n) × (n ≤ 240) × (columns ≤ 6) × (2880 ≤ length (now levels)) × (7680 ≤ length (now plot)) × (length (now counts) ≡ 32) × (length (now meets) ≡ 1024) × (length (now joins) ≡ 1024) ⌝ }
+pub fn plot_family(levels: &[Level], n: usize, columns: usize, plot: &mut [u8]) -> PlotClosing
+    requires { ⌜ (1 ≤ n) × (n ≤ 240) × (columns ≤ 6) × (2880 ≤ length (now levels)) × (7680 ≤ length (now plot)) ⌝ }
     ensures family { λ r. ⌜ closedIn n (now (plot .exit)) (r .size) ≡ plotFamily n (columnsFrom n (now (levels .entry)) 0 columns) ⌝ }
-    ensures tables { λ r. ⌜ Ready n (r .size) (now (plot .exit)) (r .order) (now (counts .exit)) (now (meets .exit)) (now (joins .exit)) ⌝ }
+    ensures tables { λ r. ⌜ Ready n (r .size) (now (plot .exit)) (r .order) (r .counts) (r .meets) (r .joins) ⌝ }
 {
     let mut store = [0u8; FAMILY];
-    let size = close_plots(levels, n, columns, &mut store, counts, meets, joins);
+    let mut counts = [0u8; MEMBERS];
+    let mut meets = [0u8; PAIRS];
+    let mut joins = [0u8; PAIRS];
+    let size = close_plots(
+        levels,
+        n,
+        columns,
+        &mut store,
+        &mut counts,
+        &mut meets,
+        &mut joins,
+    );
     if size == TOO_MANY {
         let order = [0u8; MEMBERS];
-        return PlotClosing { size, order };
+        return PlotClosing {
+            size,
+            order,
+            counts,
+            meets,
+            joins,
+        };
     }
-    let order = sort(&store, counts, n, size);
+    let order = sort(&store, &counts, n, size);
     write(&store, &order, n, size, plot);
-    PlotClosing { size, order }
+    PlotClosing {
+        size,
+        order,
+        counts,
+        meets,
+        joins,
+    }
 }
 
 // Closes both families and leaves each in its order.
@@ -81,24 +99,18 @@ pub fn close_families(
     d: usize,
     k: usize,
     plot: &mut [u8],
-    counts: &mut [u8; MEMBERS],
-    meets: &mut [u8; PAIRS],
-    joins: &mut [u8; PAIRS],
     first: &mut [u8],
 ) -> Closings
-    requires { ⌜ (1 ≤ n) × (n ≤ 240) × (c ≤ 6) × (d ≤ 6) × (1 ≤ k) × (k ≤ 6) × (2880 ≤ length (now levels)) × (7680 ≤ length (now plot)) × (length (now counts) ≡ 32) × (length (now meets) ≡ 1024) × (length (now joins) ≡ 1024) × (7680 ≤ length (now first)) ⌝ }
-    ensures plots { λ r. ⌜ closedIn n (now (plot .exit)) (r .plot) ≡ plotFamily n (columnsFrom n (now (levels .entry)) 0 c) ⌝ }
-    ensures tables { λ r. ⌜ Ready n (r .plot) (now (plot .exit)) (r .order) (now (counts .exit)) (now (meets .exit)) (now (joins .exit)) ⌝ }
+    requires { ⌜ (1 ≤ n) × (n ≤ 240) × (c ≤ 6) × (d ≤ 6) × (1 ≤ k) × (k ≤ 6) × (2880 ≤ length (now levels)) × (7680 ≤ length (now plot)) × (7680 ≤ length (now first)) ⌝ }
+    ensures plots { λ r. ⌜ closedIn n (now (plot .exit)) (r .plot .size) ≡ plotFamily n (columnsFrom n (now (levels .entry)) 0 c) ⌝ }
+    ensures tables { λ r. ⌜ Ready n (r .plot .size) (now (plot .exit)) (r .plot .order) (r .plot .counts) (r .plot .meets) (r .plot .joins) ⌝ }
     ensures treatments { λ r. ⌜ closedIn n (now (first .exit)) (r .treatment) ≡ firstTreatmentFamily n k (columnsFrom n (now (levels .entry)) 6 d) ⌝ }
     ensures room { λ r. ⌜ (r .treatment ≤ 33) × (7680 ≤ length (now (first .exit))) ⌝ }
 {
-    let closing = plot_family(levels, n, c, plot, counts, meets, joins);
-    let plot_size = closing.size;
-    let order = closing.order;
+    let closing = plot_family(levels, n, c, plot);
     let treatment = first_family(levels, n, d, k, first);
     Closings {
-        plot: plot_size,
-        order,
+        plot: closing,
         treatment,
     }
 }

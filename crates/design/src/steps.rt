@@ -8,14 +8,12 @@ ghost use Rattle.rules.specs.Design.{question8, plotBuffer, withTreatments, tre
 ghost use Rattle.design.specs.Answers.{plotNumbers, plotNumbersOf, fullNumbers, fullNumbersOf};
 use crate::FullDesign;
 use crate::PlotDesign;
-use crate::closing::PAIRS;
 use crate::families::close_families;
 use crate::families::plot_family;
 use crate::verdict::judge;
 use crate::verdict::judge_plots;
 use limits::FAMILY;
 use limits::Level;
-use limits::MEMBERS;
 
 // Questions 8 to 10.
 pub fn plot_from_8(levels: &[Level], n: usize, columns: usize, family: &mut [u8]) -> PlotDesign
@@ -24,21 +22,8 @@ pub fn plot_from_8(levels: &[Level], n: usize, columns: usize, family: &mut [u8]
     ensures buffer { λ _. ⌜ now (family .exit) ≡ plotBuffer (now (family .entry)) (question8 n (plotFamily n (columnsFrom n (now (levels .entry)) 0 columns))) ⌝ }
 {
     let mut plot = [0u8; FAMILY];
-    let mut counts = [0u8; MEMBERS];
-    let mut meets = [0u8; PAIRS];
-    let mut joins = [0u8; PAIRS];
-    let closing = plot_family(
-        levels,
-        n,
-        columns,
-        &mut plot,
-        &mut counts,
-        &mut meets,
-        &mut joins,
-    );
-    let size = closing.size;
-    let order = closing.order;
-    judge_plots(&plot, size, &order, &counts, &meets, &joins, n, family)
+    let closing = plot_family(levels, n, columns, &mut plot);
+    judge_plots(&plot, closing, n, family)
 }
 
 // Questions 8 to 14.
@@ -57,32 +42,13 @@ pub fn full_from_8(
     ensures treatments { λ _. ⌜ now («treatment_family» .exit) ≡ treatmentBuffer (now («treatment_family» .entry)) (withTreatments n k (columnsFrom n (now (levels .entry)) 6 d) (question8 n (plotFamily n (columnsFrom n (now (levels .entry)) 0 c)))) ⌝ }
 {
     let mut plot = [0u8; FAMILY];
-    let mut counts = [0u8; MEMBERS];
-    let mut meets = [0u8; PAIRS];
-    let mut joins = [0u8; PAIRS];
     let mut first = [0u8; FAMILY];
-    let closings = close_families(
-        levels,
-        n,
-        c,
-        d,
-        k,
-        &mut plot,
-        &mut counts,
-        &mut meets,
-        &mut joins,
-        &mut first,
-    );
-    let plot_size = closings.plot;
-    let order = closings.order;
+    let closings = close_families(levels, n, c, d, k, &mut plot, &mut first);
+    let closing = closings.plot;
     let size = closings.treatment;
     judge(
         &plot,
-        plot_size,
-        &order,
-        &counts,
-        &meets,
-        &joins,
+        closing,
         &first,
         size,
         n,

@@ -16,6 +16,7 @@ use crate::PlotRefusal;
 use crate::Sizes;
 use crate::closing::PAIRS;
 use crate::closing::TOO_MANY;
+use crate::families::PlotClosing;
 use crate::pairs::first_cross;
 use crate::pairs::first_pair;
 use crate::questions::first_apart;
@@ -52,25 +53,21 @@ pub fn full_refused(number: u32) -> FullDesign
 }
 
 // Questions 8 to 10 of a closed plot family, which is written where 8 is passed.
-pub fn judge_plots(
-    plot: &[u8],
-    size: usize,
-    order: &[u8; MEMBERS],
-    counts: &[u8; MEMBERS],
-    meets: &[u8; PAIRS],
-    joins: &[u8; PAIRS],
-    n: usize,
-    family: &mut [u8],
-) -> PlotDesign
-    requires { ⌜ Ready n size (now plot) (now order) (now counts) (now meets) (now joins) × (7680 ≤ length (now family)) ⌝ }
-    ensures answer { λ r. ⌜ plotNumbers r ≡ plotNumbersOf (question8 n (closedIn n (now (plot .entry)) size)) ⌝ }
-    ensures buffer { λ _. ⌜ now (family .exit) ≡ plotBuffer (now (family .entry)) (question8 n (closedIn n (now (plot .entry)) size)) ⌝ }
+pub fn judge_plots(plot: &[u8], closing: PlotClosing, n: usize, family: &mut [u8]) -> PlotDesign
+    requires { ⌜ Ready n (closing .size) (now plot) (closing .order) (closing .counts) (closing .meets) (closing .joins) × (7680 ≤ length (now family)) ⌝ }
+    ensures answer { λ r. ⌜ plotNumbers r ≡ plotNumbersOf (question8 n (closedIn n (now (plot .entry)) (closing .size))) ⌝ }
+    ensures buffer { λ _. ⌜ now (family .exit) ≡ plotBuffer (now (family .entry)) (question8 n (closedIn n (now (plot .entry)) (closing .size))) ⌝ }
 {
+    let size = closing.size;
     if size == TOO_MANY {
         return refused(8);
     }
     copy_family(plot, n, size, family);
-    from_9(order, counts, meets, joins, n, size, plot)
+    let order = closing.order;
+    let counts = closing.counts;
+    let meets = closing.meets;
+    let joins = closing.joins;
+    from_9(&order, &counts, &meets, &joins, n, size, plot)
 }
 
 // Questions 9 and 10 of a family that is written.
@@ -111,23 +108,19 @@ fn from_9(
 // Questions 8 to 14 of a closed plot family and a closed first treatment family.
 pub fn judge(
     plot: &[u8],
-    plot_size: usize,
-    order: &[u8; MEMBERS],
-    counts: &[u8; MEMBERS],
-    meets: &[u8; PAIRS],
-    joins: &[u8; PAIRS],
+    closing: PlotClosing,
     first: &[u8],
     size: usize,
     n: usize,
     plot_family: &mut [u8],
     treatment_family: &mut [u8],
 ) -> FullDesign
-    requires { ⌜ (1 ≤ n) × Ready n «plot_size» (now plot) (now order) (now counts) (now meets) (now joins) × (7680 ≤ length (now first)) × (size ≤ 33) × (7680 ≤ length (now «plot_family»)) × (7680 ≤ length (now «treatment_family»)) ⌝ }
-    ensures answer { λ r. ⌜ fullNumbers r ≡ fullNumbersOf (goesOn n (closedIn n (now (first .entry)) size) (question8 n (closedIn n (now (plot .entry)) «plot_size»))) ⌝ }
-    ensures plots { λ _. ⌜ now («plot_family» .exit) ≡ plotBuffer (now («plot_family» .entry)) (goesOn n (closedIn n (now (first .entry)) size) (question8 n (closedIn n (now (plot .entry)) «plot_size»))) ⌝ }
-    ensures treatments { λ _. ⌜ now («treatment_family» .exit) ≡ treatmentBuffer (now («treatment_family» .entry)) (goesOn n (closedIn n (now (first .entry)) size) (question8 n (closedIn n (now (plot .entry)) «plot_size»))) ⌝ }
+    requires { ⌜ (1 ≤ n) × Ready n (closing .size) (now plot) (closing .order) (closing .counts) (closing .meets) (closing .joins) × (7680 ≤ length (now first)) × (size ≤ 33) × (7680 ≤ length (now «plot_family»)) × (7680 ≤ length (now «treatment_family»)) ⌝ }
+    ensures answer { λ r. ⌜ fullNumbers r ≡ fullNumbersOf (goesOn n (closedIn n (now (first .entry)) size) (question8 n (closedIn n (now (plot .entry)) (closing .size)))) ⌝ }
+    ensures plots { λ _. ⌜ now («plot_family» .exit) ≡ plotBuffer (now («plot_family» .entry)) (goesOn n (closedIn n (now (first .entry)) size) (question8 n (closedIn n (now (plot .entry)) (closing .size)))) ⌝ }
+    ensures treatments { λ _. ⌜ now («treatment_family» .exit) ≡ treatmentBuffer (now («treatment_family» .entry)) (goesOn n (closedIn n (now (first .entry)) size) (question8 n (closedIn n (now (plot .entry)) (closing .size)))) ⌝ }
 {
-    let answer = judge_plots(plot, plot_size, order, counts, meets, joins, n, plot_family);
+    let answer = judge_plots(plot, closing, n, plot_family);
     match answer {
         PlotDesign::Refused(r) => FullDesign::Refused(FullRefusal {
             number: r.number,

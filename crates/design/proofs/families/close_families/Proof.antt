@@ -26,11 +26,11 @@ same-length-2 c = search needs
 returns : tie.Need-returns
 returns c =
     let f = c .before .before in
-    let p = f .before .before .before .before .before in
-    let s = p .before .before .before .before .before .before .before .before in
+    let p = f .before .before .before .before in
+    let s = p .before .before .before .before .before in
     let n = s .args .n in
     let Ts : List Column = columnsFrom n (now (s .args .levels)) 6 (s .args .d) in
-    let h = first-held n (s .args .k) Ts (column-length n (now (s .args .levels)) (s .args .d) 6 (s .pre .1) (s .pre .6) (omega (arith, s .pre .3))) (s .pre .1) (s .pre .11) (f .first-family .ensures) in
+    let h = first-held n (s .args .k) Ts (column-length n (now (s .args .levels)) (s .args .d) 6 (s .pre .1) (s .pre .6) (omega (arith, s .pre .3))) (s .pre .1) (s .pre .8) (f .first-family .ensures) in
     (p .plot-family .ensures .0, (p .plot-family .ensures .1, (h .0, (h .1, search needs))))
 
 pub close-families-spec : {M : Type 1} → statement M

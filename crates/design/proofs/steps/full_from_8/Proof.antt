@@ -31,8 +31,8 @@ slice-aggregate-judge-2 c = search needs
 
 judge-requires : tie.Need-judge-requires
 judge-requires c κs =
-    let p = c .before .before .before .before .before .before .before .before .before .before .before in
-    let s = p .before .before .before .before .before .before .before .before .before in
+    let p = c .before .before .before .before .before .before .before in
+    let s = p .before .before .before .before .before .before in
     let e = p .close-families .ensures in
     (s .pre .0, e .1 .0, e .1 .1 .1 .1, e .1 .1 .1 .0, s .pre .7, s .pre .8)
 
@@ -45,8 +45,8 @@ same-length-2 c = search needs
 returns : tie.Need-returns
 returns c =
     let k = c .before .before .before .before in
-    let p = k .before .before .before .before .before .before .before .before .before .before .before .before in
-    let s = p .before .before .before .before .before .before .before .before .before in
+    let p = k .before .before .before .before .before .before .before .before in
+    let s = p .before .before .before .before .before .before in
     let n = s .args .n in
     let Ts : List Column = columnsFrom n (now (s .args .levels)) 6 (s .args .d) in
     let Fs : List Column = columnsFrom n (now (s .args .levels)) 0 (s .args .c) in

@@ -26,8 +26,8 @@ same-length c = search needs
 returns : tie.Need-returns
 returns c =
     let k = c .before .before in
-    let p = k .before .before .before .before .before .before .before .before .before in
-    let s = p .before .before .before .before .before .before .before in
+    let p = k .before .before .before .before in
+    let s = p .before .before .before .before in
     let w = ap (question8 (s .args .n)) (p .plot-family .ensures .0) in
     (k .judge-plots .ensures .0 ∙ ap plotNumbersOf w, k .judge-plots .ensures .1 ∙ ap (plotBuffer (now (s .args .family))) w)
 

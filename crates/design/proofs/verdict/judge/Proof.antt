@@ -31,7 +31,7 @@ treatments f = closedIn (start f .args .n) (now (start f .args .first)) (start f
 
 -- the plot family handed in
 abbrev plots : tie.After-judge-plots → Closing
-plots f = closedIn (start f .args .n) (now (start f .args .plot)) (start f .args .plot-size)
+plots f = closedIn (start f .args .n) (now (start f .args .plot)) (start f .args .closing .size)
 
 -- what is answered to it
 abbrev answered : tie.After-judge-plots → Answer
@@ -48,7 +48,7 @@ unfolding AcceptedHere plotNumbers
 accepted-here c =
     let f = c .before .before .before .before in
     let s = start f in
-    goes-on (s .args .n) (now (s .args .plot)) (s .args .plot-size) (s .pre .1 .most) (λ ne. s .pre .1 .judging ne .few)
+    goes-on (s .args .n) (now (s .args .plot)) (s .args .closing .size) (s .pre .1 .most) (λ ne. s .pre .1 .judging ne .few)
     (sym (ap plotNumbers (c .answer2 .given .1)) ∙ f .judge-plots .ensures .0)
 
 from-11-requires : tie.Need-from-11-requires

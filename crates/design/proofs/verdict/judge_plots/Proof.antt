@@ -20,7 +20,7 @@ returns c =
     let i = c .before in
     let s = i .before .before .before in
     let n = s .args .n in
-    let e = eight-over n (closedIn n (now (s .args .plot)) (s .args .size)) (held-over n (now (s .args .plot)) (s .args .size) (i .if1 .taken)) in
+    let e = eight-over n (closedIn n (now (s .args .plot)) (s .args .closing .size)) (held-over n (now (s .args .plot)) (s .args .closing .size) (i .if1 .taken)) in
     (c .refused .ensures ∙ ap plotNumbersOf (sym e), ap (plotBuffer (now (s .args .family))) (sym e))
 
 copy-family-requires : tie.Need-copy-family-requires
@@ -32,7 +32,7 @@ copy-family-requires c κs =
 
 from-9-requires : tie.Need-from-9-requires
 from-9-requires c κs =
-    let i = c .before .before .before .before in
+    let i = c .before .before .before .before .before .before .before .before .before .before .before .before in
     let s = i .before .before .before in
     s .pre .0 .judging (i .if1 .left)
 
@@ -41,14 +41,14 @@ same-length c = search needs
 
 returns-2 : tie.Need-returns-2
 returns-2 c =
-    let k = c .before .before .before in
+    let k = c .before .before .before .before .before .before .before .before .before .before .before in
     let i = k .before .before in
     let s = i .before .before .before in
     let n = s .args .n in
     let plot = now (s .args .plot) in
-    let on = held-on n plot (s .args .size) (i .if1 .left) in
-    let x = closedIn n plot (s .args .size) in
-    let P = membersOf n plot (s .args .size) in
+    let on = held-on n plot (s .args .closing .size) (i .if1 .left) in
+    let x = closedIn n plot (s .args .closing .size) in
+    let P = membersOf n plot (s .args .closing .size) in
     (c .from-9 .ensures ∙ ap plotNumbersOf (sym (eight-on n x P on)), k .copy-family .ensures ∙ sym (eight-buffer n x P (now (s .args .family)) on))
 
 pub judge-plots-spec : {M : Type 1} → statement M
