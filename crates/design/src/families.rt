@@ -1,7 +1,7 @@
 // The closing step: the plot family and the first treatment family, each closed in memory of its own.
 ghost use mathlib.Core.Path.{_≡_};
 ghost use mathlib.Core.Bool.{true};
-ghost use Prim.Native.Nat.{ℕ, _≤_, _<_};
+ghost use Prim.Native.Nat.{_≤_};
 ghost use lib.ListN.{length};
 ghost use Rattle.rules.specs.Family.{columnsFrom};
 ghost use Rattle.rules.specs.Closing.{plotGenerators, plotFamily, firstTreatmentFamily};

@@ -1,6 +1,6 @@
 // The judging step: questions 8 to 14 of families that are closed, in turn, and what is written.
 ghost use mathlib.Core.Path.{_≡_};
-ghost use Prim.Native.Nat.{ℕ, _≤_, _<_};
+ghost use Prim.Native.Nat.{_≤_, _<_};
 ghost use lib.ListN.{length};
 ghost use Rattle.rules.specs.Factor.{uniform, orthogonal};
 ghost use Rattle.rules.specs.Family.{membersOf, written};
