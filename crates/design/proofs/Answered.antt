@@ -7,7 +7,7 @@ use Rattle.rules.specs.Family.{Family, written, insertAll, membersOf, columnsFr
 use Rattle.rules.specs.Design.{Places, firstPair, question9, question10, refused, question8, firstFailing, plotBuffer, plotsWithin, withinLimits, allNonzero, question7, plotDesign, returned}
 use Rattle.rules.proofs.Demand3.{demand-3}
 use Rattle.rules.proofs.Verdict.{verdict-members}
-use borrow.Author.Tests.{ltb-true, leb-true}
+use borrow.Author.Tests.{eq-eqb, ne-eqb, ltb-true, leb-true}
 use lib.Dec.{ltb, leb}
 use native.Mathlib.Omega.{arith}
 use mathlib.Core.List.{List, []}
@@ -16,6 +16,7 @@ use mathlib.Core.Path.{_≡_, refl, sym, ap, _∙_}
 use mathlib.Core.Bool.{Bool, true, false, _&&_, true≢false}
 use Prim.Native.Nat.{ℕ, zero, suc, _≤_}
 use lib.ListN.{length}
+use Rattle.design.specs.Closings.{closedIn}
 use Rattle.design.specs.Answers.{PlotNumbers, plotNumbersOf}
 
 -- the numbers of a refusal
@@ -56,25 +57,34 @@ nine-passed n P k e = rw e
 
 -- ---- questions 8 to 10 of the plot family
 
--- the numbers of the verdict on a family
-abbrev pub judged : ℕ → Family → PlotNumbers
-judged n P = plotNumbersOf (question9 n P (firstFailing (uniform n) 1 P))
-
-module _ (n : ℕ) (Fs : List Column) where
+module _ (n : ℕ) (x : Closing) where
   -- it is too large
-  pub eight-over : plotFamily n Fs ≡ tooMany → question8 n (plotFamily n Fs) ≡ refused 8
+  pub eight-over : x ≡ tooMany → question8 n x ≡ refused 8
   unfolding question8
   eight-over e = ap (question8 n) e
 
   -- it is not
-  pub eight-on : (P : Family) → plotFamily n Fs ≡ family P → question8 n (plotFamily n Fs) ≡ question9 n P (firstFailing (uniform n) 1 P)
+  pub eight-on : (P : Family) → x ≡ family P → question8 n x ≡ question9 n P (firstFailing (uniform n) 1 P)
   unfolding question8
   eight-on P e = ap (question8 n) e
 
   -- then it is written
-  pub eight-buffer : (P : Family) (buffer : List ℕ) → plotFamily n Fs ≡ family P → plotBuffer buffer (question8 n (plotFamily n Fs)) ≡ written buffer 0 P
-  eight-buffer P buffer e = ap (λ (x : Closing). plotBuffer buffer (question8 n x)) e ∙ ap (written buffer 0) (verdict-members n P)
+  pub eight-buffer : (P : Family) (buffer : List ℕ) → x ≡ family P → plotBuffer buffer (question8 n x) ≡ written buffer 0 P
+  eight-buffer P buffer e = ap (λ (y : Closing). plotBuffer buffer (question8 n y)) e ∙ ap (written buffer 0) (verdict-members n P)
 
+-- the family that memory holds
+module _ (n : ℕ) (memory : List ℕ) (m : ℕ) where
+  -- it is too large
+  pub held-over : m ≡ 33 → closedIn n memory m ≡ tooMany
+  unfolding closedIn
+  held-over e = rw (eq-eqb m 33 e, closedIn)
+
+  -- it is not
+  pub held-on : (m ≡ 33 → ⊥) → closedIn n memory m ≡ family (membersOf n memory m)
+  unfolding closedIn
+  held-on ne = rw (ne-eqb m 33 ne, closedIn)
+
+module _ (n : ℕ) (Fs : List Column) where
   -- closing says which
   module _ {store counts meets joins : List ℕ} {r : ℕ} (c : Closed n true (plotGenerators n Fs) store counts meets joins r) where
     pub closed-over : r ≡ 33 → plotFamily n Fs ≡ tooMany

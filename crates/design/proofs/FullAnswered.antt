@@ -8,25 +8,24 @@ use Rattle.rules.proofs.Families.{first-family-lists}
 use Rattle.rules.proofs.Supremum.{length-supremum}
 use Rattle.rules.proofs.Numbering.{length-infimum}
 use Rattle.rules.proofs.Extremes.{length-universal}
-use Rattle.rules.proofs.Buffer.{length-members, member-is, length-written, written-members}
+use Rattle.rules.proofs.Buffer.{length-members, member-is, written-members}
 use mathlib.Core.Logic.{_⊎_, inl, inr}
+use Rattle.design.proofs.Answered.{held-over, held-on}
 use Rattle.design.proofs.Search.{pair-found, cross-found}
 use Rattle.design.specs.Search.{firstPairOf, firstCrossOf}
 use Rattle.design.specs.State.{columnIn}
+use Rattle.design.specs.Closings.{closedIn}
 use Rattle.design.specs.Treatments.{FinalFamily, too-many, listed, FirstFamily, no-first, a-first}
 use mathlib.Core.Path.{_≡_, refl, sym, ap, _∙_, subst, ap₂}
-use mathlib.Core.Bool.{Bool, true, false}
+use mathlib.Core.Bool.{Bool, true}
 use mathlib.Core.List.{List, [], _∷_, List·Memᴰ·head, List·Memᴰ·tail, List·Memᴰ·cases-cons}
-use Prim.Native.Nat.{ℕ, zero, suc, _≤_, _<_, _+_, _*_}
+use Prim.Native.Nat.{ℕ, zero, suc, _≤_, _<_}
 use native.Mathlib.Omega.{arith}
 use lib.ListN.{length}
 use borrow.Author.Tests.{le-leb, lt-leb}
-use Rattle.design.specs.Answers.{FullNumbers, fullNumbersOf}
+use Rattle.design.specs.Answers.{FullNumbers, fullNumbersOf, fullRefusing}
 
--- the numbers of a refusal
-abbrev pub fullRefusing : ℕ → ℕ → ℕ → ℕ → ℕ → FullNumbers
-fullRefusing q i j p t = record { accepted = false; refusal = q; first = i; second = j; plot = p; treatment = t }
-
+-- refusals with the same numbers
 pub full-refusing-is : (q : ℕ) {i j p t i′ j′ p′ t′ : ℕ} → i ≡ i′ → j ≡ j′ → p ≡ p′ → t ≡ t′ → fullRefusing q i j p t ≡ fullRefusing q i′ j′ p′ t′
 full-refusing-is q e f g h = λ x. fullRefusing q (e x) (f x) (g x) (h x)
 
@@ -168,29 +167,14 @@ module _ (n k : ℕ) (Ts : List Column) (on : (T : Column) → T ∈ Ts → leng
   first-length F (of-infimum {T} {C} c h) = infimum-length (T ∷ C) (λ U m. on U (chosen-in c U m))
   first-length F (of-supremum {F = G} {G = H} p q) = length-supremum G H (first-length G p ∙ sym (first-length H q)) ∙ first-length G p
 
-  pub first-exceeds : {before after : List ℕ} {r : ℕ} → FirstFamily n k Ts before after r → r ≡ 33 → firstTreatmentFamily n k Ts ≡ tooMany
-  first-exceeds (no-first q t) e = t
-  first-exceeds (a-first S is q h s) e = absurd (omega arith)
-
-  -- what is left in the buffer that it was written to
-  pub record Left (after : List ℕ) (r : ℕ) : Type 0 where
-    pub few : r ≤ 32
-    pub room : 7680 ≤ length after
-    pub is : firstTreatmentFamily n k Ts ≡ family (membersOf n after r)
-
-  pub first-left : {before after : List ℕ} {r : ℕ} → n ≤ 240 → 7680 ≤ length before → FirstFamily n k Ts before after r → (r ≡ 33 → ⊥) → Left after r
+  -- memory holds it
+  pub first-held : {before after : List ℕ} {r : ℕ} → n ≤ 240 → 7680 ≤ length before → FirstFamily n k Ts before after r → (closedIn n after r ≡ firstTreatmentFamily n k Ts) × (r ≤ 33)
   unfolding membersOf
-  first-left small room (no-first q t) ne = absurd (ne q)
-  first-left {before} {after} {r} small room (a-first S is q h s) ne = record { few = h; room = rw (s, len) room; is = is ∙ ap family (sym same) }
+  first-held {before} {after} {r} small room (no-first q t) = (held-over n after r q ∙ sym t, omega arith)
+  first-held {before} {after} {r} small room (a-first S is q h s) = (held-on n after r (λ z. omega arith) ∙ ap family same ∙ sym is, omega arith)
     where
       onS : (F : Column) → F ∈ S → length F ≡ n
       onS F m = first-length F (first-family-lists n k Ts S is .only F m)
 
-      fits : 240 * (0 + length S) ≤ length before
-      fits = omega (arith, room, h, q)
-
-      len : length (written before 0 S) ≡ length before
-      len = length-written n small S before 0 onS fits
-
       same : membersOf n after r ≡ S
-      same = ap₂ (λ (b : List ℕ) (m : ℕ). membersOf n b m) s q ∙ written-members n small S before 0 onS fits
+      same = ap₂ (λ (b : List ℕ) (m : ℕ). membersOf n b m) s q ∙ written-members n small S before 0 onS (omega (arith, room, h, q))

@@ -10,17 +10,15 @@ use lib.Dec.{ltb, leb}
 use lib.ListN.{length}
 use borrow.Author.Tests.{eq-eqb, ltb-true, leb-true}
 use Rattle.rules.specs.Factor.{Column, uniform, orthogonal}
-use Rattle.rules.specs.Family.{Family, _∈_, columnsFrom, membersOf, written}
+use Rattle.rules.specs.Family.{Family, columnsFrom, membersOf}
 use Rattle.rules.specs.Closing.{Closing, tooMany, family, plotFamily, firstTreatmentFamily, finalTreatmentFamily}
-use Rattle.rules.specs.Design.{Answer, Places, firstPair, firstCross, firstFailing, question8, question9, question10, question11, question12, question13, question14, withTreatments, nonzero, allNonzero, withinLimits, fullWithinLimits, fullQuestion7, fullDesign, refused, plotBuffer}
+use Rattle.rules.specs.Design.{Answer, Places, firstPair, firstCross, firstFailing, question8, question9, question10, question11, question12, question13, question14, withTreatments, nonzero, allNonzero, withinLimits, fullWithinLimits, fullQuestion7, fullDesign, refused}
 use Rattle.rules.proofs.Numbering.{by-cases}
 use Rattle.rules.proofs.Verdict.{verdict-members}
-use Rattle.rules.proofs.Families.{plot-family-lists}
-use Rattle.rules.proofs.Demand3.{Fits, member-length}
-use Rattle.rules.proofs.Buffer.{written-members, length-written}
-use Rattle.design.specs.Answers.{PlotNumbers, plotNumbersOf, fullNumbersOf}
-use Rattle.design.proofs.Answered.{accepting, Limits, limits}
-use Rattle.design.proofs.FullAnswered.{fullRefusing}
+use Rattle.rules.proofs.Buffer.{length-members}
+use Rattle.design.specs.Answers.{PlotNumbers, plotNumbersOf, fullNumbersOf, fullRefusing}
+use Rattle.design.specs.Closings.{closedIn, goesOn}
+use Rattle.design.proofs.Answered.{accepting, held-over, held-on, Limits, limits}
 
 -- ---- the plot design writes no treatment family
 
@@ -65,30 +63,30 @@ unfolding question11
 eleven-plot n P tooMany = refl
 eleven-plot n P (family S) = twelve-plot n P S (firstPair (orthogonal n) 1 S)
 
-module _ (n k : ℕ) (Ts : List Column) (a : Answer) where
+module _ (n : ℕ) (Y : Closing) (a : Answer) where
   -- a refused plot family stays refused
-  pub with-refused : (a .refusal ≡ 0 → ⊥) → withTreatments n k Ts a ≡ a
-  unfolding withTreatments
+  pub with-refused : (a .refusal ≡ 0 → ⊥) → goesOn n Y a ≡ a
+  unfolding goesOn
   with-refused h = go (a .refusal) refl
     where
-      go : (q : ℕ) → a .refusal ≡ q → withTreatments n k Ts a ≡ a
+      go : (q : ℕ) → a .refusal ≡ q → goesOn n Y a ≡ a
       go zero e = absurd (h e)
-      go (suc q) e = rw (e, withTreatments) (λ i. record { refusal = e i; places = a .places; plot = a .plot; treatment = a .treatment })
+      go (suc q) e = rw (e, goesOn) (λ i. record { refusal = e i; places = a .places; plot = a .plot; treatment = a .treatment })
 
   -- an accepted one goes on to the treatments
-  pub with-accepted : a .refusal ≡ 0 → withTreatments n k Ts a ≡ question11 n (a .plot) (firstTreatmentFamily n k Ts)
-  unfolding withTreatments
-  with-accepted e = rw (e, withTreatments)
+  pub with-accepted : a .refusal ≡ 0 → goesOn n Y a ≡ question11 n (a .plot) Y
+  unfolding goesOn
+  with-accepted e = rw (e, goesOn)
 
-  pub with-plot : withTreatments n k Ts a .plot ≡ a .plot
+  pub with-plot : goesOn n Y a .plot ≡ a .plot
   with-plot = go (a .refusal) refl
     where
-      go : (q : ℕ) → a .refusal ≡ q → withTreatments n k Ts a .plot ≡ a .plot
-      go zero e = ap (λ (x : Answer). x .plot) (with-accepted e) ∙ eleven-plot n (a .plot) (firstTreatmentFamily n k Ts)
+      go : (q : ℕ) → a .refusal ≡ q → goesOn n Y a .plot ≡ a .plot
+      go zero e = ap (λ (x : Answer). x .plot) (with-accepted e) ∙ eleven-plot n (a .plot) Y
       go (suc q) e = ap (λ (x : Answer). x .plot) (with-refused (λ z. suc-ne-zero q (sym e ∙ z)))
 
   -- the numbers of a refused plot family
-  pub refused-numbers : (m : PlotNumbers) → m ≡ plotNumbersOf a → m .accepted ≡ false → a .treatment ≡ [] → fullRefusing (m .refusal) (m .first) (m .second) (m .size) 0 ≡ fullNumbersOf (withTreatments n k Ts a)
+  pub refused-numbers : (m : PlotNumbers) → m ≡ plotNumbersOf a → m .accepted ≡ false → a .treatment ≡ [] → fullRefusing (m .refusal) (m .first) (m .second) (m .size) 0 ≡ fullNumbersOf (goesOn n Y a)
   unfolding plotNumbersOf fullNumbersOf
   refused-numbers m e f t =
       rw (with-refused no) (rw (t, sym (ap (λ (x : PlotNumbers). x .accepted) e) ∙ f) (λ i. fullRefusing (e i .refusal) (e i .first) (e i .second) (e i .size) 0))
@@ -100,50 +98,36 @@ module _ (n k : ℕ) (Ts : List Column) (a : Answer) where
   unfolding plotNumbersOf
   refused-not m e f z = true≢false (sym (eq-eqb (a .refusal) 0 z) ∙ sym (ap (λ (x : PlotNumbers). x .accepted) e) ∙ f)
 
--- ---- an accepted plot family as it is left in its buffer
-
-module _ (n : ℕ) (Fs : List Column) (on : (F : Column) → F ∈ Fs → length F ≡ n) where
-  abbrev answer : Answer
-  answer = question8 n (plotFamily n Fs)
-
-  pub plot-fits : answer .refusal ≡ 0 → Fits n (answer .plot)
-  unfolding question8
-  plot-fits z = go (plotFamily n Fs) refl z
-    where
-      go : (x : Closing) → plotFamily n Fs ≡ x → question8 n x .refusal ≡ 0 → Fits n (question8 n x .plot)
-      go tooMany e q = absurd (suc-ne-zero 7 q)
-      go (family P) e q = rw (verdict-members n P) (record { few = plot-family-lists n Fs P e .few; each = λ F m. member-length n Fs on F (plot-family-lists n Fs P e .only F m) })
-
-  pub plot-left : n ≤ 240 → (b : List ℕ) → 7680 ≤ length b → answer .refusal ≡ 0 → (m : ℕ) → m ≡ length (answer .plot) → membersOf n (written b 0 (answer .plot)) m ≡ answer .plot
-  unfolding membersOf
-  plot-left small b h z m e =
-      ap (λ (k : ℕ). membersOf n (written b 0 (answer .plot)) k) e ∙ written-members n small (answer .plot) b 0 (plot-fits z .each) (omega (arith, plot-fits z .few, h))
-
-  pub plot-room : n ≤ 240 → (b : List ℕ) → 7680 ≤ length b → answer .refusal ≡ 0 → 7680 ≤ length (written b 0 (answer .plot))
-  plot-room small b h z = rw (length-written n small (answer .plot) b 0 (plot-fits z .each) (omega (arith, plot-fits z .few, h))) h
+-- ---- an accepted plot family in memory
 
 -- what an accepted plot family leaves
-pub record Goes (n : ℕ) (a : Answer) (before after : List ℕ) (size : ℕ) : Type 0 where
+pub record Goes (n : ℕ) (a : Answer) (held : List ℕ) (size : ℕ) : Type 0 where
   pub accepted : a .refusal ≡ 0
   pub few : size ≤ 32
-  pub room : 7680 ≤ length after
-  pub members : membersOf n after size ≡ a .plot
+  pub members : membersOf n held size ≡ a .plot
 
-pub goes-on : (n : ℕ) (Fs : List Column) → ((F : Column) → F ∈ Fs → length F ≡ n) → n ≤ 240 → {before after : List ℕ} → 7680 ≤ length before → {size : ℕ}
-    → accepting size ≡ plotNumbersOf (question8 n (plotFamily n Fs)) → after ≡ plotBuffer before (question8 n (plotFamily n Fs)) → Goes n (question8 n (plotFamily n Fs)) before after size
-unfolding plotNumbersOf
-goes-on n Fs on small {before} {after} h {size} e b = record {
-  accepted = ok;
-  few = omega (arith, plot-fits n Fs on ok .few, is);
-  room = rw b (plot-room n Fs on small before h ok);
-  members = ap (λ (l : List ℕ). membersOf n l size) b ∙ plot-left n Fs on small before h ok size is;
+pub goes-on : (n : ℕ) (b : List ℕ) (m : ℕ) → n ≤ 240 → ((m ≡ 33 → ⊥) → m ≤ 32) → {size : ℕ}
+    → accepting size ≡ plotNumbersOf (question8 n (closedIn n b m)) → Goes n (question8 n (closedIn n b m)) b size
+unfolding plotNumbersOf question8
+goes-on n b m small most {size} e = record {
+  accepted = sym (ap (λ (x : PlotNumbers). x .refusal) e);
+  few = omega (arith, most fits, is);
+  members = ap (membersOf n b) is ∙ sym plot;
 }
   where
-    ok : question8 n (plotFamily n Fs) .refusal ≡ 0
-    ok = sym (ap (λ (x : PlotNumbers). x .refusal) e)
+    fits : m ≡ 33 → ⊥
+    fits q = suc-ne-zero 7 (ap (λ (x : Closing). question8 n x .refusal) (sym (held-over n b m q)) ∙ sym (ap (λ (x : PlotNumbers). x .refusal) e))
 
-    is : size ≡ length (question8 n (plotFamily n Fs) .plot)
-    is = ap (λ (x : PlotNumbers). x .size) e
+    plot : question8 n (closedIn n b m) .plot ≡ membersOf n b m
+    plot = ap (λ (x : Closing). question8 n x .plot) (held-on n b m fits) ∙ verdict-members n (membersOf n b m)
+
+    is : size ≡ m
+    is = ap (λ (x : PlotNumbers). x .size) e ∙ ap length plot ∙ length-members n small b m
+
+-- the first treatment family of the columns
+pub goes-treatments : (n k : ℕ) (Ts : List Column) (a : Answer) → goesOn n (firstTreatmentFamily n k Ts) a ≡ withTreatments n k Ts a
+unfolding goesOn withTreatments
+goes-treatments n k Ts a = refl
 
 -- ---- questions 6 and 7
 

@@ -45,3 +45,7 @@ fullNumbers (full.Refused r) = record { accepted = false; refusal = r .number; f
 -- an answer of the rules
 unfoldable pub fullNumbersOf : Answer → FullNumbers
 fullNumbersOf a = record { accepted = eqb (a .refusal) 0; refusal = a .refusal; first = a .places .first; second = a .places .second; plot = plotSize a; treatment = treatmentSize a }
+
+-- a refusal by question q, with its places and the sizes of the two families
+abbrev pub fullRefusing : ℕ → ℕ → ℕ → ℕ → ℕ → FullNumbers
+fullRefusing q i j plot treatment = record { accepted = false; refusal = q; first = i; second = j; plot = plot; treatment = treatment }

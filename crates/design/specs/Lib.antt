@@ -3,3 +3,4 @@ pub mod Search
 pub mod Judging
 pub mod Answers
 pub mod Treatments
+pub mod Closings

@@ -80,8 +80,8 @@ returns-3 c =
     let e = full-7 (a .plots) (a .plot-columns) (a .treatment-columns) (a .k) levels (length p) (length b) yes (and-false (allNonzero (columnsFrom (a .plots) levels 0 (a .plot-columns))) _ no7) in
     (c .full-refused3 .ensures ∙ ap fullNumbersOf (sym e), (ap (plotBuffer p) (sym e), ap (treatmentBuffer b) (sym e)))
 
-with-treatments-requires : tie.Need-with-treatments-requires
-with-treatments-requires c κs =
+full-from-8-requires : tie.Need-full-from-8-requires
+full-from-8-requires c κs =
     let l = in-limits (c .before .before .before .before .before .before) in
     (l .plots .some, l .plots .most, l .plots .columns, l .treatments, l .some, l .most, l .plots .table, l .plots .buffer, l .buffer)
 
@@ -106,7 +106,7 @@ returns-4 c =
     let first = sym (z .all-nonzero .ensures) ∙ not-false _ (y .before .if2 .left) in
     let second = sym (y .all-nonzero2 .ensures) ∙ not-false _ (d .if3 .left) in
     let e = full-8 (a .plots) (a .plot-columns) (a .treatment-columns) (a .k) levels (length p) (length b) yes first second in
-    (f .with-treatments .ensures .0 ∙ ap fullNumbersOf (sym e), (f .with-treatments .ensures .1 .0 ∙ ap (plotBuffer p) (sym e), f .with-treatments .ensures .1 .1 ∙ ap (treatmentBuffer b) (sym e)))
+    (f .full-from-8 .ensures .0 ∙ ap fullNumbersOf (sym e), (f .full-from-8 .ensures .1 .0 ∙ ap (plotBuffer p) (sym e), f .full-from-8 .ensures .1 .1 ∙ ap (treatmentBuffer b) (sym e)))
 
 pub full-design-spec : {M : Type 1} → statement M
 full-design-spec =
@@ -121,7 +121,7 @@ full-design-spec =
     all-nonzero-requires-2
     full-refused-requires-3
     returns-3
-    with-treatments-requires
+    full-from-8-requires
     same-length
     same-length-2
     returns-4)

@@ -58,8 +58,8 @@ returns-2 c =
     let buffer = ap (plotBuffer family) (sym e) in
     (answer, (buffer, demanded (a .plots) (a .columns) levels family family (plotNumbers (c .refused2 .result)) answer buffer))
 
-from-8-requires : tie.Need-from-8-requires
-from-8-requires c κs = let l = in-limits (c .before .before .before) in (l .some, l .most, l .columns, l .table, l .buffer)
+plot-from-8-requires : tie.Need-plot-from-8-requires
+plot-from-8-requires c κs = let l = in-limits (c .before .before .before) in (l .some, l .most, l .columns, l .table, l .buffer)
 
 same-length : tie.Need-same-length
 same-length c = search needs
@@ -76,9 +76,9 @@ returns-3 c =
     let yes6 : withinLimits (a .plots) (a .columns) (length levels) (length family) ≡ true = sym (w .within .ensures) ∙ not-false _ (z .before .if1 .left) in
     let yes7 : allNonzero (columnsFrom (a .plots) levels 0 (a .columns)) ≡ true = sym (z .all-nonzero .ensures) ∙ not-false _ (d .if2 .left) in
     let e = design-8 (a .plots) (a .columns) levels (length family) yes6 yes7 in
-    let answer = f .from-8 .ensures .0 ∙ ap plotNumbersOf (sym e) in
-    let buffer = f .from-8 .ensures .1 ∙ ap (plotBuffer family) (sym e) in
-    (answer, (buffer, demanded (a .plots) (a .columns) levels family (f .from-8 .last .1 .1 .1 .0) (plotNumbers (f .from-8 .result)) answer buffer))
+    let answer = f .plot-from-8 .ensures .0 ∙ ap plotNumbersOf (sym e) in
+    let buffer = f .plot-from-8 .ensures .1 ∙ ap (plotBuffer family) (sym e) in
+    (answer, (buffer, demanded (a .plots) (a .columns) levels family (f .plot-from-8 .last .1 .1 .1 .0) (plotNumbers (f .plot-from-8 .result)) answer buffer))
 
 pub plot-design-spec : {M : Type 1} → statement M
 plot-design-spec =
@@ -90,6 +90,6 @@ plot-design-spec =
     all-nonzero-requires
     refused-requires-2
     returns-2
-    from-8-requires
+    plot-from-8-requires
     same-length
     returns-3)

@@ -1,10 +1,10 @@
--- `design::full_refused` meets its contract.
+-- `verdict::full_refused` meets its contract.
 -- Assumes nothing.
 use native.Mathlib.Omega.{arith}
 use borrow.Author.Tests.{ne-eqb}
 use Rattle.design.specs.Answers.{fullNumbers, fullNumbersOf}
-use Rattle.design.proofs.full_refused.Statement.{statement}
-use Rattle.design.proofs.full_refused.Tie as tie
+use Rattle.design.proofs.verdict.full_refused.Statement.{statement}
+use Rattle.design.proofs.verdict.full_refused.Tie as tie
 
 returns : tie.Need-returns
 unfolding fullNumbers fullNumbersOf

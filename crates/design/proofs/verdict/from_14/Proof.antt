@@ -1,4 +1,4 @@
--- `design::from_14` meets its contract: the final treatment family, or the first where the final one is too large.
+-- `verdict::from_14` meets its contract: the final treatment family, or the first where the final one is too large.
 -- Assumes nothing.
 use mathlib.Core.Path.{refl, sym, ap, _∙_, subst}
 use mathlib.Core.List.{List}
@@ -10,20 +10,19 @@ use Rattle.rules.specs.Closing.{finalTreatmentFamily}
 use Rattle.rules.proofs.Buffer.{length-members}
 use Rattle.design.specs.Answers.{fullNumbers}
 use Rattle.design.proofs.FullAnswered.{full-refusing-is, full-accepting-is, told-14-over, told-14-on, told-buffer, final-exceeds, final-fits}
-use Rattle.design.proofs.from_14.Statement.{statement}
-use Rattle.design.proofs.from_14.Tie as tie
+use Rattle.design.proofs.verdict.from_14.Statement.{statement}
+use Rattle.design.proofs.verdict.from_14.Tie as tie
 
 final-family-requires : tie.Need-final-family-requires
 final-family-requires c κs = search needs
 
-copy-family-requires : tie.Need-copy-family-requires
-copy-family-requires c κs = search needs
+treatments-refused-requires : tie.Need-treatments-refused-requires
+treatments-refused-requires c κs = search needs
 
 same-length : tie.Need-same-length
 same-length c = search needs
 
 returns : tie.Need-returns
-unfolding fullNumbers
 returns c =
     let k = c .before .before in
     let f = k .before .before .before .before .before in
@@ -33,8 +32,8 @@ returns c =
     let S = membersOf n (now (s .args .first)) (s .args .size) in
     let x = final-exceeds (f .final-family .ensures) (k .before .before .if1 .taken) in
     let t = told-14-over P S (finalTreatmentFamily P S) (x .0) in (
-      full-refusing-is 14 refl refl (sym (length-members n (s .pre .1) (now (s .args .plot-family)) (s .args .plot))) (sym (length-members n (s .pre .1) (now (s .args .first)) (s .args .size))) ∙ sym (t .numbers),
-      k .copy-family .ensures ∙ ap (λ (b : List ℕ). written b 0 S) (x .1) ∙ sym (told-buffer (now (s .args .treatment-family)) t),
+      k .treatments-refused .ensures .0 ∙ full-refusing-is 14 refl refl (sym (length-members n (s .pre .1) (now (s .args .plot-family)) (s .args .plot))) (sym (length-members n (s .pre .1) (now (s .args .first)) (s .args .size))) ∙ sym (t .numbers),
+      k .treatments-refused .ensures .1 ∙ ap (λ (b : List ℕ). written b 0 S) (x .1) ∙ sym (told-buffer (now (s .args .treatment-family)) t),
     )
 
 same-length-2 : tie.Need-same-length-2
@@ -57,7 +56,7 @@ from-14-spec =
     tie.close
     (tie.spec
     final-family-requires
-    copy-family-requires
+    treatments-refused-requires
     same-length
     returns
     same-length-2

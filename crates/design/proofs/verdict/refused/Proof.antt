@@ -1,10 +1,10 @@
--- `design::refused` meets its contract.
+-- `verdict::refused` meets its contract.
 -- Assumes nothing.
 use borrow.Author.Tests.{ne-eqb}
 use native.Mathlib.Omega.{arith}
 use Rattle.design.specs.Answers.{plotNumbers, plotNumbersOf}
-use Rattle.design.proofs.refused.Statement.{statement}
-use Rattle.design.proofs.refused.Tie as tie
+use Rattle.design.proofs.verdict.refused.Statement.{statement}
+use Rattle.design.proofs.verdict.refused.Tie as tie
 
 returns : tie.Need-returns
 unfolding plotNumbers plotNumbersOf

@@ -1,4 +1,4 @@
--- `design::from_9` meets its contract: questions 9 and 10 of the family that is written.
+-- `verdict::from_9` meets its contract: questions 9 and 10 of the family that is written.
 -- Assumes nothing.
 use mathlib.Core.Path.{_≡_, sym, ap, ap₂, _∙_}
 use Prim.Native.Nat.{ℕ}
@@ -13,10 +13,10 @@ use Rattle.design.specs.Answers.{plotNumbers, plotNumbersOf}
 use Rattle.design.specs.declared.questions.Places as found
 use Rattle.design.specs.Judging.{apartAt}
 use Rattle.design.proofs.Answered.{refusing, refusing-is, accepting, numbers-9, numbers-10, numbers-0, nine-passed}
-use Rattle.design.proofs.from_9.Statement.{statement}
-use Rattle.design.proofs.from_9.Tie as tie
-use Rattle.design.proofs.from_9.Reads as reads
-use Rattle.design.proofs.from_9.Lts as lts
+use Rattle.design.proofs.verdict.from_9.Statement.{statement}
+use Rattle.design.proofs.verdict.from_9.Tie as tie
+use Rattle.design.proofs.verdict.from_9.Reads as reads
+use Rattle.design.proofs.verdict.from_9.Lts as lts
 
 first-unequal-requires : tie.Need-first-unequal-requires
 first-unequal-requires c κs = search needs

@@ -1,0 +1,243 @@
+// The judging step: questions 8 to 14 of families that are closed, in turn, and what is written.
+ghost use mathlib.Core.Path.{_≡_};
+ghost use Prim.Native.Nat.{_≤_, _<_};
+ghost use lib.ListN.{length};
+ghost use Rattle.rules.specs.Factor.{uniform, orthogonal};
+ghost use Rattle.rules.specs.Family.{membersOf, written};
+ghost use Rattle.rules.specs.Closing.{finalTreatmentFamily};
+ghost use Rattle.rules.specs.Design.{refused, question8, question9, firstFailing, plotBuffer, question11, question12, question13, question14, firstPair, firstCross, treatmentBuffer};
+ghost use Rattle.design.specs.Judging.{Judging};
+ghost use Rattle.design.specs.Closings.{closedIn, Ready, goesOn};
+ghost use Rattle.design.specs.Answers.{plotNumbers, plotNumbersOf, fullNumbers, fullNumbersOf, fullRefusing};
+use crate::FullDesign;
+use crate::FullRefusal;
+use crate::PlotDesign;
+use crate::PlotRefusal;
+use crate::Sizes;
+use crate::closing::PAIRS;
+use crate::closing::TOO_MANY;
+use crate::families::PlotClosing;
+use crate::pairs::first_cross;
+use crate::pairs::first_pair;
+use crate::questions::first_apart;
+use crate::questions::first_unequal;
+use crate::treatments::copy_family;
+use crate::treatments::final_family;
+use limits::MEMBERS;
+
+// A refusal that writes nothing.
+pub fn refused(number: u32) -> PlotDesign
+    requires { ⌜ 0 < number ⌝ }
+    ensures { λ r. ⌜ plotNumbers r ≡ plotNumbersOf (refused number) ⌝ }
+{
+    PlotDesign::Refused(PlotRefusal {
+        number,
+        first: 0,
+        second: 0,
+        size: 0,
+    })
+}
+
+// A refusal that writes nothing.
+pub fn full_refused(number: u32) -> FullDesign
+    requires { ⌜ 0 < number ⌝ }
+    ensures { λ r. ⌜ fullNumbers r ≡ fullNumbersOf (refused number) ⌝ }
+{
+    FullDesign::Refused(FullRefusal {
+        number,
+        first: 0,
+        second: 0,
+        plot: 0,
+        treatment: 0,
+    })
+}
+
+// Questions 8 to 10 of a closed plot family, which is written where 8 is passed.
+pub fn judge_plots(plot: &[u8], closing: PlotClosing, n: usize, family: &mut [u8]) -> PlotDesign
+    requires { ⌜ Ready n (closing .size) (now plot) (closing .order) (closing .counts) (closing .meets) (closing .joins) × (7680 ≤ length (now family)) ⌝ }
+    ensures answer { λ r. ⌜ plotNumbers r ≡ plotNumbersOf (question8 n (closedIn n (now (plot .entry)) (closing .size))) ⌝ }
+    ensures buffer { λ _. ⌜ now (family .exit) ≡ plotBuffer (now (family .entry)) (question8 n (closedIn n (now (plot .entry)) (closing .size))) ⌝ }
+{
+    let size = closing.size;
+    if size == TOO_MANY {
+        return refused(8);
+    }
+    copy_family(plot, n, size, family);
+    let order = closing.order;
+    let counts = closing.counts;
+    let meets = closing.meets;
+    let joins = closing.joins;
+    from_9(&order, &counts, &meets, &joins, n, size, plot)
+}
+
+// Questions 9 and 10 of a family that is written.
+fn from_9(
+    order: &[u8; MEMBERS],
+    counts: &[u8; MEMBERS],
+    meets: &[u8; PAIRS],
+    joins: &[u8; PAIRS],
+    n: usize,
+    size: usize,
+    family: &[u8],
+) -> PlotDesign
+    requires { ⌜ Judging n size (now family) (now order) (now counts) (now meets) (now joins) ⌝ }
+    ensures { λ r. ⌜ plotNumbers r ≡ plotNumbersOf (question9 n (membersOf n (now (family .entry)) size) (firstFailing (uniform n) 1 (membersOf n (now (family .entry)) size))) ⌝ }
+{
+    let unequal = first_unequal(family, n, size);
+    if unequal != 0 {
+        return PlotDesign::Refused(PlotRefusal {
+            number: 9,
+            first: unequal,
+            second: 0,
+            size,
+        });
+    }
+    let apart = first_apart(order, counts, meets, joins, size);
+    let first = apart.first;
+    if first != 0 {
+        return PlotDesign::Refused(PlotRefusal {
+            number: 10,
+            first,
+            second: apart.second,
+            size,
+        });
+    }
+    PlotDesign::Accepted(size)
+}
+
+// Questions 8 to 14 of a closed plot family and a closed first treatment family.
+pub fn judge(
+    plot: &[u8],
+    closing: PlotClosing,
+    first: &[u8],
+    size: usize,
+    n: usize,
+    plot_family: &mut [u8],
+    treatment_family: &mut [u8],
+) -> FullDesign
+    requires { ⌜ (1 ≤ n) × Ready n (closing .size) (now plot) (closing .order) (closing .counts) (closing .meets) (closing .joins) × (7680 ≤ length (now first)) × (size ≤ 33) × (7680 ≤ length (now «plot_family»)) × (7680 ≤ length (now «treatment_family»)) ⌝ }
+    ensures answer { λ r. ⌜ fullNumbers r ≡ fullNumbersOf (goesOn n (closedIn n (now (first .entry)) size) (question8 n (closedIn n (now (plot .entry)) (closing .size)))) ⌝ }
+    ensures plots { λ _. ⌜ now («plot_family» .exit) ≡ plotBuffer (now («plot_family» .entry)) (goesOn n (closedIn n (now (first .entry)) size) (question8 n (closedIn n (now (plot .entry)) (closing .size)))) ⌝ }
+    ensures treatments { λ _. ⌜ now («treatment_family» .exit) ≡ treatmentBuffer (now («treatment_family» .entry)) (goesOn n (closedIn n (now (first .entry)) size) (question8 n (closedIn n (now (plot .entry)) (closing .size)))) ⌝ }
+{
+    let answer = judge_plots(plot, closing, n, plot_family);
+    match answer {
+        PlotDesign::Refused(r) => FullDesign::Refused(FullRefusal {
+            number: r.number,
+            first: r.first,
+            second: r.second,
+            plot: r.size,
+            treatment: 0,
+        }),
+        PlotDesign::Accepted(held) => from_11(plot, held, first, size, n, treatment_family),
+    }
+}
+
+// A refusal by 11 to 14, which leaves `size` members of the first treatment family.
+fn treatments_refused(
+    number: u32,
+    i: usize,
+    j: usize,
+    plot: usize,
+    first: &[u8],
+    size: usize,
+    n: usize,
+    treatment_family: &mut [u8],
+) -> FullDesign
+    requires { ⌜ (n ≤ 240) × (size ≤ 32) × (7680 ≤ length (now first)) × (7680 ≤ length (now «treatment_family»)) ⌝ }
+    ensures answer { λ r. ⌜ fullNumbers r ≡ fullRefusing number i j plot size ⌝ }
+    ensures buffer { λ _. ⌜ now («treatment_family» .exit) ≡ written (now («treatment_family» .entry)) 0 (membersOf n (now (first .entry)) size) ⌝ }
+{
+    copy_family(first, n, size, treatment_family);
+    FullDesign::Refused(FullRefusal {
+        number,
+        first: i,
+        second: j,
+        plot,
+        treatment: size,
+    })
+}
+
+// Questions 11 to 14 of the first treatment family, with the plot family accepted.
+fn from_11(
+    plot_family: &[u8],
+    plot: usize,
+    first: &[u8],
+    size: usize,
+    n: usize,
+    treatment_family: &mut [u8],
+) -> FullDesign
+    requires { ⌜ (1 ≤ n) × (n ≤ 240) × (7680 ≤ length (now «plot_family»)) × (plot ≤ 32) × (7680 ≤ length (now first)) × (size ≤ 33) × (7680 ≤ length (now «treatment_family»)) ⌝ }
+    ensures answer { λ r. ⌜ fullNumbers r ≡ fullNumbersOf (question11 n (membersOf n (now («plot_family» .entry)) plot) (closedIn n (now (first .entry)) size)) ⌝ }
+    ensures buffer { λ _. ⌜ now («treatment_family» .exit) ≡ treatmentBuffer (now («treatment_family» .entry)) (question11 n (membersOf n (now («plot_family» .entry)) plot) (closedIn n (now (first .entry)) size)) ⌝ }
+{
+    if size == TOO_MANY {
+        return treatments_refused(11, 0, 0, plot, first, 0, n, treatment_family);
+    }
+    from_12(plot_family, plot, first, size, n, treatment_family)
+}
+
+// Questions 12 to 14 of the first treatment family.
+fn from_12(
+    plot_family: &[u8],
+    plot: usize,
+    first: &[u8],
+    size: usize,
+    n: usize,
+    treatment_family: &mut [u8],
+) -> FullDesign
+    requires { ⌜ (1 ≤ n) × (n ≤ 240) × (7680 ≤ length (now «plot_family»)) × (plot ≤ 32) × (7680 ≤ length (now first)) × (size ≤ 32) × (7680 ≤ length (now «treatment_family»)) ⌝ }
+    ensures answer { λ r. ⌜ fullNumbers r ≡ fullNumbersOf (question12 n (membersOf n (now («plot_family» .entry)) plot) (membersOf n (now (first .entry)) size) (firstPair (orthogonal n) 1 (membersOf n (now (first .entry)) size))) ⌝ }
+    ensures buffer { λ _. ⌜ now («treatment_family» .exit) ≡ treatmentBuffer (now («treatment_family» .entry)) (question12 n (membersOf n (now («plot_family» .entry)) plot) (membersOf n (now (first .entry)) size) (firstPair (orthogonal n) 1 (membersOf n (now (first .entry)) size))) ⌝ }
+{
+    let pair = first_pair(first, n, size);
+    let at = pair.first;
+    if at != 0 {
+        return treatments_refused(12, at, pair.second, plot, first, size, n, treatment_family);
+    }
+    from_13(plot_family, plot, first, size, n, treatment_family)
+}
+
+// Questions 13 and 14.
+fn from_13(
+    plot_family: &[u8],
+    plot: usize,
+    first: &[u8],
+    size: usize,
+    n: usize,
+    treatment_family: &mut [u8],
+) -> FullDesign
+    requires { ⌜ (1 ≤ n) × (n ≤ 240) × (7680 ≤ length (now «plot_family»)) × (plot ≤ 32) × (7680 ≤ length (now first)) × (size ≤ 32) × (7680 ≤ length (now «treatment_family»)) ⌝ }
+    ensures answer { λ r. ⌜ fullNumbers r ≡ fullNumbersOf (question13 (membersOf n (now («plot_family» .entry)) plot) (membersOf n (now (first .entry)) size) (firstCross (orthogonal n) 1 (membersOf n (now («plot_family» .entry)) plot) (membersOf n (now (first .entry)) size))) ⌝ }
+    ensures buffer { λ _. ⌜ now («treatment_family» .exit) ≡ treatmentBuffer (now («treatment_family» .entry)) (question13 (membersOf n (now («plot_family» .entry)) plot) (membersOf n (now (first .entry)) size) (firstCross (orthogonal n) 1 (membersOf n (now («plot_family» .entry)) plot) (membersOf n (now (first .entry)) size))) ⌝ }
+{
+    let pair = first_cross(plot_family, plot, first, size, n);
+    let at = pair.first;
+    if at != 0 {
+        return treatments_refused(13, at, pair.second, plot, first, size, n, treatment_family);
+    }
+    from_14(plot_family, plot, first, size, n, treatment_family)
+}
+
+// Question 14.
+fn from_14(
+    plot_family: &[u8],
+    plot: usize,
+    first: &[u8],
+    size: usize,
+    n: usize,
+    treatment_family: &mut [u8],
+) -> FullDesign
+    requires { ⌜ (1 ≤ n) × (n ≤ 240) × (7680 ≤ length (now «plot_family»)) × (plot ≤ 32) × (7680 ≤ length (now first)) × (size ≤ 32) × (7680 ≤ length (now «treatment_family»)) ⌝ }
+    ensures answer { λ r. ⌜ fullNumbers r ≡ fullNumbersOf (question14 (membersOf n (now («plot_family» .entry)) plot) (membersOf n (now (first .entry)) size) (finalTreatmentFamily (membersOf n (now («plot_family» .entry)) plot) (membersOf n (now (first .entry)) size))) ⌝ }
+    ensures buffer { λ _. ⌜ now («treatment_family» .exit) ≡ treatmentBuffer (now («treatment_family» .entry)) (question14 (membersOf n (now («plot_family» .entry)) plot) (membersOf n (now (first .entry)) size) (finalTreatmentFamily (membersOf n (now («plot_family» .entry)) plot) (membersOf n (now (first .entry)) size))) ⌝ }
+{
+    let last = final_family(plot_family, plot, first, size, n, treatment_family);
+    if last == TOO_MANY {
+        return treatments_refused(14, 0, 0, plot, first, size, n, treatment_family);
+    }
+    FullDesign::Accepted(Sizes {
+        plot,
+        treatment: last,
+    })
+}
