@@ -14,6 +14,7 @@ use Rattle.rules.proofs.Tests.{orthogonal-test, orthogonal-sym}
 use Rattle.rules.proofs.Bounds.{nested-orthogonal}
 use Rattle.rules.proofs.Walks.{Agree, agree-start, agree-new, agree-old, agree-finer, agree-not}
 use Rattle.factor.specs.declared.standing.Order.{Order}
+use Rattle.factor.specs.declared.standing.Standing.{Standing}
 use Rattle.factor.specs.Standing.{follows, named, equivalent, orderOf, ordered, saysFiner, saysCoarser, standingOf, stands, saysOrthogonal}
 
 -- ---- one direction, plot by plot
@@ -131,6 +132,6 @@ module _ (n : ℕ) (F G : Column) where
     nested-right e = orthogonal-test n F G .1 (orthogonal-sym n G F lG lF (nested-orthogonal n G F lG lF (finer-test n G F .0 e)))
 
     -- nested factors are orthogonal, so all but those apart are
-    pub says-orthogonal : saysOrthogonal (stands n F G) ≡ orthogonal n F G
+    pub orthogonal-by : {x : Standing} → stands n F G ≡ x → saysOrthogonal x ≡ orthogonal n F G
     unfolding stands ordered
-    says-orthogonal = orthogonal-of (finer n F G) (finer n G F) (orthogonal n F G) nested-left nested-right
+    orthogonal-by e = sym (ap saysOrthogonal e) ∙ orthogonal-of (finer n F G) (finer n G F) (orthogonal n F G) nested-left nested-right
