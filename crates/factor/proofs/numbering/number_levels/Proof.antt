@@ -6,7 +6,7 @@ use Prim.Native.Nat.{_+_, _-_, _≤_, _<_, min, max}
 use native.Mathlib.Omega.{arith}
 use borrow.Author.Needs.{needs}
 use denote.Ref.{now}
-use lib.ListN.{length, getD, length-set}
+use lib.ListN.{length, length-set}
 use Rattle.rules.specs.Factor.{at, number}
 use Rattle.rules.proofs.Numbering.{length-number}
 use Rattle.factor.proofs.Fill.{filled, filled-step, take-min, filled-number}

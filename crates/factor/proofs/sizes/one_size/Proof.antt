@@ -2,11 +2,11 @@
 -- Assumes nothing.
 use mathlib.Core.Path.{_≡_, sym, ap, _∙_}
 use mathlib.Core.Logic.{⊎-elim}
-use Prim.Native.Nat.{ℕ, _+_, _-_, _≤_, _<_}
+use Prim.Native.Nat.{ℕ, _-_, _≤_, _<_}
 use native.Mathlib.Omega.{arith}
 use denote.Ref.{now}
 use lib.Dec.{eqb}
-use lib.ListN.{length, getD}
+use lib.ListN.{getD}
 use borrow.Author.Tests.{eqb-true, eqb-false}
 use Rattle.rules.proofs.Numbering.{by-cases}
 use Rattle.factor.proofs.SizeTable.{one-size-yes, one-size-no}
@@ -54,14 +54,16 @@ loop-again : tie.Need-loop-again Inv-loop μ-loop
 loop-again c =
     let b = c .before .before in
     let same = b .loop .inv .1 in
-    let table = b .before .before .sizes .result in
-    (omega arith, λ y h nz. by-cases (eqb y (b .loop .x))
-    (λ e. let q : y ≡ b .loop .x = eqb-true _ _ e in
-    ⊎-elim
-    (λ w. ap (λ (z : ℕ). getD table z 0) q ∙ w .1 .left)
-    (λ w. absurd (nz (ap (λ (z : ℕ). getD table z 0) q ∙ w .left)))
-    (c .if1 .came))
-    (λ e. let ne : y ≡ b .loop .x → ⊥ = eqb-false _ _ e in same y (omega (arith, ne)) nz))
+    let table = b .before .before .sizes .result in (
+      omega arith,
+      λ y h nz. by-cases (eqb y (b .loop .x))
+          (λ e. let q : y ≡ b .loop .x = eqb-true _ _ e in
+          ⊎-elim
+          (λ w. ap (λ (z : ℕ). getD table z 0) q ∙ w .1 .left)
+          (λ w. absurd (nz (ap (λ (z : ℕ). getD table z 0) q ∙ w .left)))
+          (c .if1 .came))
+          (λ e. let ne : y ≡ b .loop .x → ⊥ = eqb-false _ _ e in same y (omega (arith, ne)) nz),
+    )
 
 returns-2 : tie.Need-returns-2 Inv-loop μ-loop
 returns-2 c =
