@@ -33,7 +33,7 @@ use Rattle.design.proofs.Start.{begun-more}
 -- ---- lent members
 
 -- a test of two columns on n plots looks at them whole
-pub lent-test : (test : ℕ → Column → Column → Bool) (n : ℕ) (F G : Column) → length F ≡ n → length G ≡ n → n ≤ 240 → testCommon test F G ≡ test n F G
+pub lent-test : {A : Type 0} (test : ℕ → Column → Column → A) (n : ℕ) (F G : Column) → length F ≡ n → length G ≡ n → n ≤ 240 → testCommon test F G ≡ test n F G
 lent-test test n F G a b h =
     let e : common F G ≡ n = omega arith in
     ap (λ (k : ℕ). test k (take k F) (take k G)) e ∙ ap₂ (test n) (take-all n F (le-of-eq a)) (take-all n G (le-of-eq b))

@@ -4,12 +4,14 @@ ghost use mathlib.Core.Bool.{Bool, true, false};
 ghost use mathlib.Core.List.{List};
 ghost use Prim.Native.Nat.{ℕ, _+_, _*_, _≤_, _<_};
 ghost use lib.ListN.{length, getD};
-ghost use Rattle.rules.specs.Factor.{Column, classes, finer, infimum, supremum};
+ghost use Rattle.rules.specs.Factor.{Column, classes, infimum, supremum};
 ghost use Rattle.rules.specs.Family.{membersOf};
 ghost use Rattle.factor.specs.Lent.{overlay};
+ghost use Rattle.factor.specs.Standing.{ordered, saysFiner, saysCoarser};
 ghost use Rattle.design.specs.State.{columnIn, Held, Placed, Work, Kept, Stepped, Closed};
 use crate::store::grown;
 use crate::store::place;
+use factor::Order;
 use limits::MEMBERS;
 use limits::PLOTS;
 
@@ -19,16 +21,40 @@ pub const TOO_MANY: usize = 33;
 // The cells of a table with a row of 32 places for each member.
 pub const PAIRS: usize = 1024;
 
-// Whether member `i` is finer than or equivalent to member `j`.
-fn member_finer(store: &[u8], n: usize, i: usize, j: usize) -> bool
+// How members `i` and `j` are ordered.
+fn member_order(store: &[u8], n: usize, i: usize, j: usize) -> Order
     requires { ⌜ (n ≤ 240) × (length (now store) ≡ 7680) × (i < 32) × (j < 32) ⌝ }
-    ensures { λ r. ⌜ r ≡ finer n (columnIn n (now (store .entry)) i) (columnIn n (now (store .entry)) j) ⌝ }
+    ensures { λ r. ⌜ r ≡ ordered n (columnIn n (now (store .entry)) i) (columnIn n (now (store .entry)) j) ⌝ }
 {
     let a = PLOTS * i;
     let b = PLOTS * j;
     let c = a + n;
     let d = b + n;
-    factor::finer(&store[a..c], &store[b..d])
+    factor::order_of(&store[a..c], &store[b..d])
+}
+
+// Whether an order says that the first is finer than or equivalent to the second.
+fn is_finer(order: Order) -> bool
+    ensures { λ r. ⌜ r ≡ saysFiner order ⌝ }
+{
+    match order {
+        Order::Equivalent => true,
+        Order::Finer => true,
+        Order::Coarser => false,
+        Order::Neither => false,
+    }
+}
+
+// Whether it says that the second is finer than or equivalent to the first.
+fn is_coarser(order: Order) -> bool
+    ensures { λ r. ⌜ r ≡ saysCoarser order ⌝ }
+{
+    match order {
+        Order::Equivalent => true,
+        Order::Finer => false,
+        Order::Coarser => true,
+        Order::Neither => false,
+    }
 }
 
 // Writes the infimum of two members; answers its number of classes.
@@ -160,12 +186,13 @@ fn combine(
     ensures step { λ r. ⌜ ((Gs : List Column) → Work n infima Gs (now (store .entry)) (now (counts .entry)) (now (meets .entry)) (now (joins .entry)) size i j → Stepped n infima Gs (now (store .exit)) (now (counts .exit)) (now (meets .exit)) (now (joins .exit)) r i (j + 1)) ⌝ }
 {
     let at = MEMBERS * i + j;
-    if member_finer(store, n, i, j) {
+    let order = member_order(store, n, i, j);
+    if is_finer(order) {
         meets[at] = i as u8;
         joins[at] = j as u8;
         return size;
     }
-    if member_finer(store, n, j, i) {
+    if is_coarser(order) {
         meets[at] = j as u8;
         joins[at] = i as u8;
         return size;

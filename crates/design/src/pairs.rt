@@ -6,9 +6,10 @@ ghost use Rattle.rules.specs.Factor.{orthogonal};
 ghost use Rattle.design.specs.State.{columnIn};
 ghost use Rattle.design.specs.Search.{firstPairOf, firstCrossOf};
 use crate::questions::Places;
+use factor::Standing;
 use limits::PLOTS;
 
-// Whether the members at places `i` and `j` of two family buffers are orthogonal.
+// Whether the members at places `i` and `j` of two family buffers are orthogonal: all are but those apart.
 fn members_orthogonal(f: &[u8], i: usize, g: &[u8], j: usize, n: usize) -> bool
     requires { ⌜ (n ≤ 240) × (7680 ≤ length (now f)) × (7680 ≤ length (now g)) × (i < 32) × (j < 32) ⌝ }
     ensures { λ r. ⌜ r ≡ orthogonal n (columnIn n (now (f .entry)) i) (columnIn n (now (g .entry)) j) ⌝ }
@@ -17,7 +18,13 @@ fn members_orthogonal(f: &[u8], i: usize, g: &[u8], j: usize, n: usize) -> bool
     let b = PLOTS * j;
     let c = a + n;
     let d = b + n;
-    factor::orthogonal(&f[a..c], &g[b..d])
+    match factor::standing_of(&f[a..c], &g[b..d]) {
+        Standing::Equivalent => true,
+        Standing::Finer => true,
+        Standing::Coarser => true,
+        Standing::Orthogonal => true,
+        Standing::Apart => false,
+    }
 }
 
 // 12: the first pair of places of a family whose members are not orthogonal.

@@ -1,8 +1,8 @@
 -- Laws of the labels seen, chained by buckets.
 -- Assumes nothing.
-use mathlib.Core.Path.{_≡_, refl, sym, ap, _∙_}
+use mathlib.Core.Path.{_≡_, refl, sym, ap, _∙_, subst}
 use mathlib.Core.List.{List}
-use Prim.Native.Nat.{ℕ, zero, suc, _+_, _≤_, _<_, zero-le}
+use Prim.Native.Nat.{ℕ, zero, suc, _+_, _≤_, _<_, max, zero-le}
 use native.Mathlib.Nat.{not-suc-le-zero}
 use native.Mathlib.Omega.{arith}
 use lib.Dec.{eqb}
@@ -12,7 +12,7 @@ use borrow.Author.Tests.{eqb-true, eqb-false, eq-eqb, ne-eqb}
 use Rattle.rules.specs.Factor.{Column, at, number, classes}
 use Rattle.rules.proofs.Numbering.{by-cases}
 use Rattle.rules.proofs.Columns.{Tells, tells-none}
-use Rattle.factor.specs.Seen.{bucketOf, lookUp, Descends}
+use Rattle.factor.specs.Seen.{bucketOf, lookUp, Descends, Chained, look, unlessFound, Entered}
 use Rattle.factor.proofs.Table.{stepped-old, stepped-new, getD-zeros, classes-none}
 
 module _ (labels chain : List ℕ) (x : ℕ) where
@@ -58,17 +58,19 @@ module _ (labels chain : List ℕ) (x : ℕ) where
       let r = look-le k d m (getD chain (suc c) 0) (omega arith) in
       rw (look-miss m (suc c) (λ z. omega arith) (eqb-false _ _ e)) (omega arith))
 
--- the class labelled y, looked up in its bucket
-abbrev pub look : List ℕ → List ℕ → List ℕ → ℕ → ℕ
-look labels chain last y = lookUp labels chain y 241 (getD last (bucketOf y) 0)
+-- which of the two it is
+module _ {A : Type 0} (new old : A) where
+  pub not-found : (found : ℕ) → found ≡ 0 → new ≡ unlessFound found new old
+  not-found zero e = refl
+  not-found (suc c) e = absurd (omega arith)
 
--- each bucket starts at one of the classes 1 to k, or is empty
-abbrev pub Heads : List ℕ → ℕ → Type 0
-Heads last k = (b : ℕ) → getD last b 0 ≤ k
+  pub was-found : (found : ℕ) → (found ≡ 0 → ⊥) → old ≡ unlessFound found new old
+  was-found zero h = absurd (h refl)
+  was-found (suc c) h = refl
 
 -- class k + 1 with the label x is put in front of its bucket
 module _ (labels chain last : List ℕ) (k x : ℕ) (ll : length labels ≡ 241) (lc : length chain ≡ 241) (room : k < 240) (inside : bucketOf x < length last)
-    (d : Descends chain k) (heads : Heads last k) where
+    (d : Descends chain k) (heads : (b : ℕ) → getD last b 0 ≤ k) where
   abbrev labels′ : List ℕ
   labels′ = set labels (k + 1) x
 
@@ -130,7 +132,7 @@ module _ (labels chain last : List ℕ) (k x : ℕ) (ll : length labels ≡ 241)
       (λ e. let q : c ≡ k + 1 = eqb-true _ _ e in rw (q, chain-here) (omega (arith, heads (bucketOf x))))
       (λ e. let ne : c ≡ k + 1 → ⊥ = eqb-false _ _ e in let l : c ≤ k = omega (arith, ne) in rw (chain-stays c l) (d c p l))
 
-  pub heads-new : Heads last′ (k + 1)
+  pub heads-new : (b : ℕ) → getD last′ b 0 ≤ k + 1
   heads-new b =
       by-cases (eqb b (bucketOf x))
       (λ e. let q : b ≡ bucketOf x = eqb-true _ _ e in rw (q, getD-set-same last (bucketOf x) (k + 1) 0 inside) (omega arith))
@@ -138,13 +140,9 @@ module _ (labels chain last : List ℕ) (k x : ℕ) (ll : length labels ≡ 241)
 
 -- the labels of the plots before plot u, chained; there are k
 pub record Seen (F : Column) (u : ℕ) (labels chain last : List ℕ) (k : ℕ) : Type 0 where
-  pub labels-room : length labels ≡ 241
-  pub chain-room : length chain ≡ 241
-  pub last-room : length last ≡ 1024
+  pub chained : Chained labels chain last k
   pub count : k ≡ classes (take u F)
   pub tells : Tells F u (look labels chain last)
-  pub descends : Descends chain k
-  pub heads : Heads last k
 
 pub bucket-less : (x : ℕ) → bucketOf x < 1024
 unfolding bucketOf
@@ -152,13 +150,15 @@ bucket-less x = omega arith
 
 pub seen-none : (F : Column) → Seen F 0 (replicate 241 0) (replicate 241 0) (replicate 1024 0) 0
 seen-none F = record {
-  labels-room = length-replicate {A = ℕ} 241 0;
-  chain-room = length-replicate {A = ℕ} 241 0;
-  last-room = length-replicate {A = ℕ} 1024 0;
+  chained = record {
+    labels-room = length-replicate {A = ℕ} 241 0;
+    chain-room = length-replicate {A = ℕ} 241 0;
+    last-room = length-replicate {A = ℕ} 1024 0;
+    descends = λ c p h. rw (getD-zeros 241 c) p;
+    heads = λ b. rw (getD-zeros 1024 b) zero-le;
+  };
   count = classes-none;
   tells = tells-none F (look labels chain last) (λ y. ap (lookUp labels chain y 241) (getD-zeros 1024 (bucketOf y)) ∙ look-end labels chain y 241);
-  descends = λ c p h. rw (getD-zeros 241 c) p;
-  heads = λ b. rw (getD-zeros 1024 b) zero-le;
 }
   where
     labels : List ℕ
@@ -172,37 +172,53 @@ seen-none F = record {
 
 module _ (F : Column) (u : ℕ) (labels chain last : List ℕ) (k : ℕ) (seen : Seen F u labels chain last k) (h : u < length F) where
   -- a label seen before
-  pub seen-old : (look labels chain last (at F u) ≡ 0 → ⊥) → Seen F (u + 1) labels chain last k × (look labels chain last (at F u) ≡ at (number F) u)
+  seen-old : (look labels chain last (at F u) ≡ 0 → ⊥) → Seen F (u + 1) labels chain last k × (look labels chain last (at F u) ≡ at (number F) u)
   seen-old ne =
-      let t = stepped-old F u h (look labels chain last) (seen .tells) k (seen .count) ne in (
-        record {
-          labels-room = seen .labels-room;
-          chain-room = seen .chain-room;
-          last-room = seen .last-room;
-          count = t .count;
-          tells = t .tells;
-          descends = seen .descends;
-          heads = seen .heads;
-        },
-        t .here,
-      )
+      let t = stepped-old F u h (look labels chain last) (seen .tells) k (seen .count) ne in
+      (record { chained = seen .chained; count = t .count; tells = t .tells }, t .here)
 
   -- a new label
-  pub seen-new : k < 240 → look labels chain last (at F u) ≡ 0
+  seen-new : k < 240 → look labels chain last (at F u) ≡ 0
       → Seen F (u + 1) (set labels (k + 1) (at F u)) (set chain (k + 1) (getD last (bucketOf (at F u)) 0)) (set last (bucketOf (at F u)) (k + 1)) (k + 1) × (k + 1 ≡ at (number F) u)
   seen-new room z =
       let x = at F u in
-      let inside : bucketOf x < length last = omega (arith, bucket-less x, seen .last-room) in
-      let l = look-new labels chain last k x (seen .labels-room) (seen .chain-room) room inside (seen .descends) (seen .heads) in
-      let t = stepped-new F u h (look labels chain last) (seen .tells) k (seen .count) z _ l (look-other labels chain last k x (seen .labels-room) (seen .chain-room) room inside (seen .descends) (seen .heads)) in (
+      let s = seen .chained in
+      let inside : bucketOf x < length last = omega (arith, bucket-less x, s .last-room) in
+      let l = look-new labels chain last k x (s .labels-room) (s .chain-room) room inside (s .descends) (s .heads) in
+      let t = stepped-new F u h (look labels chain last) (seen .tells) k (seen .count) z _ l (look-other labels chain last k x (s .labels-room) (s .chain-room) room inside (s .descends) (s .heads)) in (
         record {
-          labels-room = length-set labels (k + 1) x ∙ seen .labels-room;
-          chain-room = length-set chain (k + 1) (getD last (bucketOf x) 0) ∙ seen .chain-room;
-          last-room = length-set last (bucketOf x) (k + 1) ∙ seen .last-room;
+          chained = record {
+            labels-room = length-set labels (k + 1) x ∙ s .labels-room;
+            chain-room = length-set chain (k + 1) (getD last (bucketOf x) 0) ∙ s .chain-room;
+            last-room = length-set last (bucketOf x) (k + 1) ∙ s .last-room;
+            descends = descends-new labels chain last k x (s .labels-room) (s .chain-room) room inside (s .descends) (s .heads);
+            heads = heads-new labels chain last k x (s .labels-room) (s .chain-room) room inside (s .descends) (s .heads);
+          };
           count = t .count;
           tells = t .tells;
-          descends = descends-new labels chain last k x (seen .labels-room) (seen .chain-room) room inside (seen .descends) (seen .heads);
-          heads = heads-new labels chain last k x (seen .labels-room) (seen .chain-room) room inside (seen .descends) (seen .heads);
         },
         sym l ∙ t .here,
       )
+
+  -- either way
+  seen-step : k < 240 → (found : ℕ) → look labels chain last (at F u) ≡ found
+      → Seen F (u + 1) (unlessFound found (set labels (k + 1) (at F u)) labels) (unlessFound found (set chain (k + 1) (getD last (bucketOf (at F u)) 0)) chain)
+      (unlessFound found (set last (bucketOf (at F u)) (k + 1)) last) (max k (unlessFound found (k + 1) found))
+      × (unlessFound found (k + 1) found ≡ at (number F) u) × (unlessFound found (k + 1) found ≤ k + 1)
+  seen-step room zero e =
+      let n = seen-new room e in
+      let m : k + 1 ≡ max k (k + 1) = omega arith in
+      (subst (Seen F (u + 1) (set labels (k + 1) (at F u)) (set chain (k + 1) (getD last (bucketOf (at F u)) 0)) (set last (bucketOf (at F u)) (k + 1))) m (n .0), n .1, omega arith)
+  seen-step room (suc c) e =
+      let n = seen-old (λ z. let q : suc c ≡ 0 = sym e ∙ z in omega arith) in
+      let l = look-le labels chain (at F u) k (seen .chained .descends) 241 (getD last (bucketOf (at F u)) 0) (seen .chained .heads (bucketOf (at F u))) in
+      let m : k ≡ max k (suc c) = omega (arith, e, l, seen .chained .heads (bucketOf (at F u))) in
+      (subst (Seen F (u + 1) labels chain last) m (n .0), sym e ∙ n .1, omega (arith, e, l, seen .chained .heads (bucketOf (at F u))))
+
+  -- the label of plot u is entered: c is its class, and the last class is the later of k and c
+  pub seen-entered : k < 240 → {labels′ chain′ last′ : List ℕ} {x c : ℕ} → x ≡ at F u → Entered labels chain last k x labels′ chain′ last′ c
+      → Seen F (u + 1) labels′ chain′ last′ (max k c) × (c ≡ at (number F) u) × (c ≤ k + 1)
+  seen-entered room {labels′} {chain′} {last′} {x} {c} q e =
+      let d = subst (λ (y : ℕ). Entered labels chain last k y labels′ chain′ last′ c) q e in
+      let n = seen-step room (look labels chain last (at F u)) refl in
+      (rw (d .label, d .link, d .front, d .class) (n .0), d .class ∙ n .1, rw (d .class) (n .2))

@@ -1,10 +1,11 @@
 -- The labels seen, chained by buckets: class c has a label, and the class before it in its bucket. Class 0 ends a chain.
 -- Assumes nothing.
+use mathlib.Core.Path.{_≡_}
 use mathlib.Core.Bool.{true, false}
 use mathlib.Core.List.{List}
 use Prim.Native.Nat.{ℕ, zero, suc, _+_, _*_, _/_, _%_, _<_, _≤_}
 use lib.Dec.{eqb}
-use lib.ListN.{getD}
+use lib.ListN.{length, getD, set}
 
 -- the bucket of a label
 unfoldable pub bucketOf : ℕ → ℕ
@@ -22,3 +23,27 @@ lookUp labels chain x (suc m) (suc c) = elim (eqb (getD labels (suc c) 0) x) [
 -- each of the classes 1 to k is chained to an earlier one
 abbrev pub Descends : List ℕ → ℕ → Type 0
 Descends chain k = (c : ℕ) → 0 < c → c ≤ k → getD chain c 0 < c
+
+-- room for 240 classes, of which k are chained; each bucket starts at one of them, or is empty
+pub record Chained (labels chain last : List ℕ) (k : ℕ) : Type 0 where
+  pub labels-room : length labels ≡ 241
+  pub chain-room : length chain ≡ 241
+  pub last-room : length last ≡ 1024
+  pub descends : Descends chain k
+  pub heads : (b : ℕ) → getD last b 0 ≤ k
+
+-- the class labelled x, looked up in its bucket
+abbrev pub look : List ℕ → List ℕ → List ℕ → ℕ → ℕ
+look labels chain last x = lookUp labels chain x 241 (getD last (bucketOf x) 0)
+
+-- one where no class was found, the other where one was
+abbrev pub unlessFound : {A : Type 0} → ℕ → A → A → A
+unlessFound zero new old = new
+unlessFound (suc c) new old = old
+
+-- the class labelled x among k classes is c, the next where there was none: then it is put in front of its bucket
+pub record Entered (labels chain last : List ℕ) (k x : ℕ) (labels′ chain′ last′ : List ℕ) (c : ℕ) : Type 0 where
+  pub class : c ≡ unlessFound (look labels chain last x) (k + 1) (look labels chain last x)
+  pub label : labels′ ≡ unlessFound (look labels chain last x) (set labels (k + 1) x) labels
+  pub link : chain′ ≡ unlessFound (look labels chain last x) (set chain (k + 1) (getD last (bucketOf x) 0)) chain
+  pub front : last′ ≡ unlessFound (look labels chain last x) (set last (bucketOf x) (k + 1)) last

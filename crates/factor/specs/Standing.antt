@@ -1,16 +1,83 @@
--- Tests of two lent columns.
+-- Tests of two lent columns, and how two factors stand to each other.
 -- Assumes nothing.
-use mathlib.Core.Bool.{Bool}
+use mathlib.Core.Bool.{Bool, true, false, not, _&&_, _||_}
+use mathlib.Core.List.{List}
 use Prim.Native.Nat.{ℕ, _*_}
 use lib.Dec.{eqb}
-use Rattle.rules.specs.Factor.{Column, every, classSize}
+use lib.ListN.{getD, set}
+use Rattle.rules.specs.Factor.{Column, at, same, every, finer, classSize, orthogonal}
+use Rattle.factor.specs.declared.standing.Order.{Order}
+use Rattle.factor.specs.declared.standing.Order.the-variants as order
+use Rattle.factor.specs.declared.standing.Standing.{Standing}
+use Rattle.factor.specs.declared.standing.Standing.the-variants as standing
 use Rattle.factor.specs.Lent.{common, onCommon}
 
 -- a test of two columns over their common plots
-abbrev pub testCommon : (ℕ → Column → Column → Bool) → Column → Column → Bool
+abbrev pub testCommon : {A : Type 0} → (ℕ → Column → Column → A) → Column → Column → A
 testCommon test F G = onCommon (test (common F G)) F G
 
 -- for each plot the sizes of its classes in A and B make the product that those in F and G make
 unfoldable pub balanced : ℕ → Column → Column → Column → Column → Bool
 unfolding every classSize
 balanced n A B F G = every n (λ u. eqb (classSize n A u * classSize n B u) (classSize n F u * classSize n G u))
+
+-- ---- one plot of each class stands for it: the table t names it at the label of the class
+
+-- plot u shares a G-class with the plot named for its F-class, if one is named
+unfoldable pub follows : Column → Column → ℕ → List ℕ → Bool
+follows F G u t = not (same F (getD t (at F u) 0) u) || same G (getD t (at F u) 0) u
+
+-- the table with plot u named for its F-class, if none was
+unfoldable pub named : Column → ℕ → List ℕ → List ℕ
+named F u t = elim (same F (getD t (at F u) 0) u) [ true ↦ t | false ↦ set t (at F u) u ]
+
+-- ---- how two factors stand to each other
+
+-- "F and G are equivalent when this holds both ways"
+unfoldable pub equivalent : ℕ → Column → Column → Bool
+unfolding finer
+equivalent n F G = finer n F G && finer n G F
+
+-- by whether F is finer than or equivalent to G, and G than or to F
+unfoldable pub orderOf : Bool → Bool → Order
+orderOf true true = order.Equivalent
+orderOf true false = order.Finer
+orderOf false true = order.Coarser
+orderOf false false = order.Neither
+
+unfoldable pub ordered : ℕ → Column → Column → Order
+unfolding orderOf finer
+ordered n F G = orderOf (finer n F G) (finer n G F)
+
+-- what an order says of F and G, and of G and F
+unfoldable pub saysFiner : Order → Bool
+saysFiner order.Equivalent = true
+saysFiner order.Finer = true
+saysFiner order.Coarser = false
+saysFiner order.Neither = false
+
+unfoldable pub saysCoarser : Order → Bool
+saysCoarser order.Equivalent = true
+saysCoarser order.Finer = false
+saysCoarser order.Coarser = true
+saysCoarser order.Neither = false
+
+-- the order, and for factors of which neither is finer whether they are orthogonal
+unfoldable pub standingOf : Order → Bool → Standing
+standingOf order.Equivalent b = standing.Equivalent
+standingOf order.Finer b = standing.Finer
+standingOf order.Coarser b = standing.Coarser
+standingOf order.Neither true = standing.Orthogonal
+standingOf order.Neither false = standing.Apart
+
+unfoldable pub stands : ℕ → Column → Column → Standing
+unfolding standingOf ordered orthogonal
+stands n F G = standingOf (ordered n F G) (orthogonal n F G)
+
+-- what a standing says of orthogonality
+unfoldable pub saysOrthogonal : Standing → Bool
+saysOrthogonal standing.Equivalent = true
+saysOrthogonal standing.Finer = true
+saysOrthogonal standing.Coarser = true
+saysOrthogonal standing.Orthogonal = true
+saysOrthogonal standing.Apart = false

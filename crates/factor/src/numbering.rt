@@ -1,19 +1,19 @@
 // Numbering by first appearance.
 ghost use mathlib.Core.Path.{_≡_};
-ghost use Prim.Native.Nat.{_≤_};
+ghost use Prim.Native.Nat.{_≤_, _<_};
 ghost use Rattle.rules.specs.Factor.{number, classes};
 ghost use Rattle.rules.specs.Family.{alike};
 ghost use Rattle.factor.specs.Lent.{plotsOf, overlay};
-ghost use Rattle.factor.specs.Seen.{bucketOf, lookUp, Descends};
+ghost use Rattle.factor.specs.Seen.{bucketOf, lookUp, Descends, Chained, Entered};
 use crate::plots::numbered_plots;
 use limits::Level;
 use limits::PLOTS;
 
 // Class numbers: 1 to 240, and 0 for none.
-const NUMBERS: usize = PLOTS + 1;
+pub(crate) const NUMBERS: usize = PLOTS + 1;
 
 // Buckets that labels are sorted into.
-const BUCKETS: usize = 1024;
+pub(crate) const BUCKETS: usize = 1024;
 
 // Numbers the plots of a column by first appearance; answers the number of classes.
 pub fn number(column: &[u8], out: &mut [u8; PLOTS]) -> usize
@@ -95,8 +95,32 @@ fn look_up(labels: &[Level; NUMBERS], chain: &[u8; NUMBERS], start: usize, x: Le
     0
 }
 
+// The class labelled `x`. Where none of the `k` classes is, the next becomes it: class c has its label and the class before it
+// in its bucket; `last` has the latest class of each bucket.
+pub(crate) fn entered(
+    labels: &mut [Level; NUMBERS],
+    chain: &mut [u8; NUMBERS],
+    last: &mut [u8; BUCKETS],
+    k: usize,
+    x: Level,
+) -> usize
+    requires { ⌜ (k < 240) × Chained (now labels) (now chain) (now last) k ⌝ }
+    ensures { λ r. ⌜ Entered (now (labels .entry)) (now (chain .entry)) (now (last .entry)) k x (now (labels .exit)) (now (chain .exit)) (now (last .exit)) r ⌝ }
+{
+    let b = bucket(x);
+    let start = last[b];
+    let found = look_up(labels, chain, start as usize, x);
+    if found != 0 {
+        return found;
+    }
+    let c = k + 1;
+    labels[c] = x;
+    chain[c] = start;
+    last[b] = c as u8;
+    c
+}
+
 // Numbers the plots of a column of levels by first appearance; answers the number of classes.
-// Class c has its label and the class before it in its bucket; `last` has the latest class of each bucket.
 pub fn number_levels(levels: &[Level], out: &mut [u8; PLOTS]) -> usize
     ensures answer { λ r. ⌜ r ≡ classes (plotsOf (now (levels .entry))) ⌝ }
     ensures numbers { λ _. ⌜ now (out .exit) ≡ overlay (now (out .entry)) (number (plotsOf (now (levels .entry)))) ⌝ }
@@ -108,16 +132,9 @@ pub fn number_levels(levels: &[Level], out: &mut [u8; PLOTS]) -> usize
     let mut last = [0u8; BUCKETS];
     let mut k: usize = 0;
     for u in 0..n {
-        let x = levels[u];
-        let b = bucket(x);
-        let start = last[b];
-        let mut c = look_up(&labels, &chain, start as usize, x);
-        if c == 0 {
-            k += 1;
-            labels[k] = x;
-            chain[k] = start;
-            last[b] = k as u8;
-            c = k;
+        let c = entered(&mut labels, &mut chain, &mut last, k, levels[u]);
+        if k < c {
+            k = c;
         }
         room[u] = c as u8;
     }

@@ -31,16 +31,19 @@ pub fn uniform(f: &[u8]) -> bool
     one_size(&f[..n])
 }
 
-// The same for a column that has a plot: each class has the size of the first plot's class.
+// The same for a column that has a plot: each label has no plot, or as many as that of the first plot.
 fn one_size(f: &[u8]) -> bool
     requires { ⌜ (0 < length (now f)) × (length (now f) ≤ 240) ⌝ }
     ensures { λ r. ⌜ r ≡ uniform (length (now (f .entry))) (now (f .entry)) ⌝ }
 {
     let table = sizes(f);
     let first = table[f[0] as usize];
-    for u in 1..f.len() {
-        if table[f[u] as usize] != first {
-            return false;
+    for x in 0..table.len() {
+        let size = table[x];
+        if size != 0 {
+            if size != first {
+                return false;
+            }
         }
     }
     true

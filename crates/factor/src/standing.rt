@@ -1,14 +1,68 @@
 // How two columns stand to each other.
 ghost use mathlib.Core.Path.{_≡_};
-ghost use Prim.Native.Nat.{_*_, _≤_};
-ghost use lib.ListN.{length};
+ghost use Prim.Native.Nat.{ℕ, _*_, _≤_, _<_};
+ghost use lib.ListN.{length, getD};
 ghost use Rattle.rules.specs.Factor.{finer, orthogonal};
-ghost use Rattle.factor.specs.Standing.{testCommon, balanced};
+ghost use Rattle.factor.specs.Standing.{testCommon, balanced, follows, named, equivalent, orderOf, ordered, stands};
 use crate::join::supremum;
 use crate::meet::infimum;
 use crate::plots::common_plots;
 use crate::sizes::sizes;
 use limits::PLOTS;
+
+// How two factors are ordered: the first is finer than the second, or coarser.
+pub enum Order {
+    Equivalent,
+    Finer,
+    Coarser,
+    Neither,
+}
+
+// How two factors stand to each other. All but those apart are orthogonal.
+pub enum Standing {
+    Equivalent,
+    Finer,
+    Coarser,
+    Orthogonal,
+    Apart,
+}
+
+// How two columns stand to each other over their common plots. Of two nested factors one walk tells it.
+pub fn standing_of(f: &[u8], g: &[u8]) -> Standing
+    ensures { λ r. ⌜ r ≡ testCommon stands (now (f .entry)) (now (g .entry)) ⌝ }
+{
+    match order_of(f, g) {
+        Order::Equivalent => Standing::Equivalent,
+        Order::Finer => Standing::Finer,
+        Order::Coarser => Standing::Coarser,
+        Order::Neither => {
+            if orthogonal(f, g) {
+                return Standing::Orthogonal;
+            }
+            Standing::Apart
+        }
+    }
+}
+
+// How two columns are ordered over their common plots.
+pub fn order_of(f: &[u8], g: &[u8]) -> Order
+    ensures { λ r. ⌜ r ≡ testCommon ordered (now (f .entry)) (now (g .entry)) ⌝ }
+{
+    let n = common_plots(f.len(), g.len());
+    order_whole(&f[..n], &g[..n])
+}
+
+// Whether two columns are equivalent over their common plots.
+pub fn equivalent(f: &[u8], g: &[u8]) -> bool
+    ensures { λ r. ⌜ r ≡ testCommon equivalent (now (f .entry)) (now (g .entry)) ⌝ }
+{
+    match order_of(f, g) {
+        Order::Equivalent => true,
+        Order::Finer => false,
+        Order::Coarser => false,
+        Order::Neither => false,
+    }
+}
 
 // Whether plots that share a class of `f` always share a class of `g`, over the common plots.
 pub fn finer(f: &[u8], g: &[u8]) -> bool
@@ -30,22 +84,74 @@ pub fn orthogonal(f: &[u8], g: &[u8]) -> bool
     balanced(&below[..n], &above[..n], &f[..n], &g[..n])
 }
 
-// The same for two columns of one length, in one walk: `first[x]` is a plot with the label `x`, once there is one; later plots with that label must agree with it.
+// Whether plot `u` shares a class of `g` with the plot that `first` names for its class of `f`; if none is named, it is the one.
+fn follows(first: &mut [u8; 256], f: &[u8], g: &[u8], u: usize) -> bool
+    requires { ⌜ (u < length (now f)) × (length (now f) ≤ 240) × (length (now g) ≡ length (now f)) × (length (now first) ≡ 256) × ((x : ℕ) → getD (now first) x 0 ≤ u) ⌝ }
+    ensures answer { λ r. ⌜ r ≡ follows (now (f .entry)) (now (g .entry)) u (now (first .entry)) ⌝ }
+    ensures table { λ _. ⌜ now (first .exit) ≡ named (now (f .entry)) u (now (first .entry)) ⌝ }
+{
+    let x = f[u];
+    let v = first[x as usize] as usize;
+    if f[v] != x {
+        first[x as usize] = u as u8;
+        return true;
+    }
+    g[v] == g[u]
+}
+
+// `finer` for two columns of one length, in one walk.
 fn agrees(f: &[u8], g: &[u8]) -> bool
     requires { ⌜ (length (now f) ≤ 240) × (length (now g) ≡ length (now f)) ⌝ }
     ensures { λ r. ⌜ r ≡ finer (length (now (f .entry))) (now (f .entry)) (now (g .entry)) ⌝ }
 {
     let mut first = [0u8; 256];
     for u in 0..f.len() {
-        let x = f[u];
-        let v = first[x as usize] as usize;
-        if f[v] != x {
-            first[x as usize] = u as u8;
-        } else if g[v] != g[u] {
+        if !follows(&mut first, f, g, u) {
             return false;
         }
     }
     true
+}
+
+// `order_of` for two columns of one length, in one walk: each test goes on as long as it holds.
+fn order_whole(f: &[u8], g: &[u8]) -> Order
+    requires { ⌜ (length (now f) ≤ 240) × (length (now g) ≡ length (now f)) ⌝ }
+    ensures { λ r. ⌜ r ≡ ordered (length (now (f .entry))) (now (f .entry)) (now (g .entry)) ⌝ }
+{
+    let mut by_f = [0u8; 256];
+    let mut by_g = [0u8; 256];
+    let mut finer = true;
+    let mut coarser = true;
+    for u in 0..f.len() {
+        if finer {
+            finer = follows(&mut by_f, f, g, u);
+        }
+        if coarser {
+            coarser = follows(&mut by_g, g, f, u);
+        }
+        if !finer {
+            if !coarser {
+                return Order::Neither;
+            }
+        }
+    }
+    order_from(finer, coarser)
+}
+
+// The order by whether the first is finer than or equivalent to the second, and the second to the first.
+fn order_from(finer: bool, coarser: bool) -> Order
+    ensures { λ r. ⌜ r ≡ orderOf finer coarser ⌝ }
+{
+    if finer {
+        if coarser {
+            return Order::Equivalent;
+        }
+        return Order::Finer;
+    }
+    if coarser {
+        return Order::Coarser;
+    }
+    Order::Neither
 }
 
 // Whether for each plot the sizes of its classes in `a` and `b` make the product that those in `f` and `g` make.

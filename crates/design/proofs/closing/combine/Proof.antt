@@ -1,12 +1,14 @@
 -- `combine` meets its contract: of two nested members the places are known, and others are combined.
 -- Assumes nothing.
-use mathlib.Core.Path.{_≡_, sym, _∙_}
+use mathlib.Core.Path.{_≡_, sym, ap, _∙_}
 use mathlib.Core.Logic.{inr}
 use mathlib.Core.Bool.{true}
 use native.Mathlib.Nat.{le-refl}
 use denote.Ref.{now}
 use borrow.Author.Needs.{needs}
 use Rattle.rules.specs.Factor.{finer}
+use Rattle.factor.specs.Standing.{saysFiner, saysCoarser}
+use Rattle.factor.proofs.Nesting.{says-finer, says-coarser}
 use Rattle.design.specs.State.{columnIn, on}
 use Rattle.design.proofs.Work.{work-left, work-right, step-as}
 use Rattle.design.proofs.closing.combine.Statement.{statement}
@@ -18,8 +20,11 @@ mul-at c = search needs
 add-at : tie.Need-add-at
 add-at c = search needs
 
-member-finer-requires : tie.Need-member-finer-requires
-member-finer-requires c κs = search needs
+member-order-requires : tie.Need-member-order-requires
+member-order-requires c κs = search needs
+
+is-finer-requires : tie.Need-is-finer-requires
+is-finer-requires c κs = search needs
 
 cast-meets : tie.Need-cast-meets
 cast-meets c = search needs
@@ -38,12 +43,15 @@ same-length c = search needs
 
 returns : tie.Need-returns
 returns c =
-    let s = c .before .before .before .before in
-    let e : finer (s .args .n) (columnIn (s .args .n) (now (s .args .store)) (s .args .i)) (columnIn (s .args .n) (now (s .args .store)) (s .args .j)) ≡ true = sym (c .before .member-finer .ensures) ∙ c .if1 .taken in
+    let m = c .before .before in
+    let s = m .before .before .before in
+    let F = columnIn (s .args .n) (now (s .args .store)) (s .args .i) in
+    let G = columnIn (s .args .n) (now (s .args .store)) (s .args .j) in
+    let e : finer (s .args .n) (columnIn (s .args .n) (now (s .args .store)) (s .args .i)) (columnIn (s .args .n) (now (s .args .store)) (s .args .j)) ≡ true = sym (ap saysFiner (m .member-order .ensures) ∙ says-finer (s .args .n) F G) ∙ sym (c .before .is-finer .ensures) ∙ c .if1 .taken in
     (inr (s .pre .0, le-refl _), λ Gs w. on (work-left w (s .pre .1) (s .pre .2) e))
 
-member-finer-requires-2 : tie.Need-member-finer-requires-2
-member-finer-requires-2 c κs = search needs
+is-coarser-requires : tie.Need-is-coarser-requires
+is-coarser-requires c κs = search needs
 
 cast-meets-2 : tie.Need-cast-meets-2
 cast-meets-2 c = search needs
@@ -62,8 +70,11 @@ same-length-2 c = search needs
 
 returns-2 : tie.Need-returns-2
 returns-2 c =
-    let s = c .before .before .before .before .before .before .before in
-    let e : finer (s .args .n) (columnIn (s .args .n) (now (s .args .store)) (s .args .j)) (columnIn (s .args .n) (now (s .args .store)) (s .args .i)) ≡ true = sym (c .before .member-finer2 .ensures) ∙ c .if2 .taken in
+    let m = c .before .before .before .before in
+    let s = m .before .before .before in
+    let F = columnIn (s .args .n) (now (s .args .store)) (s .args .i) in
+    let G = columnIn (s .args .n) (now (s .args .store)) (s .args .j) in
+    let e : finer (s .args .n) (columnIn (s .args .n) (now (s .args .store)) (s .args .j)) (columnIn (s .args .n) (now (s .args .store)) (s .args .i)) ≡ true = sym (ap saysCoarser (m .member-order .ensures) ∙ says-coarser (s .args .n) F G) ∙ sym (c .before .is-coarser .ensures) ∙ c .if2 .taken in
     (inr (s .pre .0, le-refl _), λ Gs w. on (work-right w (s .pre .1) (s .pre .2) e))
 
 combine-both-requires : tie.Need-combine-both-requires
@@ -96,14 +107,15 @@ combine-spec =
     (tie.spec
     mul-at
     add-at
-    member-finer-requires
+    member-order-requires
+    is-finer-requires
     cast-meets
     element-write-meets
     cast-joins
     element-write-joins
     same-length
     returns
-    member-finer-requires-2
+    is-coarser-requires
     cast-meets-2
     element-write-meets-2
     cast-joins-2

@@ -1,30 +1,23 @@
--- `one_size` meets its contract: the classes of the plots passed have the size of the first.
+-- `one_size` meets its contract: the labels passed have no plot, or as many as that of the first plot.
 -- Assumes nothing.
-use mathlib.Core.Path.{_≡_, refl, sym, ap, _∙_}
-use mathlib.Core.Bool.{Bool, true}
-use mathlib.Core.List.{List}
-use Prim.Native.Nat.{ℕ, _-_, _≤_}
+use mathlib.Core.Path.{_≡_, sym, ap, _∙_}
+use mathlib.Core.Logic.{⊎-elim}
+use Prim.Native.Nat.{ℕ, _-_, _≤_, _<_}
 use native.Mathlib.Omega.{arith}
 use denote.Ref.{now}
 use lib.Dec.{eqb}
-use lib.ListN.{length, getD}
-use borrow.Author.Tests.{eq-eqb, ne-eqb}
-use Rattle.rules.specs.Factor.{Column, at, every, classSize, uniform}
-use Rattle.rules.proofs.Walks.{every-more, every-fails}
-use Rattle.factor.specs.Sizes.{sizes}
-use Rattle.factor.proofs.SizeTable.{sizes-at}
+use lib.ListN.{getD}
+use borrow.Author.Tests.{eqb-true, eqb-false}
+use Rattle.rules.proofs.Numbering.{by-cases}
+use Rattle.factor.proofs.SizeTable.{one-size-yes, one-size-no}
 use Rattle.factor.proofs.sizes.one_size.Statement.{statement}
 use Rattle.factor.proofs.sizes.one_size.Tie as tie
 
--- the class of plot u has the size of the first
-abbrev level : Column → ℕ → Bool
-level F u = eqb (classSize (length F) F 0) (classSize (length F) F u)
-
 abbrev Inv-loop : tie.InvT-loop
-Inv-loop f table first u₀ u-end u = (u ≤ length f) × (u-end ≡ length f) × (every u (level f) ≡ true)
+Inv-loop f table first x₀ x = (x ≤ 256) × ((y : ℕ) → y < x → (getD table y 0 ≡ 0 → ⊥) → getD table y 0 ≡ first)
 
 abbrev μ-loop : tie.MeasureT-loop
-μ-loop f table first u₀ u-end u = length f - u
+μ-loop f table first x₀ x = 256 - x
 
 sizes-requires : tie.Need-sizes-requires Inv-loop μ-loop
 sizes-requires c κs = omega arith
@@ -39,60 +32,45 @@ array-read-first : tie.Need-array-read-first Inv-loop μ-loop
 array-read-first c = omega (arith, c .shared-slice-known2 .given 0)
 
 loop-holds : tie.Need-loop-holds Inv-loop μ-loop
-unfolding every
-loop-holds c =
-    let f = now (c .before .before .before .args .f) in
-    (omega arith, refl, every-more 0 (level f) refl (eq-eqb (classSize (length f) f 0) _ refl))
+loop-holds c = (omega arith, λ y h. absurd (omega arith))
 
-shared-slice-read-if1 : tie.Need-shared-slice-read-if1 Inv-loop μ-loop
-shared-slice-read-if1 c = omega arith
-
-cast-if1 : tie.Need-cast-if1 Inv-loop μ-loop
-cast-if1 c = omega (arith, c .shared-slice-known3 .given (c .before .before .loop .u))
-
-array-read-if1 : tie.Need-array-read-if1 Inv-loop μ-loop
-array-read-if1 c = omega (arith, c .shared-slice-known3 .given (c .before .before .loop .u))
-
--- the two sizes that are compared
-module _ (c : tie.After-shared-slice-known3 Inv-loop μ-loop) where
-  abbrev p : tie.After-shared-slice-known2 Inv-loop μ-loop
-  p = c .before .before .before
-
-  abbrev f : Column
-  f = now (p .before .before .before .args .f)
-
-  abbrev table : List ℕ
-  table = p .before .sizes .result
-
-  here : getD table (at f (c .before .before .loop .u)) 0 ≡ classSize (length f) f (c .before .before .loop .u)
-  here = sizes-at f (p .before .sizes .ensures) (c .before .before .loop .u) (omega (arith, c .shared-slice-known3 .given (c .before .before .loop .u)))
-
-  start : getD table (at f 0) 0 ≡ classSize (length f) f 0
-  start = sizes-at f (p .before .sizes .ensures) 0 (omega (arith, p .shared-slice-known2 .given 0))
+array-read-size : tie.Need-array-read-size Inv-loop μ-loop
+array-read-size c = omega arith
 
 returns : tie.Need-returns Inv-loop μ-loop
-unfolding uniform
 returns c =
-    let b = c .before in
-    sym (every-fails (length (f b)) (level (f b)) (b .before .before .loop .u) (omega arith) (ne-eqb _ _ (λ e. c .if1 .taken (here b ∙ sym e ∙ sym (start b)))))
+    let t = c .before .before .before .before in
+    let s = t .before in
+    let f = now (s .before .before .args .f) in
+    sym (one-size-no f (s .sizes .ensures) (λ u. t .shared-slice-known2 .given u .fits) (omega arith) (c .before .before .before .loop .x) (omega arith) (c .before .if1 .taken) (c .if2 .taken))
 
-add-u : tie.Need-add-u Inv-loop μ-loop
-add-u c = omega arith
+add-x : tie.Need-add-x Inv-loop μ-loop
+add-x c = omega arith
 
 loop-less : tie.Need-loop-less Inv-loop μ-loop
 loop-less c = omega arith
 
 loop-again : tie.Need-loop-again Inv-loop μ-loop
 loop-again c =
-    let b = c .before in
-    (omega arith, refl, every-more (b .before .before .loop .u) (level (f b)) (b .before .before .loop .inv .2) (eq-eqb _ _ (sym (start b) ∙ sym (c .if1 .left) ∙ here b)))
+    let b = c .before .before in
+    let same = b .loop .inv .1 in
+    let table = b .before .before .sizes .result in (
+      omega arith,
+      λ y h nz. by-cases (eqb y (b .loop .x))
+          (λ e. let q : y ≡ b .loop .x = eqb-true _ _ e in
+          ⊎-elim
+          (λ w. ap (λ (z : ℕ). getD table z 0) q ∙ w .1 .left)
+          (λ w. absurd (nz (ap (λ (z : ℕ). getD table z 0) q ∙ w .left)))
+          (c .if1 .came))
+          (λ e. let ne : y ≡ b .loop .x → ⊥ = eqb-false _ _ e in same y (omega (arith, ne)) nz),
+    )
 
 returns-2 : tie.Need-returns-2 Inv-loop μ-loop
-unfolding uniform
 returns-2 c =
-    let f = now (c .before .before .before .before .before .args .f) in
-    let e : length f ≡ c .before .loop .u = omega arith in
-    sym (ap (λ (n : ℕ). every n (level f)) e ∙ c .before .loop .inv .2)
+    let b = c .before in
+    let p = b .before .before in
+    let f = now (p .before .before .args .f) in
+    sym (one-size-yes f (p .sizes .ensures) (λ u. b .before .shared-slice-known2 .given u .fits) (λ x h nz. b .loop .inv .1 x (omega arith) nz))
 
 pub one-size-spec : {M : Type 1} → statement M
 one-size-spec =
@@ -105,11 +83,9 @@ one-size-spec =
     cast-first
     array-read-first
     loop-holds
-    shared-slice-read-if1
-    cast-if1
-    array-read-if1
+    array-read-size
     returns
-    add-u
+    add-x
     loop-less
     loop-again
     returns-2)

@@ -1,12 +1,14 @@
 -- `agrees` meets its contract: the table names one plot of each class that it has met.
 -- Assumes nothing.
-use mathlib.Core.Path.{_≡_, refl, sym, ap, _∙_}
-use mathlib.Core.Logic.{⊎-elim}
-use Prim.Native.Nat.{_-_, _≤_}
+use mathlib.Core.Path.{_≡_, refl, sym, ap, _∙_, subst}
+use Prim.Native.Nat.{_+_, _-_, _≤_, _<_}
 use native.Mathlib.Omega.{arith}
 use denote.Ref.{now}
-use lib.ListN.{length, getD, length-set}
-use Rattle.rules.proofs.Walks.{Agree, agree-start, agree-new, agree-old, agree-finer, agree-not}
+use lib.ListN.{length}
+use borrow.Author.Tests.{not-true, not-false}
+use Rattle.rules.proofs.Walks.{Agree, agree-start, agree-finer}
+use Rattle.rules.specs.Factor.{at}
+use Rattle.factor.proofs.Nesting.{named-length, agree-on, agree-off}
 use Rattle.factor.proofs.standing.agrees.Statement.{statement}
 use Rattle.factor.proofs.standing.agrees.Tie as tie
 
@@ -17,44 +19,19 @@ abbrev μ-loop : tie.MeasureT-loop
 μ-loop f g first₀ u₀ u-end first u = length f - u
 
 loop-holds : tie.Need-loop-holds Inv-loop μ-loop
-loop-holds c = (omega arith, refl, refl, agree-start (now (c .args .f)) (now (c .args .g)) 256)
+loop-holds c = (omega arith, refl, refl, agree-start (now (c .before .before .args .f)) (now (c .before .before .args .g)) 256)
 
-shared-slice-read-x : tie.Need-shared-slice-read-x Inv-loop μ-loop
-shared-slice-read-x c = omega arith
-
-cast-v : tie.Need-cast-v Inv-loop μ-loop
-cast-v c = omega (arith, c .shared-slice-known .given (c .before .before .loop .u))
-
-array-read-v : tie.Need-array-read-v Inv-loop μ-loop
-array-read-v c = omega (arith, c .shared-slice-known .given (c .before .before .loop .u))
-
-cast-v-2 : tie.Need-cast-v-2 Inv-loop μ-loop
-cast-v-2 c = omega (arith, c .before .before .loop .inv .3 .below (getD (now (c .before .before .before .args .f)) (c .before .before .loop .u) 0))
-
-shared-slice-read-if1 : tie.Need-shared-slice-read-if1 Inv-loop μ-loop
-shared-slice-read-if1 c = omega (arith, c .before .before .before .loop .inv .3 .below (getD (now (c .before .before .before .before .args .f)) (c .before .before .before .loop .u) 0))
-
-cast-first : tie.Need-cast-first Inv-loop μ-loop
-cast-first c = omega arith
-
-cast-first-2 : tie.Need-cast-first-2 Inv-loop μ-loop
-cast-first-2 c = omega (arith, c .before .before .shared-slice-known .given (c .before .before .before .before .loop .u))
-
-array-write-first : tie.Need-array-write-first Inv-loop μ-loop
-array-write-first c = omega (arith, c .before .before .shared-slice-known .given (c .before .before .before .before .loop .u))
-
-shared-slice-read-if2 : tie.Need-shared-slice-read-if2 Inv-loop μ-loop
-shared-slice-read-if2 c =
-    let b = c .before .before .before .before .before in
-    omega (arith, b .loop .inv .3 .below (getD (now (b .before .args .f)) (b .loop .u) 0))
-
-shared-slice-read-if2-2 : tie.Need-shared-slice-read-if2-2 Inv-loop μ-loop
-shared-slice-read-if2-2 c = omega arith
+follows-requires : tie.Need-follows-requires Inv-loop μ-loop
+follows-requires c κs =
+    let b = c .before .before in
+    (omega arith, omega arith, omega arith, b .loop .inv .2, b .loop .inv .3 .below)
 
 returns : tie.Need-returns Inv-loop μ-loop
 returns c =
-    let b = c .before .before .before .before .before .before .before in
-    sym (agree-not (b .loop .inv .3) (length (now (b .before .args .f))) (omega arith) (c .before .before .before .if1 .left) (c .if2 .taken))
+    let b = c .before .before .before .before in
+    let s = b .before .before .before .args in
+    let e = sym (c .before .follows .ensures .0) ∙ not-true _ (c .if1 .taken) in
+    sym (agree-off (now (s .f)) (now (s .g)) (b .loop .u) (b .loop .first) (b .loop .inv .3) (length (now (s .f))) (omega arith) e)
 
 add-u : tie.Need-add-u Inv-loop μ-loop
 add-u c = omega arith
@@ -65,20 +42,22 @@ loop-less c = omega arith
 loop-again : tie.Need-loop-again Inv-loop μ-loop
 loop-again c =
     let b = c .before .before .before .before in
-    let f = now (b .before .args .f) in
-    let given = c .before .before .shared-slice-known .given (b .loop .u) in (
+    let s = b .before .before .before .args in
+    let f = now (s .f) in
+    let g = now (s .g) in
+    let u = b .loop .u in
+    let t = b .loop .first in
+    let e = sym (c .before .follows .ensures .0) ∙ not-false _ (c .if1 .left) in
+    let h : at f u < length t = omega (arith, b .before .before .shared-slice-known .given u, b .loop .inv .2) in (
       omega arith,
       refl,
-      ⊎-elim (λ w. ap length (w .1) ∙ simp length-set (b .loop .inv .2)) (λ w. ap length (w .4) ∙ b .loop .inv .2) (c .if1 .came),
-      ⊎-elim
-          (λ w. rw (w .1) (agree-new (b .loop .inv .3) (omega arith) (w .0 .taken)))
-          (λ w. rw (w .4) (agree-old (b .loop .inv .3) (w .0 .left) (w .3 .left)))
-          (c .if1 .came),
+      ap length (c .before .follows .ensures .1) ∙ named-length f g u t ∙ b .loop .inv .2,
+      subst (Agree f g (u + 1)) (sym (c .before .follows .ensures .1)) (agree-on f g u t (b .loop .inv .3) h e),
     )
 
 returns-2 : tie.Need-returns-2 Inv-loop μ-loop
 returns-2 c =
-    let e : c .before .loop .u ≡ length (now (c .before .before .args .f)) = omega arith in
+    let e : c .before .loop .u ≡ length (now (c .before .before .before .before .args .f)) = omega arith in
     rw (← e) (sym (agree-finer (c .before .loop .inv .3)))
 
 pub agrees-spec : {M : Type 1} → statement M
@@ -88,16 +67,7 @@ agrees-spec =
     Inv-loop
     μ-loop
     loop-holds
-    shared-slice-read-x
-    cast-v
-    array-read-v
-    cast-v-2
-    shared-slice-read-if1
-    cast-first
-    cast-first-2
-    array-write-first
-    shared-slice-read-if2
-    shared-slice-read-if2-2
+    follows-requires
     returns
     add-u
     loop-less
