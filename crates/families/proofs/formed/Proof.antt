@@ -1,4 +1,4 @@
--- `well_formed` meets its contract: the parts of question 15 are asked in turn.
+-- `formed` meets its contract: the parts of question 15 are asked in turn.
 -- Assumes nothing.
 use mathlib.Core.Path.{_≡_, sym, _∙_}
 use mathlib.Core.Bool.{true, false}
@@ -7,9 +7,9 @@ use denote.Ref.{now}
 use borrow.Author.Needs.{needs}
 use borrow.Author.Tests.{lt-ltb, le-ltb, lt-leb, le-leb, not-true, not-false}
 use Rattle.rules.specs.Family.{membersOf, allNumbered}
-use Rattle.strata.proofs.Lent.{formed-parts}
-use Rattle.strata.proofs.family.well_formed.Statement.{statement}
-use Rattle.strata.proofs.family.well_formed.Tie as tie
+use Rattle.families.proofs.Lent.{formed-parts}
+use Rattle.families.proofs.formed.Statement.{statement}
+use Rattle.families.proofs.formed.Tie as tie
 
 returns : tie.Need-returns
 returns c =
@@ -39,7 +39,7 @@ returns-4 c =
     let e : allNumbered (membersOf (s .n) (now (s .family)) (s .size)) ≡ true = sym (c .before .before .all-numbered .ensures) ∙ not-false _ (c .before .if3 .left) in
     sym (formed-parts (s .n) (omega arith) (now (s .family)) (s .size) ∙ rw (lt-ltb 0 (s .size) (omega arith), le-leb (s .size) 32 (omega arith), e) (sym (c .in-order .ensures)))
 
-pub well-formed-spec : {M : Type 1} → statement M
-well-formed-spec =
+pub formed-spec : {M : Type 1} → statement M
+formed-spec =
     tie.close
     (tie.spec returns returns-2 all-numbered-requires returns-3 in-order-requires returns-4)

@@ -3,8 +3,8 @@
 use native.Mathlib.Omega.{arith}
 use borrow.Author.Tests.{lt-ltb, le-ltb, lt-leb, le-leb}
 use Rattle.rules.specs.Design.{plotsWithin}
-use Rattle.strata.proofs.family.within.Statement.{statement}
-use Rattle.strata.proofs.family.within.Tie as tie
+use Rattle.families.proofs.within.Statement.{statement}
+use Rattle.families.proofs.within.Tie as tie
 
 returns : tie.Need-returns
 unfolding plotsWithin

@@ -13,8 +13,8 @@ use Rattle.rules.specs.Factor.{Column, number}
 use Rattle.rules.specs.Family.{alike, membersOf, allNumbered}
 use Rattle.rules.proofs.Buffer.{length-members, member-is}
 use Rattle.rules.proofs.WellFormed.{numbered-on, numbered-here, numbered-end}
-use Rattle.strata.proofs.family.all_numbered.Statement.{statement}
-use Rattle.strata.proofs.family.all_numbered.Tie as tie
+use Rattle.families.proofs.all_numbered.Statement.{statement}
+use Rattle.families.proofs.all_numbered.Tie as tie
 
 abbrev Inv-loop : tie.InvT-loop
 Inv-loop family n size i₀ i = (i ≤ size) × (allNumbered (membersOf n family size) ≡ allNumbered (drop i (membersOf n family size)))

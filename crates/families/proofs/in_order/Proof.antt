@@ -12,8 +12,8 @@ use borrow.Author.Tests.{not-true, not-false}
 use Rattle.rules.specs.Family.{before, membersOf, ordered}
 use Rattle.rules.proofs.Buffer.{length-members, member-is}
 use Rattle.rules.proofs.WellFormed.{ordered-on, ordered-here, ordered-last}
-use Rattle.strata.proofs.family.in_order.Statement.{statement}
-use Rattle.strata.proofs.family.in_order.Tie as tie
+use Rattle.families.proofs.in_order.Statement.{statement}
+use Rattle.families.proofs.in_order.Tie as tie
 
 abbrev Inv-loop : tie.InvT-loop
 Inv-loop family n size i₀ i-end i = (i-end ≡ size - 1) × (i ≤ i-end) × (ordered (membersOf n family size) ≡ ordered (drop i (membersOf n family size)))

@@ -4,9 +4,9 @@ use mathlib.Core.Path.{ap₂, _∙_}
 use denote.Ref.{now}
 use borrow.Author.Needs.{needs}
 use Rattle.rules.specs.Family.{before}
-use Rattle.strata.proofs.Lent.{part-of}
-use Rattle.strata.proofs.family.member_before.Statement.{statement}
-use Rattle.strata.proofs.family.member_before.Tie as tie
+use Rattle.families.proofs.Lent.{part-of}
+use Rattle.families.proofs.member_before.Statement.{statement}
+use Rattle.families.proofs.member_before.Tie as tie
 
 mul-a : tie.Need-mul-a
 mul-a c = search needs

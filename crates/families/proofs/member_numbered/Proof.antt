@@ -5,9 +5,9 @@ use denote.Ref.{now}
 use borrow.Author.Needs.{needs}
 use Rattle.rules.specs.Factor.{Column, number}
 use Rattle.rules.specs.Family.{alike}
-use Rattle.strata.proofs.Lent.{part-of}
-use Rattle.strata.proofs.family.member_numbered.Statement.{statement}
-use Rattle.strata.proofs.family.member_numbered.Tie as tie
+use Rattle.families.proofs.Lent.{part-of}
+use Rattle.families.proofs.member_numbered.Statement.{statement}
+use Rattle.families.proofs.member_numbered.Tie as tie
 
 mul-a : tie.Need-mul-a
 mul-a c = search needs
