@@ -10,6 +10,7 @@ use Rattle.rules.specs.Factor.{Column}
 use Rattle.rules.specs.Design.{plotsWithin}
 use Rattle.rules.specs.Sheet.{question3}
 use Rattle.rules.specs.Naming.{Kind as Rule, plot, treatment, nameOn, NameAnswer}
+use Rattle.sheet.specs.declared.header.Header.{Header}
 use Rattle.naming.specs.declared.Kind.{Kind}
 use Rattle.naming.specs.declared.Kind.the-variants.{Plot, Treatment}
 use Rattle.naming.specs.declared.Named.{Named}
@@ -20,10 +21,20 @@ abbrev pub kindOf : Kind → Rule
 kindOf Plot = plot
 kindOf Treatment = treatment
 
--- what one member is named by: a first line of the form, 1 to 240 plots, lent slices long enough, and a member on these plots
+-- how many columns of the kind the first line has
+abbrev pub countIn : Kind → Header → ℕ
+countIn Plot h = h .«plot_columns»
+countIn Treatment h = h .«treatment_columns»
+
+-- 1 to 240 plots, lent slices long enough, and a member on these plots
+unfoldable pub memberFits : ℕ → ℕ → ℕ → ℕ → Bool
+unfolding plotsWithin
+memberFits n tableLength nameLength memberLength = plotsWithin n && leb tableCells tableLength && leb nameBytes nameLength && eqb memberLength n
+
+-- what one member is named by: a first line of the form, and what fits it
 unfoldable pub nameable : List ℕ → List ℕ → ℕ → Column → ℕ → Bool
-unfolding question3 plotsWithin
-nameable text levels n F room = question3 text && plotsWithin n && leb tableCells (length levels) && leb nameBytes room && eqb (length F) n
+unfolding question3 memberFits
+nameable text levels n F room = question3 text && memberFits n (length levels) room (length F)
 
 -- the name of one member, whatever its family; no byte where it cannot be named
 unfoldable pub nameFor : Rule → List ℕ → List ℕ → ℕ → Column → ℕ → ℕ → List ℕ
