@@ -78,11 +78,11 @@ module _ (n : ℕ) (F : Column) where
       same : Equivalent n (infimum (number F) G) (infimum F G)
       same = record {
         to = λ u v hu hv s.
-        let p = infimum-same′ n (number F) G lN lG u v hu hv .0 s in
-        infimum-same′ n F G lF lG u v hu hv .1 (number-same F u v (rw lF hu) (rw lF hv) .0 (p .0), p .1);
+            let p = infimum-same′ n (number F) G lN lG u v hu hv .0 s in
+            infimum-same′ n F G lF lG u v hu hv .1 (number-same F u v (rw lF hu) (rw lF hv) .0 (p .0), p .1);
         from = λ u v hu hv s.
-        let p = infimum-same′ n F G lF lG u v hu hv .0 s in
-        infimum-same′ n (number F) G lN lG u v hu hv .1 (number-same F u v (rw lF hu) (rw lF hv) .1 (p .0), p .1);
+            let p = infimum-same′ n F G lF lG u v hu hv .0 s in
+            infimum-same′ n (number F) G lN lG u v hu hv .1 (number-same F u v (rw lF hu) (rw lF hv) .1 (p .0), p .1);
       }
 
 -- ---- the rules' steps

@@ -12,7 +12,6 @@ pub use header::Header;
 pub use header::Span;
 pub use header::column_name;
 pub use header::read_header;
-
 use limits::LEVELS;
 use limits::TEXT;
 

@@ -146,12 +146,15 @@ returns-3 c =
     let is = member-is n (w .few-plots) buffer (a .size) i (omega (arith, w .first, w .last)) in
     let on : length (getD S i []) ≡ n = ap length is ∙ length-part n (240 * i) buffer (omega (arith, b .1, w .first, w .few-plots, w .family)) in
     let same : nameFor k text levels n (take (240 * i + n - 240 * i) (drop (240 * i) buffer)) (a .place) (length out) ≡ nameAt k text n levels S (a .place) =
-        ap (λ (F : Column). nameFor k text levels n F (a .place) (length out)) (part-of n i buffer ∙ sym is)
-        ∙ named-for k text levels n (getD S i []) (a .place) (length out) (s .pre .0) (ranges-fit n (a .size) (a .place) (length levels) (length buffer) (length out) (length (getD S i [])) w on) in
-    let r = c .before .before .name-of .ensures in
-    (sym (ap (λ (r : NameAnswer). r .refusal) e),
-    (r .0 ∙ ap length same ∙ sym (ap (λ (r : NameAnswer). length (r .name)) e),
-    r .1 ∙ ap (λ (W : List ℕ). startingWith W out) same ∙ sym (ap (nameBuffer out) e)))
+    ap (λ (F : Column). nameFor k text levels n F (a .place) (length out)) (part-of n i buffer ∙ sym is)
+    ∙ named-for k text levels n (getD S i []) (a .place) (length out) (s .pre .0) (ranges-fit n (a .size) (a .place) (length levels) (length buffer) (length out) (length (getD S i [])) w on) in
+    let r = c .before .before .name-of .ensures in (
+      sym (ap (λ (r : NameAnswer). r .refusal) e),
+      (
+        r .0 ∙ ap length same ∙ sym (ap (λ (r : NameAnswer). length (r .name)) e),
+        r .1 ∙ ap (λ (W : List ℕ). startingWith W out) same ∙ sym (ap (nameBuffer out) e),
+      ),
+    )
 
 pub from-7-spec : {M : Type 1} → statement M
 from-7-spec =

@@ -107,10 +107,10 @@ returns-3 c =
     let short : length W ≤ 96 = name-short names (names-short (mark .result) (header text) (header-form text q .columns)) (a .plots) Cs (a .place) F (omega arith) (omega (arith, c .before .before .before .before .before .before .before .before .before .before .before .before .before .before .before .fits .place)) in
     let fitting : length W ≤ length out = omega (arith, f .room) in
     let same : W ≡ nameFor k text levels (a .plots) F (a .place) (length out) =
-        ap (λ (m : ℕ). bytesOf (columnNames m (header text)) (nameOf (a .plots) Cs (a .place) F)) (mark .ensures)
-        ∙ ap (λ (i : ℕ). bytesOf (columnNames (markOf k) (header text)) (nameOf (a .plots) (columnsFrom (a .plots) levels i (count .result)) (a .place) F)) (first .ensures)
-        ∙ ap (λ (m : ℕ). bytesOf (columnNames (markOf k) (header text)) (nameOf (a .plots) (columnsFrom (a .plots) levels (firstColumn k) m) (a .place) F)) is
-        ∙ sym (named-for k text levels (a .plots) F (a .place) (length out) q e) in
+    ap (λ (m : ℕ). bytesOf (columnNames m (header text)) (nameOf (a .plots) Cs (a .place) F)) (mark .ensures)
+    ∙ ap (λ (i : ℕ). bytesOf (columnNames (markOf k) (header text)) (nameOf (a .plots) (columnsFrom (a .plots) levels i (count .result)) (a .place) F)) (first .ensures)
+    ∙ ap (λ (m : ℕ). bytesOf (columnNames (markOf k) (header text)) (nameOf (a .plots) (columnsFrom (a .plots) levels (firstColumn k) m) (a .place) F)) is
+    ∙ sym (named-for k text levels (a .plots) F (a .place) (length out) q e) in
     let w = c .before .before .put-name .ensures in
     (w .0 ∙ place-all out W fitting ∙ ap length same, w .1 ∙ written-all out W fitting ∙ ap (λ (X : List ℕ). startingWith X out) same)
 

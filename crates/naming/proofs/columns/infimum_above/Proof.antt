@@ -100,10 +100,11 @@ loop-again c =
     let li = length-infimum′ n P (take n M) lP lM in
     let zeros : List ℕ = replicate 240 0 in
     let made : c .infimum .last .1 .1 .0 ≡ overlay zeros (onCommon infimum P M) = c .infimum .ensures .1 ∙ ap (λ (X : Column). overlay zeros (onCommon infimum X M)) (part-of n i t) in
-    let more : take n M ≡ infimumAbove n F (drop (suc i) S) = b .loop .inv .2 ∙ ap (λ (j : ℕ). infimumAbove n F (drop j S)) (sym next) in
-    (omega arith,
-    ap length made ∙ infimum-length n zeros P M small refl lP (b .loop .inv .1) li,
-    ap (take n) made ∙ infimum-part n zeros P M small refl lP (b .loop .inv .1) li ∙ ap (infimum P) more ∙ ap (λ (X : Column). infimum X (infimumAbove n F (drop (suc i) S))) (sym is) ∙ sym (above-here n F S i (omega arith) e))
+    let more : take n M ≡ infimumAbove n F (drop (suc i) S) = b .loop .inv .2 ∙ ap (λ (j : ℕ). infimumAbove n F (drop j S)) (sym next) in (
+      omega arith,
+      ap length made ∙ infimum-length n zeros P M small refl lP (b .loop .inv .1) li,
+      ap (take n) made ∙ infimum-part n zeros P M small refl lP (b .loop .inv .1) li ∙ ap (infimum P) more ∙ ap (λ (X : Column). infimum X (infimumAbove n F (drop (suc i) S))) (sym is) ∙ sym (above-here n F S i (omega arith) e),
+    )
 
 loop-less-2 : tie.Need-loop-less-2 Inv-loop μ-loop
 loop-less-2 c = omega arith
@@ -123,10 +124,11 @@ loop-again-2 c =
     let next : suc i ≡ b .loop .c = omega arith in
     let less : i < a .count = omega arith in
     let size : length S ≡ a .count = length-members n small t (a .count) in
-    let e : finer n F (getD S i []) ≡ false = ap (finer n F) (member-is n small t (a .count) i less) ∙ sym (k .is-above .ensures) ∙ c .if1 .left in
-    (omega arith,
-    b .loop .inv .1,
-    b .loop .inv .2 ∙ ap (λ (j : ℕ). infimumAbove n F (drop j S)) (sym next) ∙ sym (above-past n F S i (omega arith) e))
+    let e : finer n F (getD S i []) ≡ false = ap (finer n F) (member-is n small t (a .count) i less) ∙ sym (k .is-above .ensures) ∙ c .if1 .left in (
+      omega arith,
+      b .loop .inv .1,
+      b .loop .inv .2 ∙ ap (λ (j : ℕ). infimumAbove n F (drop j S)) (sym next) ∙ sym (above-past n F S i (omega arith) e),
+    )
 
 returns : tie.Need-returns Inv-loop μ-loop
 returns c =

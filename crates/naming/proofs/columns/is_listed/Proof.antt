@@ -34,7 +34,7 @@ returns c =
     let a = s .args in
     let S = membersOf (a .n) (now (a .columns)) (a .count) in
     let e : finer (a .n) (now (a .member)) (getD S (a .i) []) ≡ false =
-        ap (finer (a .n) (now (a .member))) (member-is (a .n) (s .pre .0 .few-plots) (now (a .columns)) (a .count) (a .i) (omega arith)) ∙ sym (c .before .is-above .ensures) ∙ not-true _ (c .if1 .taken) in
+    ap (finer (a .n) (now (a .member))) (member-is (a .n) (s .pre .0 .few-plots) (now (a .columns)) (a .count) (a .i) (omega arith)) ∙ sym (c .before .is-above .ensures) ∙ not-true _ (c .if1 .taken) in
     sym (listed-not (a .n) (now (a .member)) S (a .i) e)
 
 loop-holds : tie.Need-loop-holds Inv-loop μ-loop
@@ -43,7 +43,7 @@ loop-holds c =
     let s = c .before .before .before .before in
     let a = s .args in
     let e : finer (a .n) (now (a .member)) (getD (membersOf (a .n) (now (a .columns)) (a .count)) (a .i) []) ≡ true =
-        ap (finer (a .n) (now (a .member))) (member-is (a .n) (s .pre .0 .few-plots) (now (a .columns)) (a .count) (a .i) (omega arith)) ∙ sym (c .before .is-above .ensures) ∙ not-false _ (c .if1 .left) in
+    ap (finer (a .n) (now (a .member))) (member-is (a .n) (s .pre .0 .few-plots) (now (a .columns)) (a .count) (a .i) (omega arith)) ∙ sym (c .before .is-above .ensures) ∙ not-false _ (c .if1 .left) in
     (omega arith, e, refl)
 
 outdoes-requires : tie.Need-outdoes-requires Inv-loop μ-loop
@@ -61,8 +61,8 @@ returns-2 c =
     let S = membersOf (a .n) t (a .count) in
     let j = b .loop .j in
     let e : outdone (a .n) F (getD S j []) (getD S (a .i) []) (ltb j (a .i)) ≡ true =
-        ap₂ (λ (C D : Column). outdone (a .n) F C D (ltb j (a .i))) (member-is (a .n) (s .pre .0 .few-plots) t (a .count) j (omega arith)) (member-is (a .n) (s .pre .0 .few-plots) t (a .count) (a .i) (omega arith))
-        ∙ sym (c .before .outdoes .ensures) ∙ c .if2 .taken in
+    ap₂ (λ (C D : Column). outdone (a .n) F C D (ltb j (a .i))) (member-is (a .n) (s .pre .0 .few-plots) t (a .count) j (omega arith)) (member-is (a .n) (s .pre .0 .few-plots) t (a .count) (a .i) (omega arith))
+    ∙ sym (c .before .outdoes .ensures) ∙ c .if2 .taken in
     sym (listed-if (a .n) F S (a .i) (b .loop .inv .1) ∙ outdone-here (a .n) F S (a .i) j (omega (arith, length-members (a .n) (s .pre .0 .few-plots) t (a .count))) e)
 
 add-j : tie.Need-add-j Inv-loop μ-loop
@@ -81,8 +81,8 @@ loop-again c =
     let S = membersOf (a .n) t (a .count) in
     let j = b .loop .j in
     let e : outdone (a .n) F (getD S j []) (getD S (a .i) []) (ltb j (a .i)) ≡ false =
-        ap₂ (λ (C D : Column). outdone (a .n) F C D (ltb j (a .i))) (member-is (a .n) (s .pre .0 .few-plots) t (a .count) j (omega arith)) (member-is (a .n) (s .pre .0 .few-plots) t (a .count) (a .i) (omega arith))
-        ∙ sym (c .before .outdoes .ensures) ∙ c .if2 .left in
+    ap₂ (λ (C D : Column). outdone (a .n) F C D (ltb j (a .i))) (member-is (a .n) (s .pre .0 .few-plots) t (a .count) j (omega arith)) (member-is (a .n) (s .pre .0 .few-plots) t (a .count) (a .i) (omega arith))
+    ∙ sym (c .before .outdoes .ensures) ∙ c .if2 .left in
     (omega arith, b .loop .inv .1, allowed-here (a .n) F S (a .i) j (b .loop .inv .2) e)
 
 returns-3 : tie.Need-returns-3 Inv-loop μ-loop

@@ -106,10 +106,11 @@ loop-again c =
     let few = s .pre .0 .few in
     let long = s .pre .0 .long in
     let w : c .before .before .write-bytes .last .1 .0 ≡ written out (240 * b .loop .c) (number (take (a .n) (drop (from k) (levels k)))) =
-        c .before .before .write-bytes .ensures .1 ∙ ap (written out (240 * b .loop .c)) (column-is k) in
-    (omega arith,
-    ap length w ∙ length-written out (240 * b .loop .c) (number (take (a .n) (drop (from k) (levels k)))) ∙ b .loop .inv .1,
-    ap (λ (o : List ℕ). membersOf (a .n) o (b .loop .c + 1)) w ∙ table-turn (a .n) (s .pre .0 .few-plots) out (levels k) (a .first) (b .loop .c) (omega arith) (inside k) (b .loop .inv .2))
+    c .before .before .write-bytes .ensures .1 ∙ ap (written out (240 * b .loop .c)) (column-is k) in (
+      omega arith,
+      ap length w ∙ length-written out (240 * b .loop .c) (number (take (a .n) (drop (from k) (levels k)))) ∙ b .loop .inv .1,
+      ap (λ (o : List ℕ). membersOf (a .n) o (b .loop .c + 1)) w ∙ table-turn (a .n) (s .pre .0 .few-plots) out (levels k) (a .first) (b .loop .c) (omega arith) (inside k) (b .loop .inv .2),
+    )
 
 same-length : tie.Need-same-length Inv-loop μ-loop
 same-length c = c .before .loop .inv .1

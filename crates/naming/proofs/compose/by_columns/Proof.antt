@@ -36,9 +36,10 @@ equivalent-column-requires : tie.Need-equivalent-column-requires
 unfolding numberedFrom
 equivalent-column-requires c κs =
     let a = c .before .before .before .before .before .before .before .before .args in
-    let long : length (c .before .before .number-columns .last .1 .1 .1 .1 .0) ≡ 1440 = search needs in
-    (record { few-plots = omega arith; few = omega arith; long = omega arith },
-    ap allNumbered (c .before .before .number-columns .ensures) ∙ all-numbered (columnsFrom (a .n) (now (a .levels)) (a .first) (a .count)))
+    let long : length (c .before .before .number-columns .last .1 .1 .1 .1 .0) ≡ 1440 = search needs in (
+      record { few-plots = omega arith; few = omega arith; long = omega arith },
+      ap allNumbered (c .before .before .number-columns .ensures) ∙ all-numbered (columnsFrom (a .n) (now (a .levels)) (a .first) (a .count)),
+    )
 
 sub-put-column : tie.Need-sub-put-column
 sub-put-column c = omega arith
@@ -63,7 +64,7 @@ returns c =
     let some = c .before .before .before .before .if1 .taken in
     let up : x ≡ suc (x - 1) = omega arith in
     let q : getD names (x - 1) [] ≡ bytesOf names (nameByColumn n Cs (a .place) F (equivalentColumn F 0 Cs)) =
-        sym (ap (λ (y : ℕ). bytesOf names (nameByColumn n Cs (a .place) F y)) (sym is ∙ up) ∙ ap (bytesOf names) (column-some n Cs (a .place) F (x - 1))) in
+    sym (ap (λ (y : ℕ). bytesOf names (nameByColumn n Cs (a .place) F y)) (sym is ∙ up) ∙ ap (bytesOf names) (column-some n Cs (a .place) F (x - 1))) in
     let w = c .before .before .put-column .ensures in
     (w .0 ∙ ap (placeAfter out 0) q, w .1 ∙ ap (written out 0) q)
 
@@ -92,8 +93,8 @@ returns-2 c =
     let S = membersOf n (c .before .before .before .before .before .before .before .before .before .number-columns .last .1 .1 .1 .1 .0) (a .count) in
     let on = columns-on n (now (a .levels)) (a .first) (a .count) (omega arith) (omega arith) in
     let q : bytesOf names (nameByInfimum n S (a .place) F) ≡ bytesOf names (nameByColumn n Cs (a .place) F (equivalentColumn F 0 Cs)) =
-        ap (λ (D : List Column). bytesOf names (nameByInfimum n D (a .place) F)) (c .before .before .before .before .before .before .before .before .before .number-columns .ensures)
-        ∙ ap (bytesOf names) (infimum-name-numbered n F Cs on (a .place) ∙ sym (ap (nameByColumn n Cs (a .place) F) (sym is ∙ c .before .before .before .before .before .if1 .left) ∙ column-none n Cs (a .place) F)) in
+    ap (λ (D : List Column). bytesOf names (nameByInfimum n D (a .place) F)) (c .before .before .before .before .before .before .before .before .before .number-columns .ensures)
+    ∙ ap (bytesOf names) (infimum-name-numbered n F Cs on (a .place) ∙ sym (ap (nameByColumn n Cs (a .place) F) (sym is ∙ c .before .before .before .before .before .if1 .left) ∙ column-none n Cs (a .place) F)) in
     let w = c .before .before .by-infimum .ensures in
     (w .0 ∙ ap (placeAfter out 0) q, w .1 ∙ ap (written out 0) q)
 

@@ -61,7 +61,7 @@ returns c =
     let k = c .before .before .before .before .before .before .before in
     let e : alike (infimumAbove n F S) F ≡ true = sym (ap (λ (X : Column). alike X F) (k .infimum-above .ensures)) ∙ sym (c .before .before .before .before .before .alike .ensures) ∙ c .before .before .before .before .if1 .taken in
     let q : bytesOf names (name-infimum (passingFrom (listed n F S) 0 (a .count))) ≡ bytesOf names (nameByInfimum n S (a .place) F) =
-        ap (bytesOf names) (ap (λ (m : ℕ). name-infimum (passingFrom (listed n F S) 0 m)) (sym (length-members n (s .pre .0 .few-plots) (now (a .columns)) (a .count))) ∙ sym (infimum-fits n S (a .place) F e)) in
+    ap (bytesOf names) (ap (λ (m : ℕ). name-infimum (passingFrom (listed n F S) 0 m)) (sym (length-members n (s .pre .0 .few-plots) (now (a .columns)) (a .count))) ∙ sym (infimum-fits n S (a .place) F e)) in
     let w = c .before .before .put-infimum .ensures in
     (w .0 ∙ ap (placeAfter out 0) q, w .1 ∙ ap (written out 0) q)
 
@@ -92,9 +92,10 @@ returns-2 c =
     let q : bytesOf names (name-place (a .place)) ≡ bytesOf names (nameByInfimum n S (a .place) F) = ap (bytesOf names) (sym (infimum-fits-not n S (a .place) F e)) in
     let k = c .before .before .before .before .before .before .write-bytes in
     let w = c .before .before .write-decimal .ensures in
-    let mark : List ℕ = 35 ∷ [] in
-    (w .0 ∙ then-place out 0 mark (decimalOf (a .place)) (k .last .1 .0) (k .result) (k .ensures .1) (k .ensures .0) ∙ ap (placeAfter out 0) q,
-    w .1 ∙ then-bytes out 0 mark (decimalOf (a .place)) (k .last .1 .0) (k .result) (k .ensures .1) (k .ensures .0) ∙ ap (written out 0) q)
+    let mark : List ℕ = 35 ∷ [] in (
+      w .0 ∙ then-place out 0 mark (decimalOf (a .place)) (k .last .1 .0) (k .result) (k .ensures .1) (k .ensures .0) ∙ ap (placeAfter out 0) q,
+      w .1 ∙ then-bytes out 0 mark (decimalOf (a .place)) (k .last .1 .0) (k .result) (k .ensures .1) (k .ensures .0) ∙ ap (written out 0) q,
+    )
 
 pub by-infimum-spec : {M : Type 1} → statement M
 by-infimum-spec =

@@ -44,9 +44,10 @@ returns c =
     let l = c .before .before .before .before .before .before .before .put-listed in
     let w = c .before .before .write-bytes2 in
     let bytes : l .last .1 .1 .1 .1 .1 .1 .0 ≡ written out 0 (opened ++ names) = l .ensures .1 ∙ then-bytes out 0 opened names (k .last .1 .0) (k .result) (k .ensures .1) (k .ensures .0) in
-    let place : l .result ≡ placeAfter out 0 (opened ++ names) = l .ensures .0 ∙ then-place out 0 opened names (k .last .1 .0) (k .result) (k .ensures .1) (k .ensures .0) in
-    (w .ensures .0 ∙ then-place out 0 (opened ++ names) closed (l .last .1 .1 .1 .1 .1 .1 .0) (l .result) bytes place,
-    w .ensures .1 ∙ then-bytes out 0 (opened ++ names) closed (l .last .1 .1 .1 .1 .1 .1 .0) (l .result) bytes place)
+    let place : l .result ≡ placeAfter out 0 (opened ++ names) = l .ensures .0 ∙ then-place out 0 opened names (k .last .1 .0) (k .result) (k .ensures .1) (k .ensures .0) in (
+      w .ensures .0 ∙ then-place out 0 (opened ++ names) closed (l .last .1 .1 .1 .1 .1 .1 .0) (l .result) bytes place,
+      w .ensures .1 ∙ then-bytes out 0 (opened ++ names) closed (l .last .1 .1 .1 .1 .1 .1 .0) (l .result) bytes place,
+    )
 
 pub put-infimum-spec : {M : Type 1} → statement M
 put-infimum-spec =

@@ -61,7 +61,7 @@ returns-2 c =
     let k = c .before .before .before .before .before .before .before .classes in
     let all : List ℕ = 69 ∷ [] in
     let q : all ≡ bytesOf names (nameOf n Cs (a .place) F) =
-        sym (ap (bytesOf names) (all-classes n Cs (a .place) F (λ z. c .before .before .before .before .before .before .if1 .left (k .ensures ∙ z)) (sym (k .ensures) ∙ c .before .before .before .before .before .if2 .taken))) in
+    sym (ap (bytesOf names) (all-classes n Cs (a .place) F (λ z. c .before .before .before .before .before .before .if1 .left (k .ensures ∙ z)) (sym (k .ensures) ∙ c .before .before .before .before .before .if2 .taken))) in
     let w = c .before .before .write-bytes2 .ensures in
     (w .0 ∙ ap (placeAfter out 0) q, w .1 ∙ ap (written out 0) q)
 
@@ -81,7 +81,7 @@ returns-3 c =
     let out = now (a .out) in
     let k = c .before .before .before .before .before .before .classes in
     let q : bytesOf names (nameByColumn n Cs (a .place) F (equivalentColumn F 0 Cs)) ≡ bytesOf names (nameOf n Cs (a .place) F) =
-        sym (ap (bytesOf names) (between n Cs (a .place) F (λ z. c .before .before .before .before .before .if1 .left (k .ensures ∙ z)) (λ z. c .before .before .before .before .if2 .left (k .ensures ∙ z)))) in
+    sym (ap (bytesOf names) (between n Cs (a .place) F (λ z. c .before .before .before .before .before .if1 .left (k .ensures ∙ z)) (λ z. c .before .before .before .before .if2 .left (k .ensures ∙ z)))) in
     let w = c .before .before .by-columns .ensures in
     (w .0 ∙ ap (placeAfter out 0) q, w .1 ∙ ap (written out 0) q)
 

@@ -47,9 +47,10 @@ returns-2 c =
     let name = getD (columnNames (a .mark) (header (now (a .text)))) (a .c) [] in
     let e = c .before .before .before .before .before .before .before .before .before .if1 .left in
     let k = c .before .before .before .before .before .before .write-bytes in
-    let w = c .before .before .put-column2 .ensures in
-    (w .0 ∙ then-place out (a .at) (44 ∷ []) name (k .last .1 .0) (k .result) (k .ensures .1) (k .ensures .0) ∙ ap (λ (f : Bool). placeAfter out (a .at) (separated f name)) (sym e),
-    w .1 ∙ then-bytes out (a .at) (44 ∷ []) name (k .last .1 .0) (k .result) (k .ensures .1) (k .ensures .0) ∙ ap (λ (f : Bool). written out (a .at) (separated f name)) (sym e))
+    let w = c .before .before .put-column2 .ensures in (
+      w .0 ∙ then-place out (a .at) (44 ∷ []) name (k .last .1 .0) (k .result) (k .ensures .1) (k .ensures .0) ∙ ap (λ (f : Bool). placeAfter out (a .at) (separated f name)) (sym e),
+      w .1 ∙ then-bytes out (a .at) (44 ∷ []) name (k .last .1 .0) (k .result) (k .ensures .1) (k .ensures .0) ∙ ap (λ (f : Bool). written out (a .at) (separated f name)) (sym e),
+    )
 
 pub put-next-spec : {M : Type 1} → statement M
 put-next-spec =
