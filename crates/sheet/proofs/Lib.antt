@@ -4,4 +4,5 @@ pub mod LevelLaws
 pub mod RowLaws
 pub mod StoreLaws
 pub mod HeaderLaws
+pub mod NameLaws
 pub mod QuestionLaws
