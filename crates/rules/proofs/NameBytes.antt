@@ -11,7 +11,7 @@ use lib.ListN.{length, getD, drop}
 use borrow.Author.Tests.{ne-eqb, leb-true, le-leb}
 use Rattle.rules.specs.Family.{_∈_}
 use Rattle.rules.specs.Lists.{decimalOf}
-use Rattle.rules.specs.Sheet.{Field, all, within, letter, digit, letterOrDigit, isName, isColumn, isKind, countKind, sameBytes, newName, namesDiffer, plotMark, treatmentMark, decimal}
+use Rattle.rules.specs.Sheet.{columnNames, Field, all, within, letter, digit, letterOrDigit, isName, isColumn, isKind, countKind, sameBytes, newName, namesDiffer, plotMark, treatmentMark, decimal}
 use Rattle.rules.specs.Names.{withCommas}
 use Rattle.rules.specs.Naming.{Kind, markOf, kindNames}
 use Rattle.rules.proofs.Numbering.{by-cases}
@@ -53,31 +53,31 @@ column-name (x ∷ y ∷ name) e = and-right ((eqb x plotMark || eqb x treatment
 module _ (kind : Kind) where
   -- as many as columns of the kind
   pub length-kind-names : (fs : List Field) → length (kindNames kind fs) ≡ countKind (markOf kind) fs
-  unfolding kindNames countKind
+  unfolding columnNames countKind
   length-kind-names [] = refl
   length-kind-names (f ∷ fs) =
-      by-cases (isKind (markOf kind) f) (λ e. rw (e, kindNames, countKind) (ap suc (length-kind-names fs))) (λ e. rw (e, kindNames, countKind) (length-kind-names fs))
+      by-cases (isKind (markOf kind) f) (λ e. rw (e, columnNames, countKind) (ap suc (length-kind-names fs))) (λ e. rw (e, columnNames, countKind) (length-kind-names fs))
 
   -- each has the form of a name
   pub kind-names-good : (fs : List Field) → all isColumn fs ≡ true → (k : ℕ) → k < length (kindNames kind fs) → isName (getD (kindNames kind fs) k []) ≡ true
-  unfolding all kindNames
+  unfolding all columnNames
   kind-names-good [] a k h = absurd (not-suc-le-zero h)
   kind-names-good (f ∷ fs) a k h =
       by-cases (isKind (markOf kind) f)
-      (λ e. rw (e, kindNames) (here (λ j. kind-names-good fs (and-right (isColumn f) (all isColumn fs) a) j) k (rw (e, kindNames) at h)))
-      (λ e. rw (e, kindNames) (kind-names-good fs (and-right (isColumn f) (all isColumn fs) a) k (rw (e, kindNames) at h)))
+      (λ e. rw (e, columnNames) (here (λ j. kind-names-good fs (and-right (isColumn f) (all isColumn fs) a) j) k (rw (e, columnNames) at h)))
+      (λ e. rw (e, columnNames) (kind-names-good fs (and-right (isColumn f) (all isColumn fs) a) k (rw (e, columnNames) at h)))
     where
       here : ((j : ℕ) → j < length (kindNames kind fs) → isName (getD (kindNames kind fs) j []) ≡ true) → (j : ℕ) → j < suc (length (kindNames kind fs)) → isName (getD (drop 2 f ∷ kindNames kind fs) j []) ≡ true
       here rest zero l = column-name f (and-left (isColumn f) (all isColumn fs) a)
       here rest (suc j) l = rest j (le-of-suc-le-suc l)
 
   new-differs : (f : Field) (fs : List Field) → newName f fs ≡ true → (k : ℕ) → k < length (kindNames kind fs) → drop 2 f ≡ getD (kindNames kind fs) k [] → ⊥
-  unfolding newName kindNames
+  unfolding newName columnNames
   new-differs f [] e k h q = not-suc-le-zero h
   new-differs f (g ∷ fs) e k h q =
       by-cases (isKind (markOf kind) g)
-      (λ c. here (λ j. new-differs f fs (and-right (not (sameBytes (drop 2 f) (drop 2 g))) (newName f fs) e) j) k (rw (c, kindNames) at h) (rw (c, kindNames) at q))
-      (λ c. new-differs f fs (and-right (not (sameBytes (drop 2 f) (drop 2 g))) (newName f fs) e) k (rw (c, kindNames) at h) (rw (c, kindNames) at q))
+      (λ c. here (λ j. new-differs f fs (and-right (not (sameBytes (drop 2 f) (drop 2 g))) (newName f fs) e) j) k (rw (c, columnNames) at h) (rw (c, columnNames) at q))
+      (λ c. new-differs f fs (and-right (not (sameBytes (drop 2 f) (drop 2 g))) (newName f fs) e) k (rw (c, columnNames) at h) (rw (c, columnNames) at q))
     where
       here : ((j : ℕ) → j < length (kindNames kind fs) → drop 2 f ≡ getD (kindNames kind fs) j [] → ⊥) → (j : ℕ) → j < suc (length (kindNames kind fs)) → drop 2 f ≡ getD (drop 2 g ∷ kindNames kind fs) j [] → ⊥
       here rest zero l r = clash (subst (λ (w : List ℕ). sameBytes (drop 2 f) w ≡ true) r (same-self (drop 2 f))) (not-yes _ (and-left (not (sameBytes (drop 2 f) (drop 2 g))) (newName f fs) e))
@@ -86,12 +86,12 @@ module _ (kind : Kind) where
   -- no two are equal
   pub kind-names-differ : (fs : List Field) → namesDiffer fs ≡ true → (j k : ℕ) → j < length (kindNames kind fs) → k < length (kindNames kind fs)
       → getD (kindNames kind fs) j [] ≡ getD (kindNames kind fs) k [] → j ≡ k
-  unfolding namesDiffer kindNames
+  unfolding namesDiffer columnNames
   kind-names-differ [] e j k hj hk q = absurd (not-suc-le-zero hj)
   kind-names-differ (f ∷ fs) e j k hj hk q =
       by-cases (isKind (markOf kind) f)
-      (λ c. here (λ a b. kind-names-differ fs (and-right (newName f fs) (namesDiffer fs) e) a b) j k (rw (c, kindNames) at hj) (rw (c, kindNames) at hk) (rw (c, kindNames) at q))
-      (λ c. kind-names-differ fs (and-right (newName f fs) (namesDiffer fs) e) j k (rw (c, kindNames) at hj) (rw (c, kindNames) at hk) (rw (c, kindNames) at q))
+      (λ c. here (λ a b. kind-names-differ fs (and-right (newName f fs) (namesDiffer fs) e) a b) j k (rw (c, columnNames) at hj) (rw (c, columnNames) at hk) (rw (c, columnNames) at q))
+      (λ c. kind-names-differ fs (and-right (newName f fs) (namesDiffer fs) e) j k (rw (c, columnNames) at hj) (rw (c, columnNames) at hk) (rw (c, columnNames) at q))
     where
       new : newName f fs ≡ true
       new = and-left (newName f fs) (namesDiffer fs) e

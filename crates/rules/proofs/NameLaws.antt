@@ -17,7 +17,7 @@ use Rattle.rules.specs.Relation.{memberAt}
 use Rattle.rules.specs.Lists.{passingFrom}
 use Rattle.rules.specs.Sheet.{header, countKind, isName, question3}
 use Rattle.rules.specs.Names.{equivalentColumn, infimumAbove, columnAbove, hides, listed, nameByInfimum, nameByColumn, nameOf, withCommas, bytesOf}
-use Rattle.rules.specs.Naming.{Kind, plot, treatment, markOf, firstColumn, kindNames, kindColumns, nameAt}
+use Rattle.rules.specs.Naming.{nameOn, Kind, plot, treatment, markOf, firstColumn, kindNames, kindColumns, nameAt}
 use Rattle.rules.proofs.Numbering.{by-cases}
 use Rattle.rules.proofs.Members.{clash, alike-sound, before-self}
 use Rattle.rules.proofs.Bounds.{numbered-equal, finer-refl, finer-trans, length-infimum′, infimum-same′}
@@ -267,7 +267,7 @@ module _ (n : ℕ) (some : 0 < n) (names : List (List ℕ)) (Cs : List Column) (
 -- two different members of a family never have the same name: the family is one that question 15 accepts, of either kind, closed or not
 pub names-differ : (kind : Kind) (text : List ℕ) (n : ℕ) (levels : List ℕ) (S : Family) → question3 text ≡ true → 1 ≤ n → n ≤ 240 → 2880 ≤ length levels → wellFormed S ≡ true
     → ((F : Column) → F ∈ S → length F ≡ n) → (i j : ℕ) → 1 ≤ i → 1 ≤ j → i ≤ length S → j ≤ length S → nameAt kind text n levels S i ≡ nameAt kind text n levels S j → i ≡ j
-unfolding nameAt kindColumns
+unfolding nameAt nameOn kindColumns
 names-differ kind text n levels S q some few table formed on i j li lj mi mj e = go (one n some names Cs count onC good differ (sortOf wi) i j (memberAt S (i - 1)) (memberAt S (j - 1)) (length-at i li mi) (length-at j lj mj) (number-at i li mi) (number-at j lj mj) meansI meansJ)
   where
     names : List (List ℕ)

@@ -14,9 +14,9 @@ use Rattle.rules.specs.Factor.{Column, classes}
 use Rattle.rules.specs.Family.{Family, alike}
 use Rattle.rules.specs.Relation.{memberAt}
 use Rattle.rules.specs.Lists.{passingFrom, digitsBefore, decimalOf}
-use Rattle.rules.specs.Sheet.{Field, all, within, letter, letterOrDigit, isName, isColumn, isKind, countKind, header, plotMark, treatmentMark, question3}
+use Rattle.rules.specs.Sheet.{columnNames, Field, all, within, letter, letterOrDigit, isName, isColumn, isKind, countKind, header, plotMark, treatmentMark, question3}
 use Rattle.rules.specs.Names.{name-column, name-infimum, name-place, equivalentColumn, infimumAbove, listed, nameByInfimum, nameByColumn, nameOf, withCommas, bytesOf}
-use Rattle.rules.specs.Naming.{Kind, plot, treatment, markOf, firstColumn, kindNames, kindColumns, nameAt}
+use Rattle.rules.specs.Naming.{nameOn, Kind, plot, treatment, markOf, firstColumn, kindNames, kindColumns, nameAt}
 use Rattle.rules.specs.Table.{signed}
 use Rattle.rules.proofs.Numbering.{by-cases}
 use Rattle.rules.proofs.Members.{clash}
@@ -68,12 +68,12 @@ column-short (x ∷ y ∷ name) e = name-short name (and-right ((eqb x plotMark 
 
 -- the names of a header's columns have at most 12 bytes
 pub names-short : (kind : Kind) (fs : List Field) → all isColumn fs ≡ true → (k : ℕ) → length (getD (kindNames kind fs) k []) ≤ 12
-unfolding all kindNames
+unfolding all columnNames
 names-short kind [] a k = omega arith
 names-short kind (f ∷ fs) a k =
     by-cases (isKind (markOf kind) f)
-    (λ e. rw (e, kindNames) (here (λ j. names-short kind fs (and-right (isColumn f) (all isColumn fs) a) j) k))
-    (λ e. rw (e, kindNames) (names-short kind fs (and-right (isColumn f) (all isColumn fs) a) k))
+    (λ e. rw (e, columnNames) (here (λ j. names-short kind fs (and-right (isColumn f) (all isColumn fs) a) j) k))
+    (λ e. rw (e, columnNames) (names-short kind fs (and-right (isColumn f) (all isColumn fs) a) k))
   where
     here : ((j : ℕ) → length (getD (kindNames kind fs) j []) ≤ 12) → (j : ℕ) → length (getD (drop 2 f ∷ kindNames kind fs) j []) ≤ 12
     here rest zero = column-short f (and-left (isColumn f) (all isColumn fs) a)
@@ -122,7 +122,7 @@ module _ (names : List (List ℕ)) (short : (k : ℕ) → length (getD names k [
 
 -- "I(" six names of twelve bytes with commas ")" are 80 bytes: no member's name is longer, of either kind, whatever the level table and the family
 pub name-length : (kind : Kind) (text : List ℕ) (n : ℕ) (levels : List ℕ) (S : Family) (place : ℕ) → question3 text ≡ true → place < 100 → length (nameAt kind text n levels S place) ≤ 80
-unfolding nameAt kindColumns
+unfolding nameAt nameOn kindColumns
 name-length kind text n levels S place q h =
     bytes-length (kindNames kind (header text)) (names-short kind (header text) (header-form text q .columns)) n (kindColumns kind text n levels) place (memberAt S (place - 1))
     (rw (length-columns n levels (firstColumn kind) (countKind (markOf kind) (header text))) (few kind)) h
