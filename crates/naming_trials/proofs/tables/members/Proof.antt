@@ -1,0 +1,66 @@
+-- `members` stays within its digits.
+-- Assumes nothing.
+use mathlib.Core.Path.{_≡_, refl}
+use Prim.Native.Nat.{_-_, _≤_}
+use native.Mathlib.Omega.{arith}
+use lib.ListN.{length}
+use borrow.Author.Needs.{needs}
+use Rattle.naming_trials.proofs.tables.members.Statement.{statement}
+use Rattle.naming_trials.proofs.tables.members.Tie as tie
+
+abbrev Inv-loop : tie.InvT-loop
+Inv-loop family₀ n digits k₀ k-end family k = (k ≤ length digits) × (k-end ≡ length digits)
+
+abbrev μ-loop : tie.MeasureT-loop
+μ-loop family₀ n digits k₀ k-end family k = length digits - k
+
+returns : tie.Need-returns Inv-loop μ-loop
+returns c = search needs
+
+loop-holds : tie.Need-loop-holds Inv-loop μ-loop
+loop-holds c = (omega arith, refl)
+
+div-put : tie.Need-div-put Inv-loop μ-loop
+div-put c = search needs
+
+rem-put : tie.Need-rem-put Inv-loop μ-loop
+rem-put c = search needs
+
+shared-slice-read-wide : tie.Need-shared-slice-read-wide Inv-loop μ-loop
+shared-slice-read-wide c = search needs
+
+wide-requires : tie.Need-wide-requires Inv-loop μ-loop
+wide-requires c κs = search needs
+
+put-requires : tie.Need-put-requires Inv-loop μ-loop
+put-requires c κs = search needs
+
+add-k : tie.Need-add-k Inv-loop μ-loop
+add-k c = search needs
+
+loop-less : tie.Need-loop-less Inv-loop μ-loop
+loop-less c = search needs
+
+loop-again : tie.Need-loop-again Inv-loop μ-loop
+loop-again c = (omega arith, refl)
+
+returns-2 : tie.Need-returns-2 Inv-loop μ-loop
+returns-2 c = search needs
+
+pub members-spec : {M : Type 1} → statement M
+members-spec =
+    tie.close
+    (tie.spec
+    Inv-loop
+    μ-loop
+    returns
+    loop-holds
+    div-put
+    rem-put
+    shared-slice-read-wide
+    wide-requires
+    put-requires
+    add-k
+    loop-less
+    loop-again
+    returns-2)
