@@ -20,7 +20,7 @@ paste-paste d at s t k h =
     let p = paste d at s n in
     let front : take (at + n) p ≡ take at d ++ s = take-paste d at s n (omega arith) (omega arith) ∙ ap (λ (r : List ℕ). take at d ++ r) (take-length s) in
     let back : drop (at + n + k) p ≡ drop (at + (n + k)) d =
-        sym (drop-drop k (at + n) p) ∙ ap (drop k) (drop-paste d at s n (omega arith) (omega arith)) ∙ drop-drop k (at + n) d ∙ ap (λ (i : ℕ). drop i d) (add-assoc at n k) in
+    sym (drop-drop k (at + n) p) ∙ ap (drop k) (drop-paste d at s n (omega arith) (omega arith)) ∙ drop-drop k (at + n) d ∙ ap (λ (i : ℕ). drop i d) (add-assoc at n k) in
     ap₂ (λ (x y : List ℕ). x ++ take k t ++ y) front back
     ∙ ap (λ (x : List ℕ). x ++ drop (at + (n + k)) d) (append-assoc (take at d) s (take k t) ∙ ap (λ (x : List ℕ). take at d ++ x) (sym (take-append-add s t k)))
 
@@ -64,9 +64,10 @@ module _ (out : List ℕ) (at : ℕ) where
         let f : min (length s) m ≡ m = omega arith in
         let l : length (paste out at s m) ≡ length out = subst (λ (x : ℕ). length (paste out at s x) ≡ length out) f (length-written s) in
         let g : min (length t) (length (paste out at s m) - (at + m)) ≡ 0 = omega arith in
-        let e : min (length (s ++ t)) (length out - at) ≡ m = omega (arith, length-append s t) in
-        (rw (f, g, e) (sym (paste-zero (paste out at s m) (at + m) t) ∙ ap (λ (x : List ℕ). take at out ++ x ++ drop (at + m) out) (sym (take-append-le m s t (omega arith)))),
-        rw (f, g, e) (omega arith))
+        let e : min (length (s ++ t)) (length out - at) ≡ m = omega (arith, length-append s t) in (
+          rw (f, g, e) (sym (paste-zero (paste out at s m) (at + m) t) ∙ ap (λ (x : List ℕ). take at out ++ x ++ drop (at + m) out) (sym (take-append-le m s t (omega arith)))),
+          rw (f, g, e) (omega arith),
+        )
 
     pub written-append : Both
     written-append = go (leb (at + length s) (length out)) refl
