@@ -13,8 +13,9 @@ use lib.ListN.{length, getD, take, drop, length-append, drop-of-length-le}
 use lib.Seq.{drop-cons, append-snoc, take-suc, getD-take, length-take-le}
 use borrow.Author.Tests.{lt-ltb, eqb-true, eqb-false, eq-eqb, ne-eqb}
 use Rattle.rules.proofs.Lists.{length-tabulate, getD-tabulate}
-use Rattle.rules.specs.Table.{Row, rowBytes, rowsBytes, signed, isZero, sourceRows, residualRows, stratumRows, strataRows, wordTotal, wordResidual}
-use Rattle.table.specs.Names.{nameIn, namesIn, among, residualOf}
+use Rattle.rules.specs.Lists.{decimalOf}
+use Rattle.rules.specs.Table.{Row, refusedRow, wordAll, wordStratum, wordSource, wordDf, rowBytes, rowsBytes, signed, isZero, sourceRows, residualRows, stratumRows, strataRows, wordTotal, wordResidual}
+use Rattle.table.specs.Names.{nameIn, namesIn, among, residualOf, tableOf}
 
 -- a line of three fields, field by field
 pub row-fields : (f g h : List ℕ) → (f ++ 9 ∷ []) ++ (g ++ 9 ∷ []) ++ (h ++ 10 ∷ []) ≡ rowBytes (f ∷ g ∷ h ∷ [])
@@ -197,3 +198,40 @@ strata-step strata lens count totals residuals ts ss ds i h ht hr =
 pub strata-end : (k : ℕ) (ps : List (List ℕ)) (es rs : List ℤ) (ts : List (List ℕ)) (ss : List ℕ) (ds : List ℤ) (i : ℕ) → length ps ≤ i → rowsBytes (strataRows k (drop i ps) (drop i es) (drop i rs) ts ss ds) ≡ []
 unfolding strataRows rowsBytes
 strata-end k ps es rs ts ss ds i h = rw (drop-of-length-le ps h)
+
+-- ---- the first line, the last line, the line of a refusal
+
+-- `=all`, tab, `=total`, tab
+abbrev pub start-plots : List ℕ
+start-plots = 61 ∷ 97 ∷ 108 ∷ 108 ∷ 9 ∷ 61 ∷ 116 ∷ 111 ∷ 116 ∷ 97 ∷ 108 ∷ 9 ∷ []
+
+pub plots-bytes : (n : ℕ) → start-plots ++ decimalOf n ++ 10 ∷ [] ≡ rowBytes (wordAll ∷ wordTotal ∷ decimalOf n ∷ [])
+unfolding rowBytes
+plots-bytes n = refl
+
+-- `stratum`, tab, `source`, tab, `df`, end of the line
+abbrev pub start-table : List ℕ
+start-table = 115 ∷ 116 ∷ 114 ∷ 97 ∷ 116 ∷ 117 ∷ 109 ∷ 9 ∷ 115 ∷ 111 ∷ 117 ∷ 114 ∷ 99 ∷ 101 ∷ 9 ∷ 100 ∷ 102 ∷ 10 ∷ []
+
+pub table-bytes : (n : ℕ) (rows : List Row) → start-table ++ rowsBytes rows ++ rowBytes (wordAll ∷ wordTotal ∷ decimalOf n ∷ []) ≡ rowsBytes (tableOf n rows)
+unfolding tableOf rowsBytes rowBytes
+table-bytes n rows =
+    let last = (wordAll ∷ wordTotal ∷ decimalOf n ∷ []) ∷ [] in
+    let e : rowsBytes rows ++ rowBytes (wordAll ∷ wordTotal ∷ decimalOf n ∷ []) ≡ rowsBytes (rows ++ last) =
+        sym (rows-append rows last ∙ ap (λ (x : List ℕ). rowsBytes rows ++ x) (rows-one (wordAll ∷ wordTotal ∷ decimalOf n ∷ []))) in
+    ap (λ (x : List ℕ). start-table ++ x) e
+
+-- `refused`, tab
+abbrev pub start-refused : List ℕ
+start-refused = 114 ∷ 101 ∷ 102 ∷ 117 ∷ 115 ∷ 101 ∷ 100 ∷ 9 ∷ []
+
+pub refused-bytes : (q : ℕ) (f s : List ℕ) → start-refused ++ decimalOf q ++ 9 ∷ [] ++ (f ++ 9 ∷ []) ++ s ++ 10 ∷ [] ≡ rowsBytes (refusedRow q f s ∷ [])
+unfolding refusedRow rowBytes
+refused-bytes q f s =
+    let d = decimalOf q in
+    let x = d ++ 9 ∷ [] in
+    let y = f ++ 9 ∷ [] in
+    let t = s ++ 10 ∷ [] in
+    let e : x ++ y ++ s ++ 10 ∷ [] ≡ d ++ 9 ∷ (f ++ 9 ∷ t) =
+        append-assoc (x ++ y) s (10 ∷ []) ∙ append-assoc x y t ∙ append-snoc d 9 (y ++ t) ∙ ap (λ (r : List ℕ). d ++ 9 ∷ r) (append-snoc f 9 t) in
+    ap (λ (r : List ℕ). start-refused ++ r) e ∙ sym (rows-one (refusedRow q f s))

@@ -1,3 +1,14 @@
+-- `put_plots`: two words, the number, the end of the line.
+-- Assumes nothing.
+use mathlib.Core.Path.{_≡_, refl, sym, ap, _∙_}
+use mathlib.Core.List.{List, [], _∷_, _++_}
+use Prim.Native.Nat.{ℕ}
+use denote.Ref.{now}
+use lib.ListN.{take}
+use Rattle.rules.specs.Lists.{decimalOf}
+use Rattle.rules.specs.Table.{rowBytes, rowsBytes, refusedRow, strataRows, wordAll, wordTotal, wordStratum, wordSource, wordDf}
+use Rattle.decimal.proofs.Writing.{wrote-as, wrote-then}
+use Rattle.table.proofs.RowLaws.{start-plots, plots-bytes}
 use borrow.Author.Needs.{needs}
 use Rattle.table.proofs.rows.put_plots.Statement.{statement}
 use Rattle.table.proofs.rows.put_plots.Tie as tie
@@ -6,33 +17,31 @@ use Rattle.table.proofs.rows.put_plots.Lts as lts
 use Rattle.decimal.proofs.write_bytes.Reads as write-bytes-reads
 use Rattle.decimal.proofs.write_decimal.Reads as write-decimal-reads
 
--- src/rows.rt:231:30
 slice-aggregate-write-bytes : tie.Need-slice-aggregate-write-bytes
 slice-aggregate-write-bytes c = search needs
 
--- src/rows.rt:231:9
 write-bytes-requires : tie.Need-write-bytes-requires
 write-bytes-requires c κs = search needs
 
--- src/rows.rt:232:9
 write-decimal-requires : tie.Need-write-decimal-requires
 write-decimal-requires c κs = search needs
 
--- src/rows.rt:233:17
 slice-aggregate-write-bytes-2 : tie.Need-slice-aggregate-write-bytes-2
 slice-aggregate-write-bytes-2 c = search needs
 
--- src/rows.rt:233:5
 write-bytes-requires-2 : tie.Need-write-bytes-requires-2
 write-bytes-requires-2 c κs = search needs
 
--- src/rows.rt:227:1
 same-length : tie.Need-same-length
 same-length c = search needs
 
--- src/rows.rt:227:1
 returns : tie.Need-returns
-returns c = ?
+returns c =
+    let a = c .before .before .before .before .before .before .before .before .before .before .before .before .before .before .before .args in
+    let o = now (a .out) in
+    let d = decimalOf (a .plots) in
+    let two = wrote-then o (a .at) start-plots d (c .before .before .before .before .before .before .before .before .before .before .before .write-bytes .ensures) (c .before .before .before .before .before .before .before .write-decimal .ensures) in
+    wrote-as o (a .at) (plots-bytes (a .plots)) (wrote-then o (a .at) (start-plots ++ d) (10 ∷ []) two (c .before .before .write-bytes2 .ensures))
 
 pub put-plots-spec : {M : Type 1} → statement M
 put-plots-spec =
