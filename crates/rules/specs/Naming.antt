@@ -10,7 +10,7 @@ use Rattle.rules.specs.Factor.{Column}
 use Rattle.rules.specs.Family.{Family, columnsFrom, membersOf, wellFormed}
 use Rattle.rules.specs.Design.{plotsWithin, allNonzero}
 use Rattle.rules.specs.Relation.{memberAt}
-use Rattle.rules.specs.Sheet.{Field, header, isKind, countKind, plotMark, treatmentMark, question2, question3}
+use Rattle.rules.specs.Sheet.{Field, header, columnNames, countKind, plotMark, treatmentMark, question2, question3}
 use Rattle.rules.specs.Names.{nameOf, bytesOf}
 
 -- "the family's kind, plot or treatment, which the caller states"
@@ -29,20 +29,23 @@ firstColumn plot = 0
 firstColumn treatment = mostColumns
 
 -- the names of the columns of the kind, in sheet order
-unfoldable pub kindNames : Kind → List Field → List (List ℕ)
-unfolding isKind
-kindNames kind [] = []
-kindNames kind (f ∷ fs) = elim (isKind (markOf kind) f) [ true ↦ drop 2 f ∷ kindNames kind fs | false ↦ kindNames kind fs ]
+abbrev pub kindNames : Kind → List Field → List (List ℕ)
+kindNames kind fs = columnNames (markOf kind) fs
 
 -- the columns of the kind on n plots: "uses its first line for the column names and column counts, and reads the columns in the level table"
 unfoldable pub kindColumns : Kind → List ℕ → ℕ → List ℕ → List Column
 unfolding columnsFrom countKind header
 kindColumns kind text n levels = columnsFrom n levels (firstColumn kind) (countKind (markOf kind) (header text))
 
--- the name of the member at a place, from 1
+-- the name of the member F at a place, from 1
+unfoldable pub nameOn : Kind → List ℕ → ℕ → List ℕ → ℕ → Column → List ℕ
+unfolding bytesOf nameOf columnNames kindColumns header
+nameOn kind text n levels place F = bytesOf (kindNames kind (header text)) (nameOf n (kindColumns kind text n levels) place F)
+
+-- the name of the member that stands at a place of the family
 unfoldable pub nameAt : Kind → List ℕ → ℕ → List ℕ → Family → ℕ → List ℕ
-unfolding bytesOf nameOf kindNames kindColumns header
-nameAt kind text n levels S place = bytesOf (kindNames kind (header text)) (nameOf n (kindColumns kind text n levels) place (memberAt S (place - 1)))
+unfolding nameOn
+nameAt kind text n levels S place = nameOn kind text n levels place (memberAt S (place - 1))
 
 -- ---- the answer
 

@@ -3,4 +3,5 @@ pub mod Stops
 pub mod RowLaws
 pub mod StoreLaws
 pub mod HeaderLaws
+pub mod NameLaws
 pub mod QuestionLaws

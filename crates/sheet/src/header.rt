@@ -2,10 +2,11 @@
 use crate::field;
 ghost use mathlib.Core.Path.{_≡_};
 ghost use mathlib.Core.Bool.{true};
-ghost use Prim.Native.Nat.{_+_, _<_, _≤_};
-ghost use lib.ListN.{length, take, drop};
+ghost use mathlib.Core.List.{[]};
+ghost use Prim.Native.Nat.{_+_, _<_, _≤_, min};
+ghost use lib.ListN.{length, getD, take, drop};
 ghost use lib.Seq.{slice};
-ghost use Rattle.rules.specs.Sheet.{newline, upTo, has, fields, all, isColumn, newName, namesDiffer, header, columnsAfter};
+ghost use Rattle.rules.specs.Sheet.{newline, upTo, has, fields, all, isColumn, isKind, columnNames, newName, namesDiffer, header, columnsAfter};
 ghost use Rattle.sheet.specs.Answers.{noHeader, marked, headed};
 use limits::COLUMNS;
 use limits::FIELDS;
@@ -15,6 +16,12 @@ pub struct Header {
     pub end: usize,
     pub plot_columns: usize,
     pub treatment_columns: usize,
+}
+
+// Where bytes of a text stand: from `start` on, those before `end`.
+pub struct Span {
+    pub start: usize,
+    pub end: usize,
 }
 
 // Question 3.
@@ -138,4 +145,57 @@ pub fn columns(text: &[u8], n: usize) -> [usize; FIELDS]
         at = field::end_of(text, at) + 1;
     }
     r
+}
+
+// Whether the field from `start` to `stop` starts with the byte that marks a kind.
+fn is_kind(text: &[u8], start: usize, stop: usize, mark: u8) -> bool
+    requires { ⌜ stop ≤ length (now text) ⌝ }
+    ensures { λ r. ⌜ r ≡ isKind mark (slice start stop (now (text .entry))) ⌝ }
+{
+    if stop <= start {
+        return false;
+    }
+    text[start] == mark
+}
+
+// Where the name in the field from `start` to `stop` stands: past the two bytes of its kind.
+fn name_in(start: usize, stop: usize) -> Span
+    requires { ⌜ start ≤ stop ⌝ }
+    ensures { λ r. ⌜ (r .start ≡ min (start + 2) stop) × (r .end ≡ stop) ⌝ }
+{
+    if stop - start < 2 {
+        return Span {
+            start: stop,
+            end: stop,
+        };
+    }
+    Span {
+        start: start + 2,
+        end: stop,
+    }
+}
+
+// Where the name of column `c`, from 0, of those that the first line marks with the byte `mark` stands; 0 and 0 where there is none.
+pub fn column_name(text: &[u8], mark: u8, c: usize) -> Span
+    ensures inside { λ r. ⌜ (r .start ≤ r .end) × (r .end ≤ length (now (text .entry))) ⌝ }
+    ensures bytes { λ r. ⌜ slice (r .start) (r .end) (now (text .entry)) ≡ getD (columnNames mark (header (now (text .entry)))) c [] ⌝ }
+{
+    let mut at = 0;
+    let mut left = c;
+    loop {
+        let e = field::end_of(text, at);
+        if is_kind(text, at, e, mark) {
+            if left == 0 {
+                return name_in(at, e);
+            }
+            left -= 1;
+        }
+        if text.len() <= e {
+            return Span { start: 0, end: 0 };
+        }
+        if text[e] == b'\n' {
+            return Span { start: 0, end: 0 };
+        }
+        at = e + 1;
+    }
 }

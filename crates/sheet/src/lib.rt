@@ -8,6 +8,10 @@ mod header;
 mod questions;
 mod rows;
 
+pub use header::Header;
+pub use header::Span;
+pub use header::column_name;
+pub use header::read_header;
 use limits::LEVELS;
 use limits::TEXT;
 

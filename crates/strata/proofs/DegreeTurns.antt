@@ -22,9 +22,11 @@ use Rattle.rules.proofs.Degrees.{degrees-equation}
 use Rattle.rules.proofs.DegreesLaws.{Place, place-of, length-degrees, degrees-bound}
 use Rattle.rules.proofs.Places.{at-places}
 use Rattle.rules.proofs.StrictOrder.{later-not-coarser}
-use Rattle.strata.specs.Lent.{columnAt, Formed}
+use Rattle.families.specs.Lent.{columnAt}
+use Rattle.strata.specs.Lent.{Formed}
 use Rattle.strata.specs.Sums.{sumPassing, AllSmall}
-use Rattle.strata.proofs.Lent.{length-column, accepted-members, size-members, on-plots}
+use Rattle.families.proofs.Lent.{length-column}
+use Rattle.strata.proofs.Lent.{accepted-members, size-members, on-plots}
 use Rattle.strata.proofs.RelationWords.{wordsOf, bit-at}
 use Rattle.strata.proofs.Sums.{pass-ext, pass-more, coarser-sum-is}
 

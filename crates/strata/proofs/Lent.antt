@@ -16,7 +16,8 @@ use Rattle.rules.proofs.Buffer.{length-members, member-is}
 use Rattle.rules.proofs.WellFormed.{Accepted, accepted}
 use Rattle.factor.specs.Lent.{common}
 use Rattle.factor.specs.Standing.{testCommon}
-use Rattle.strata.specs.Lent.{columnAt, Formed}
+use Rattle.strata.specs.Lent.{Formed}
+use Rattle.families.proofs.Lent.{length-column}
 
 and-left : (a b : Bool) → a && b ≡ true → a ≡ true
 and-left true b e = refl
@@ -26,27 +27,6 @@ and-right : (a b : Bool) → a && b ≡ true → b ≡ true
 and-right true b e = e
 and-right false true e = refl
 and-right false false e = e
-
--- a part of n bytes that starts at member i
-pub part-of : (n i : ℕ) (b : List ℕ) → take (240 * i + n - 240 * i) (drop (240 * i) b) ≡ columnAt n b i
-part-of n i b =
-    let e : 240 * i + n - 240 * i ≡ n = omega arith in
-    ap (λ (k : ℕ). take k (drop (240 * i) b)) e
-
-pub length-column : (n i : ℕ) (b : List ℕ) → n ≤ 240 → i < 32 → 7680 ≤ length b → length (columnAt n b i) ≡ n
-length-column n i b hn hi hb = simp (length-take, length-drop) (omega arith)
-
--- columns on the same plots have these in common
-pub finer-common : (n : ℕ) (F G : Column) → n ≤ 240 → length F ≡ n → length G ≡ n → testCommon finer F G ≡ finer n F G
-finer-common n F G h lF lG =
-    let e : common F G ≡ n = omega arith in
-    ap (λ (k : ℕ). finer k (take k F) (take k G)) e ∙ ap₂ (finer n) (take-all n F (omega arith)) (take-all n G (omega arith))
-
--- question 15, part by part
-pub formed-parts : (n : ℕ) → n ≤ 240 → (b : List ℕ) (size : ℕ)
-    → wellFormed (membersOf n b size) ≡ ltb 0 size && leb size 32 && allNumbered (membersOf n b size) && ordered (membersOf n b size)
-unfolding wellFormed
-formed-parts n h b size = rw (length-members n h b size)
 
 module _ {n : ℕ} {b : List ℕ} {size : ℕ} (is : Formed n b size) where
   pub accepted-members : Accepted (membersOf n b size)

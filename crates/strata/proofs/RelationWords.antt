@@ -25,7 +25,8 @@ use Rattle.rules.proofs.Bits.{word-none, word-more, bit-past, bit-none, every-m
 use Rattle.rules.proofs.Relation.{direct-ones}
 use Rattle.rules.proofs.WellFormed.{Accepted}
 use Rattle.rules.proofs.StrictOrder.{earlier-coarser, later-not-coarser}
-use Rattle.strata.specs.Lent.{columnAt, Formed}
+use Rattle.families.specs.Lent.{columnAt}
+use Rattle.strata.specs.Lent.{Formed}
 use Rattle.strata.specs.Words.{AllWords, finerWord, directBit, directWord}
 use Rattle.strata.proofs.Lent.{accepted-members, size-members, on-plots}
 

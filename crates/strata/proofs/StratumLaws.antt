@@ -30,7 +30,8 @@ use Rattle.rules.proofs.Bits.{every-ext, every-suc}
 use Rattle.rules.proofs.WellFormed.{Accepted}
 use Rattle.rules.proofs.StrictOrder.{finer-places}
 use Rattle.rules.proofs.DegreesLaws.{length-degrees}
-use Rattle.strata.specs.Lent.{columnAt, Formed}
+use Rattle.families.specs.Lent.{columnAt}
+use Rattle.strata.specs.Lent.{Formed}
 use Rattle.strata.specs.Words.{candidateWord, below, coarsest, firstPassing}
 use Rattle.strata.specs.Sums.{AllSmall, sumPassing, residualAt}
 use Rattle.strata.proofs.Lent.{accepted-members, size-members, on-plots}

@@ -3,14 +3,9 @@
 use mathlib.Core.Path.{_≡_}
 use mathlib.Core.Bool.{true}
 use mathlib.Core.List.{List}
-use Prim.Native.Nat.{ℕ, _*_, _≤_}
-use lib.ListN.{length, take, drop}
-use Rattle.rules.specs.Factor.{Column}
+use Prim.Native.Nat.{ℕ, _≤_}
+use lib.ListN.{length}
 use Rattle.rules.specs.Family.{membersOf, wellFormed}
-
--- the member at place i, from 0, of a family buffer
-abbrev pub columnAt : ℕ → List ℕ → ℕ → Column
-columnAt n buffer i = take n (drop (240 * i) buffer)
 
 -- a family that questions 6 and 15 accept
 pub record Formed (n : ℕ) (buffer : List ℕ) (size : ℕ) : Type 0 where

@@ -7,7 +7,7 @@ use lib.Dec.{eqb}
 use lib.ListN.{getD}
 use Rattle.rules.specs.Factor.{every, finer}
 use Rattle.rules.specs.Lists.{wordOf, bitAt}
-use Rattle.strata.specs.Lent.{columnAt}
+use Rattle.families.specs.Lent.{columnAt}
 
 -- words of 32 bits
 abbrev pub AllWords : List ℕ → Type 0

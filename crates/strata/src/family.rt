@@ -1,29 +1,10 @@
-// Members of a lent family buffer, counted from 0, and questions 6 and 15.
+// Members of a lent family buffer, counted from 0.
 ghost use mathlib.Core.Path.{_≡_};
-ghost use mathlib.Core.Bool.{_&&_};
 ghost use Prim.Native.Nat.{_≤_, _<_};
-ghost use lib.Dec.{leb};
 ghost use lib.ListN.{length};
-ghost use Rattle.rules.specs.Factor.{classes, finer, number};
-ghost use Rattle.rules.specs.Family.{membersOf, alike, before, allNumbered, ordered, wellFormed};
-ghost use Rattle.rules.specs.Design.{plotsWithin};
-ghost use Rattle.strata.specs.Lent.{columnAt};
-use limits::FAMILY;
-use limits::MEMBERS;
+ghost use Rattle.rules.specs.Factor.{classes, finer};
+ghost use Rattle.families.specs.Lent.{columnAt};
 use limits::PLOTS;
-
-// 6, of one family.
-pub fn within(plots: usize, bytes: usize) -> bool
-    ensures { λ r. ⌜ r ≡ plotsWithin plots && leb 7680 bytes ⌝ }
-{
-    if plots < 1 {
-        return false;
-    }
-    if PLOTS < plots {
-        return false;
-    }
-    FAMILY <= bytes
-}
 
 // Whether member `i` of `f` is finer than or equivalent to member `j` of `g`.
 pub fn member_finer(f: &[u8], i: usize, g: &[u8], j: usize, n: usize) -> bool
@@ -45,69 +26,4 @@ pub fn member_classes(family: &[u8], i: usize, n: usize) -> usize
     let a = PLOTS * i;
     let e = a + n;
     factor::classes(&family[a..e])
-}
-
-// Whether a member is numbered by first appearance.
-fn member_numbered(family: &[u8], i: usize, n: usize) -> bool
-    requires { ⌜ (n ≤ 240) × (7680 ≤ length (now family)) × (i < 32) ⌝ }
-    ensures { λ r. ⌜ r ≡ alike (number (columnAt n (now (family .entry)) i)) (columnAt n (now (family .entry)) i) ⌝ }
-{
-    let a = PLOTS * i;
-    let e = a + n;
-    factor::is_numbered(&family[a..e])
-}
-
-// Whether member `i` stands before member `j` by the order of members.
-fn member_before(family: &[u8], i: usize, j: usize, n: usize) -> bool
-    requires { ⌜ (n ≤ 240) × (7680 ≤ length (now family)) × (i < 32) × (j < 32) ⌝ }
-    ensures { λ r. ⌜ r ≡ before (columnAt n (now (family .entry)) i) (columnAt n (now (family .entry)) j) ⌝ }
-{
-    let a = PLOTS * i;
-    let b = PLOTS * j;
-    let c = a + n;
-    let d = b + n;
-    factor::before(&family[a..c], &family[b..d])
-}
-
-// Whether every member is numbered by first appearance.
-fn all_numbered(family: &[u8], n: usize, size: usize) -> bool
-    requires { ⌜ (n ≤ 240) × (7680 ≤ length (now family)) × (size ≤ 32) ⌝ }
-    ensures { λ r. ⌜ r ≡ allNumbered (membersOf n (now (family .entry)) size) ⌝ }
-{
-    for i in 0..size {
-        if !member_numbered(family, i, n) {
-            return false;
-        }
-    }
-    true
-}
-
-// Whether each member stands before the next.
-fn in_order(family: &[u8], n: usize, size: usize) -> bool
-    requires { ⌜ (n ≤ 240) × (7680 ≤ length (now family)) × (1 ≤ size) × (size ≤ 32) ⌝ }
-    ensures { λ r. ⌜ r ≡ ordered (membersOf n (now (family .entry)) size) ⌝ }
-{
-    for i in 0..size - 1 {
-        if !member_before(family, i, i + 1, n) {
-            return false;
-        }
-    }
-    true
-}
-
-// 15: 1 to 32 members in the numbering and order of the rules, no two alike.
-pub fn well_formed(family: &[u8], n: usize, size: usize) -> bool
-    requires { ⌜ (n ≤ 240) × (7680 ≤ length (now family)) ⌝ }
-    ensures { λ r. ⌜ r ≡ wellFormed (membersOf n (now (family .entry)) size) ⌝ }
-{
-    if size < 1 {
-        return false;
-    }
-    if MEMBERS < size {
-        return false;
-    }
-    if !all_numbered(family, n, size) {
-        return false;
-    }
-    in_order(family, n, size)
 }

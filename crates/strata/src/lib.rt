@@ -46,10 +46,10 @@ pub struct StrataReport {
 pub fn relation(family: &[u8], plots: usize, size: usize) -> RelationReport
     ensures { λ r. ⌜ relationIn r ≡ relation plots (now (family .entry)) size ⌝ }
 {
-    if !family::within(plots, family.len()) {
+    if !families::within(plots, family.len()) {
         return order::refused(6);
     }
-    if !family::well_formed(family, plots, size) {
+    if !families::well_formed(family, plots, size) {
         return order::refused(15);
     }
     order::report(family, plots, size)
@@ -59,10 +59,10 @@ pub fn relation(family: &[u8], plots: usize, size: usize) -> RelationReport
 pub fn degrees_of_freedom(family: &[u8], plots: usize, size: usize) -> DegreesReport
     ensures { λ r. ⌜ degreesIn r ≡ degreesOfFreedom plots (now (family .entry)) size ⌝ }
 {
-    if !family::within(plots, family.len()) {
+    if !families::within(plots, family.len()) {
         return degrees::refused(6);
     }
-    if !family::well_formed(family, plots, size) {
+    if !families::well_formed(family, plots, size) {
         return degrees::refused(15);
     }
     degrees::report(family, plots, size)
@@ -78,10 +78,10 @@ pub fn strata(
 ) -> StrataReport
     ensures { λ r. ⌜ strataIn r ≡ strata plots (now («plot_family» .entry)) «plot_size» (now («treatment_family» .entry)) «treatment_size» ⌝ }
 {
-    if !family::within(plots, plot_family.len()) {
+    if !families::within(plots, plot_family.len()) {
         return stratum::refused(6);
     }
-    if !family::within(plots, treatment_family.len()) {
+    if !families::within(plots, treatment_family.len()) {
         return stratum::refused(6);
     }
     stratum::from_15(

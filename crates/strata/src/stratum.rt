@@ -19,9 +19,9 @@ use crate::StrataReport;
 use crate::degrees::degrees;
 use crate::degrees::less;
 use crate::family::member_finer;
-use crate::family::well_formed;
 use crate::order::coarser_words;
 use crate::order::has;
+use families::well_formed;
 use limits::MEMBERS;
 
 // The answer of question `q` where it fails.

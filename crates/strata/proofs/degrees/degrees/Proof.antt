@@ -16,7 +16,7 @@ use Rattle.rules.specs.Lists.{forPlaces, bitAt}
 use Rattle.rules.specs.Degrees.{degrees}
 use Rattle.rules.proofs.Places.{places-start, places-step, places-end}
 use Rattle.rules.proofs.DegreesLaws.{length-degrees}
-use Rattle.strata.specs.Lent.{columnAt}
+use Rattle.families.specs.Lent.{columnAt}
 use Rattle.strata.specs.Sums.{AllSmall, sumPassing}
 use Rattle.strata.proofs.Lent.{size-members}
 use Rattle.strata.proofs.Sums.{small-fits, small-take, small-places}

@@ -4,7 +4,7 @@ use mathlib.Core.Path.{ap, _∙_}
 use denote.Ref.{now}
 use borrow.Author.Needs.{needs}
 use Rattle.rules.specs.Factor.{classes}
-use Rattle.strata.proofs.Lent.{part-of}
+use Rattle.families.proofs.Lent.{part-of}
 use Rattle.strata.proofs.family.member_classes.Statement.{statement}
 use Rattle.strata.proofs.family.member_classes.Tie as tie
 

@@ -6,8 +6,8 @@ use denote.Ref.{now}
 use borrow.Author.Needs.{needs}
 use Rattle.rules.specs.Factor.{finer}
 use Rattle.factor.specs.Standing.{testCommon}
-use Rattle.strata.specs.Lent.{columnAt}
-use Rattle.strata.proofs.Lent.{part-of, length-column, finer-common}
+use Rattle.families.specs.Lent.{columnAt}
+use Rattle.families.proofs.Lent.{part-of, length-column, finer-common}
 use Rattle.strata.proofs.family.member_finer.Statement.{statement}
 use Rattle.strata.proofs.family.member_finer.Tie as tie
 

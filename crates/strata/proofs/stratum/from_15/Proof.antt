@@ -1,10 +1,12 @@
 -- `from_15` meets its contract: question 15 is asked of both families.
 -- Assumes nothing.
 use mathlib.Core.Path.{sym, _∙_}
+use native.Mathlib.Omega.{arith}
 use denote.Ref.{now}
 use borrow.Author.Needs.{needs}
 use borrow.Author.Tests.{not-true, not-false}
 use Rattle.rules.specs.Family.{membersOf}
+use Rattle.families.proofs.Lent.{formed-in}
 use Rattle.strata.proofs.Lent.{formed-family}
 use Rattle.strata.proofs.Questions.{strata-15-plot, strata-15-treatment, strata-15-on}
 use Rattle.strata.proofs.stratum.from_15.Statement.{statement}
@@ -21,7 +23,7 @@ returns c =
     let a = c .before .before .before .before .before .args in
     let P = membersOf (a .n) (now (a .plot-family)) (a .plot-size) in
     let R = membersOf (a .n) (now (a .treatment-family)) (a .treatment-size) in
-    c .refused .ensures ∙ sym (strata-15-plot (a .n) P R (sym (c .before .before .well-formed .ensures) ∙ not-true _ (c .before .if1 .taken)))
+    c .refused .ensures ∙ sym (strata-15-plot (a .n) P R (sym (c .before .before .well-formed .ensures ∙ formed-in (a .n) (now (a .plot-family)) (a .plot-size) (omega arith) (omega arith)) ∙ not-true _ (c .before .if1 .taken)))
 
 well-formed-requires-2 : tie.Need-well-formed-requires-2
 well-formed-requires-2 c κs = search needs
@@ -35,14 +37,14 @@ returns-2 c =
     let P = membersOf (a .n) (now (a .plot-family)) (a .plot-size) in
     let R = membersOf (a .n) (now (a .treatment-family)) (a .treatment-size) in
     c .refused2 .ensures
-    ∙ sym (strata-15-treatment (a .n) P R (sym (c .before .before .before .before .well-formed .ensures) ∙ not-false _ (c .before .before .before .if1 .left)) (sym (c .before .before .well-formed2 .ensures) ∙ not-true _ (c .before .if2 .taken)))
+    ∙ sym (strata-15-treatment (a .n) P R (sym (c .before .before .before .before .well-formed .ensures ∙ formed-in (a .n) (now (a .plot-family)) (a .plot-size) (omega arith) (omega arith)) ∙ not-false _ (c .before .before .before .if1 .left)) (sym (c .before .before .well-formed2 .ensures ∙ formed-in (a .n) (now (a .treatment-family)) (a .treatment-size) (omega arith) (omega arith)) ∙ not-true _ (c .before .if2 .taken)))
 
 from-16-requires : tie.Need-from-16-requires
 from-16-requires c κs =
     let s = c .before .before .before .before .before .before in
     let a = s .args in (
-      formed-family (a .n) (now (a .plot-family)) (a .plot-size) (record { few-plots = s .pre .0; long = s .pre .1 }) (sym (c .before .before .before .well-formed .ensures) ∙ not-false _ (c .before .before .if1 .left)),
-      formed-family (a .n) (now (a .treatment-family)) (a .treatment-size) (record { few-plots = s .pre .0; long = s .pre .2 }) (sym (c .before .well-formed2 .ensures) ∙ not-false _ (c .if2 .left)),
+      formed-family (a .n) (now (a .plot-family)) (a .plot-size) (record { few-plots = s .pre .0; long = s .pre .1 }) (sym (c .before .before .before .well-formed .ensures ∙ formed-in (a .n) (now (a .plot-family)) (a .plot-size) (omega arith) (omega arith)) ∙ not-false _ (c .before .before .if1 .left)),
+      formed-family (a .n) (now (a .treatment-family)) (a .treatment-size) (record { few-plots = s .pre .0; long = s .pre .2 }) (sym (c .before .well-formed2 .ensures ∙ formed-in (a .n) (now (a .treatment-family)) (a .treatment-size) (omega arith) (omega arith)) ∙ not-false _ (c .if2 .left)),
     )
 
 returns-3 : tie.Need-returns-3
@@ -51,7 +53,7 @@ returns-3 c =
     let P = membersOf (a .n) (now (a .plot-family)) (a .plot-size) in
     let R = membersOf (a .n) (now (a .treatment-family)) (a .treatment-size) in
     c .from-16 .ensures
-    ∙ sym (strata-15-on (a .n) P R (sym (c .before .before .before .before .well-formed .ensures) ∙ not-false _ (c .before .before .before .if1 .left)) (sym (c .before .before .well-formed2 .ensures) ∙ not-false _ (c .before .if2 .left)))
+    ∙ sym (strata-15-on (a .n) P R (sym (c .before .before .before .before .well-formed .ensures ∙ formed-in (a .n) (now (a .plot-family)) (a .plot-size) (omega arith) (omega arith)) ∙ not-false _ (c .before .before .before .if1 .left)) (sym (c .before .before .well-formed2 .ensures ∙ formed-in (a .n) (now (a .treatment-family)) (a .treatment-size) (omega arith) (omega arith)) ∙ not-false _ (c .before .if2 .left)))
 
 pub from-15-spec : {M : Type 1} → statement M
 from-15-spec =

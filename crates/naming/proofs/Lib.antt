@@ -1,0 +1,6 @@
+pub mod Levels
+pub mod Numbered
+pub mod Tables
+pub mod Listing
+pub mod Rules
+pub mod Entry

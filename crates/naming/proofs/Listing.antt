@@ -1,0 +1,131 @@
+-- Laws of a list of names, written name by name.
+-- Assumes nothing.
+use mathlib.Core.Path.{_≡_, refl, sym, ap, ap₂, _∙_}
+use mathlib.Core.Bool.{Bool, true, false}
+use mathlib.Core.List.{List, [], _∷_, _++_, append-nil}
+use Prim.Native.Nat.{ℕ, zero, suc, _+_, _-_, _≤_, _<_, min}
+use native.Mathlib.Nat.{sub-zero}
+use native.Mathlib.Omega.{arith}
+use lib.ListN.{length, getD, take, drop}
+use lib.Seq.{paste-zero, slice, take-add, drop-at, length-take-le}
+use Rattle.rules.specs.Lists.{passingFrom}
+use Rattle.rules.specs.Names.{withCommas}
+use Rattle.decimal.specs.Writing.{fits, written, placeAfter}
+use Rattle.decimal.proofs.Writing.{written-append}
+use Rattle.naming.specs.Listing.{separated, afterCommas, listing}
+
+-- ---- the numbers that pass, from i on
+
+module _ (t : ℕ → Bool) (i count : ℕ) where
+  pub passing-yes : i < count → t i ≡ true → passingFrom t i (count - i) ≡ i ∷ passingFrom t (i + 1) (count - (i + 1))
+  unfolding passingFrom
+  passing-yes h e =
+      let s : count - i ≡ suc (count - (i + 1)) = omega arith in
+      let n : suc i ≡ i + 1 = omega arith in
+      rw (s, passingFrom, e, n)
+
+  pub passing-no : i < count → t i ≡ false → passingFrom t i (count - i) ≡ passingFrom t (i + 1) (count - (i + 1))
+  unfolding passingFrom
+  passing-no h e =
+      let s : count - i ≡ suc (count - (i + 1)) = omega arith in
+      let n : suc i ≡ i + 1 = omega arith in
+      rw (s, passingFrom, e, n)
+
+  pub passing-end : count ≤ i → passingFrom t i (count - i) ≡ []
+  unfolding passingFrom
+  passing-end h =
+      let s : count - i ≡ 0 = omega arith in
+      rw s
+
+-- ---- commas
+
+pub commas-first : (names : List (List ℕ)) (c : ℕ) (cs : List ℕ) → withCommas names (c ∷ cs) ≡ getD names c [] ++ afterCommas names cs
+unfolding withCommas afterCommas
+commas-first names c [] = sym (append-nil (getD names c []))
+commas-first names c (d ∷ cs) = ap (λ (l : List ℕ). getD names c [] ++ 44 ∷ l) (commas-first names d cs)
+
+pub listing-next : (first : Bool) (names : List (List ℕ)) (c : ℕ) (cs : List ℕ) → listing first names (c ∷ cs) ≡ separated first (getD names c []) ++ listing false names cs
+unfolding afterCommas
+listing-next true names c cs = commas-first names c cs
+listing-next false names c cs = refl
+
+pub listing-none : (first : Bool) (names : List (List ℕ)) → listing first names [] ≡ []
+unfolding withCommas afterCommas
+listing-none true names = refl
+listing-none false names = refl
+
+-- ---- nothing written
+
+pub written-none : (out : List ℕ) (at : ℕ) → written out at [] ≡ out
+unfolding written fits
+written-none out at =
+    let z : min 0 (length out - at) ≡ 0 = omega arith in
+    rw z (sym (paste-zero out at []))
+
+pub place-none : (out : List ℕ) (at : ℕ) → placeAfter out at [] ≡ at
+unfolding placeAfter fits
+place-none out at = omega arith
+
+-- ---- one text after another
+
+module _ (out : List ℕ) (at : ℕ) (s t : List ℕ) (after : List ℕ) (place : ℕ) (e : after ≡ written out at s) (f : place ≡ placeAfter out at s) where
+  pub then-place : placeAfter after place t ≡ placeAfter out at (s ++ t)
+  then-place = ap₂ (λ (o : List ℕ) (p : ℕ). placeAfter o p t) e f ∙ written-append out at s t .1
+
+  pub then-bytes : written after place t ≡ written out at (s ++ t)
+  then-bytes = ap₂ (λ (o : List ℕ) (p : ℕ). written o p t) e f ∙ written-append out at s t .0
+
+-- a part of a text, by its places
+pub slice-part : (s e : ℕ) (l : List ℕ) → s ≤ e → e ≤ length l → take (e - s) (drop s l) ≡ slice s e l
+slice-part s e l h k =
+    let q : s + (e - s) ≡ e = omega arith in
+    sym (
+    ap (λ (i : ℕ). drop s (take i l)) (sym q)
+    ∙ ap (λ (x : List ℕ). drop s x) (take-add s (e - s) l)
+    ∙ drop-at (take s l) (take (e - s) (drop s l)) s (length-take-le s l (omega arith)))
+
+-- ---- a turn of the list
+
+-- what is still to be written gives all, W, from the start
+pub record Lists (names : List (List ℕ)) (t : ℕ → Bool) (count : ℕ) (out₀ : List ℕ) (at : ℕ) (out : List ℕ) (end : ℕ) (first : Bool) (i : ℕ) : Type 0 where
+  pub bytes : written out end (listing first names (passingFrom t i (count - i))) ≡ written out₀ at (withCommas names (passingFrom t 0 count))
+  pub place : placeAfter out end (listing first names (passingFrom t i (count - i))) ≡ placeAfter out₀ at (withCommas names (passingFrom t 0 count))
+
+module _ (names : List (List ℕ)) (t : ℕ → Bool) (count : ℕ) (out₀ : List ℕ) (at : ℕ) where
+  pub lists-start : Lists names t count out₀ at out₀ at true 0
+  lists-start = record {
+    bytes = ap (λ (k : ℕ). written out₀ at (withCommas names (passingFrom t 0 k))) (sub-zero count);
+    place = ap (λ (k : ℕ). placeAfter out₀ at (withCommas names (passingFrom t 0 k))) (sub-zero count);
+  }
+
+  module _ (out : List ℕ) (end : ℕ) (first : Bool) (i : ℕ) (is : Lists names t count out₀ at out end first i) where
+    pub lists-past : i < count → t i ≡ false → Lists names t count out₀ at out end first (i + 1)
+    lists-past h e = record {
+      bytes = ap (λ (cs : List ℕ). written out end (listing first names cs)) (sym (passing-no t i count h e)) ∙ is .bytes;
+      place = ap (λ (cs : List ℕ). placeAfter out end (listing first names cs)) (sym (passing-no t i count h e)) ∙ is .place;
+    }
+
+    pub lists-next : i < count → t i ≡ true
+        → Lists names t count out₀ at (written out end (separated first (getD names i []))) (placeAfter out end (separated first (getD names i []))) false (i + 1)
+    lists-next h e = record {
+      bytes = written-append out end name rest .0 ∙ ap (written out end) more ∙ is .bytes;
+      place = written-append out end name rest .1 ∙ ap (placeAfter out end) more ∙ is .place;
+    }
+      where
+        name : List ℕ
+        name = separated first (getD names i [])
+
+        rest : List ℕ
+        rest = listing false names (passingFrom t (i + 1) (count - (i + 1)))
+
+        more : separated first (getD names i []) ++ listing false names (passingFrom t (i + 1) (count - (i + 1))) ≡ listing first names (passingFrom t i (count - i))
+        more = sym (ap (listing first names) (passing-yes t i count h e) ∙ listing-next first names i (passingFrom t (i + 1) (count - (i + 1))))
+
+    pub lists-end : count ≤ i → (out ≡ written out₀ at (withCommas names (passingFrom t 0 count))) × (end ≡ placeAfter out₀ at (withCommas names (passingFrom t 0 count)))
+    lists-end h = (
+      sym (ap (written out end) none ∙ written-none out end) ∙ is .bytes,
+      sym (ap (placeAfter out end) none ∙ place-none out end) ∙ is .place,
+    )
+      where
+        none : listing first names (passingFrom t i (count - i)) ≡ []
+        none = ap (listing first names) (passing-end t i count h) ∙ listing-none first names

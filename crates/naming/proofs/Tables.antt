@@ -1,0 +1,170 @@
+-- Laws of a table of numbered columns: how it is filled, and what the walks over it find.
+-- Assumes nothing.
+use mathlib.Core.Path.{_≡_, refl, sym, ap, ap₂, _∙_}
+use mathlib.Core.Bool.{Bool, true, false, not, _&&_}
+use mathlib.Core.List.{List, [], _∷_, _++_, map, map-append}
+use Prim.Native.Nat.{ℕ, zero, suc, _+_, _-_, _*_, _≤_, _<_, min}
+use native.Mathlib.Nat.{not-suc-le-zero, le-of-suc-le-suc, le-of-eq}
+use native.Mathlib.Numerals.{add-one}
+use native.Mathlib.Omega.{arith}
+use lib.Dec.{ltb}
+use lib.ListN.{length, getD, take, drop, replicate, drop-of-length-le, length-append, length-take, length-drop}
+use lib.Seq.{drop-cons, take-all, take-at, take-length, length-take-le}
+use Rattle.rules.specs.Factor.{Column, every, finer, coarser, number, infimum, universal}
+use Rattle.rules.specs.Family.{alike, columnsFrom, membersOf, allNumbered}
+use Rattle.rules.specs.Names.{equivalentColumn, infimumAbove, columnAbove, hides, listed}
+use Rattle.rules.proofs.Bits.{every-suc}
+use Rattle.rules.proofs.Buffer.{put, members-add, columns-snoc, length-columns, length-members, column-at, member-is}
+use Rattle.rules.proofs.Members.{alike-self, clash}
+use Rattle.rules.proofs.Numbering.{by-cases, length-number, number-number}
+use Rattle.rules.proofs.Tests.{every-at}
+use Rattle.factor.specs.Lent.{common, onCommon, overlay, plotsOf}
+use Rattle.decimal.specs.Writing.{fits, written}
+use Rattle.families.specs.Lent.{columnAt}
+use Rattle.naming.specs.Columns.{outdone, numberedFrom}
+use Rattle.naming.proofs.Numbered.{On}
+
+-- ---- lent parts and output arrays
+
+-- a part of n elements of a table
+pub part-is : (n at : ℕ) (l : List ℕ) → take (at + n - at) (drop at l) ≡ take n (drop at l)
+part-is n at l =
+    let e : at + n - at ≡ n = omega arith in
+    ap (λ (k : ℕ). take k (drop at l)) e
+
+pub length-part : (n at : ℕ) (l : List ℕ) → at + n ≤ length l → length (take n (drop at l)) ≡ n
+length-part n at l h = length-take-le n (drop at l) (simp length-drop (omega arith))
+
+-- what stands at the front of an output array
+overlay-front : (n : ℕ) (out : List ℕ) (X : Column) → length X ≡ n → take n (overlay out X) ≡ X
+overlay-front n out X l = take-at X (drop (length X) out) n l
+
+-- the numbers of a column lent as a part
+pub numbered-part : (n at : ℕ) (out l : List ℕ) → n ≤ 240 → at + n ≤ length l
+    → take n (overlay out (number (plotsOf (take (at + n - at) (drop at l))))) ≡ number (take n (drop at l))
+numbered-part n at out l s h =
+    let len = length-part n at l h in
+    let e : plotsOf (take (at + n - at) (drop at l)) ≡ take n (drop at l) = ap (λ (F : Column). take 240 F) (part-is n at l) ∙ take-all 240 (take n (drop at l)) (omega arith) in
+    ap (λ (F : Column). take n (overlay out (number F))) e ∙ overlay-front n out (number (take n (drop at l))) (length-number (take n (drop at l)) ∙ len)
+
+-- the infimum of a column on n plots and the first n numbers of an array
+module _ (n : ℕ) (out : List ℕ) (F M : Column) (s : n ≤ 240) (lO : length out ≡ 240) (lF : length F ≡ n) (lM : length M ≡ 240) (l : length (infimum F (take n M)) ≡ n) where
+  common-is : onCommon infimum F M ≡ infimum F (take n M)
+  common-is =
+      let e : common F M ≡ n = rw (lF, lM) (omega arith) in
+      ap (λ (k : ℕ). infimum (take k F) (take k M)) e ∙ ap (λ (X : Column). infimum X (take n M)) (take-all n F (le-of-eq lF))
+
+  pub infimum-part : take n (overlay out (onCommon infimum F M)) ≡ infimum F (take n M)
+  infimum-part = ap (λ (X : Column). take n (overlay out X)) common-is ∙ overlay-front n out (infimum F (take n M)) l
+
+  pub infimum-length : length (overlay out (onCommon infimum F M)) ≡ 240
+  infimum-length = ap (λ (X : Column). length (overlay out X)) common-is ∙ rw (length-append, length-drop, l, lO) (omega arith)
+
+pub ones : (n m : ℕ) → n ≤ m → take n (replicate m 1) ≡ universal n
+unfolding universal
+ones zero m h = refl
+ones (suc n) zero h = absurd (not-suc-le-zero h)
+ones (suc n) (suc m) h = ap (λ (l : List ℕ). 1 ∷ l) (ones n m (le-of-suc-le-suc h))
+
+-- ---- filling the table
+
+written-put : (n : ℕ) (small : n ≤ 240) (b : List ℕ) (i : ℕ) (F : Column) → length F ≡ n → 240 * i + 240 ≤ length b → written b (240 * i) F ≡ put n small b i F
+unfolding written fits
+written-put n small b i F l h =
+    let f : min (length F) (length b - 240 * i) ≡ length F = omega arith in
+    rw f (ap (λ (x : List ℕ). take (240 * i) b ++ x ++ drop (240 * i + length F) b) (take-length F))
+
+pub none-yet : (n : ℕ) (b levels : List ℕ) (first : ℕ) → membersOf n b 0 ≡ numberedFrom n levels first 0
+unfolding membersOf columnsFrom numberedFrom
+none-yet n b levels first = refl
+
+-- a turn: the next column is put after those that are there
+pub table-turn : (n : ℕ) → n ≤ 240 → (b levels : List ℕ) (first c : ℕ) → 240 * c + 240 ≤ length b → 240 * (first + c) + n ≤ length levels → membersOf n b c ≡ numberedFrom n levels first c
+    → membersOf n (written b (240 * c) (number (take n (drop (240 * (first + c)) levels)))) (c + 1) ≡ numberedFrom n levels first (c + 1)
+unfolding numberedFrom
+table-turn n small b levels first c h k e =
+    let C = take n (drop (240 * (first + c)) levels) in
+    let l : length (number C) ≡ n = length-number C ∙ length-part n (240 * (first + c)) levels k in
+    rw add-one
+    (ap (λ (x : List ℕ). membersOf n x (suc c)) (written-put n small b c (number C) l h)
+    ∙ members-add n small b c (number C) l h
+    ∙ ap (λ (S : List Column). S ++ number C ∷ []) e
+    ∙ sym (ap (map number) (columns-snoc n levels first c) ∙ map-append number (columnsFrom n levels first c) (C ∷ [])))
+
+pub columns-on : (n : ℕ) (levels : List ℕ) (first count : ℕ) → 240 * (first + count) ≤ length levels → n ≤ 240 → On n (columnsFrom n levels first count)
+columns-on n levels first count h s i l =
+    let k : i < count = rw (length-columns n levels first count) at l in
+    ap length (column-at n levels first count i k) ∙ length-part n (240 * (first + i)) levels (omega arith)
+
+pub members-on : (n : ℕ) → n ≤ 240 → (table : List ℕ) (count : ℕ) → 240 * count ≤ length table → On n (membersOf n table count)
+members-on n s table count h i l =
+    let k : i < count = rw (length-members n s table count) at l in
+    ap length (member-is n s table count i k) ∙ length-part n (240 * i) table (omega arith)
+
+pub all-numbered : (Cs : List Column) → allNumbered (map number Cs) ≡ true
+unfolding allNumbered
+all-numbered [] = refl
+all-numbered (C ∷ Cs) =
+    let e : alike (number (number C)) (number C) ≡ true = ap (λ (X : Column). alike X (number C)) (number-number C) ∙ alike-self (number C) in
+    rw (e, allNumbered) (all-numbered Cs)
+
+-- ---- the lowest equivalent column, from c on
+
+module _ (F : Column) (Cs : List Column) (c : ℕ) where
+  pub equivalent-here : c < length Cs → alike (number (getD Cs c [])) F ≡ true → equivalentColumn F c (drop c Cs) ≡ c + 1
+  unfolding equivalentColumn
+  equivalent-here h e = ap (equivalentColumn F c) (drop-cons Cs c [] h) ∙ rw (e, equivalentColumn, add-one)
+
+  pub equivalent-on : c < length Cs → alike (number (getD Cs c [])) F ≡ false → equivalentColumn F c (drop c Cs) ≡ equivalentColumn F (c + 1) (drop (c + 1) Cs)
+  unfolding equivalentColumn
+  equivalent-on h e = ap (equivalentColumn F c) (drop-cons Cs c [] h) ∙ rw (e, equivalentColumn, add-one)
+
+  pub equivalent-end : length Cs ≤ c → equivalentColumn F c (drop c Cs) ≡ 0
+  unfolding equivalentColumn
+  equivalent-end h = ap (equivalentColumn F c) (drop-of-length-le Cs h)
+
+-- ---- the infimum of the columns above, from c on
+
+module _ (n : ℕ) (F : Column) (Cs : List Column) where
+  pub above-none : (c : ℕ) → length Cs ≤ c → infimumAbove n F (drop c Cs) ≡ universal n
+  unfolding infimumAbove
+  above-none c h = ap (infimumAbove n F) (drop-of-length-le Cs h)
+
+  pub above-here : (c : ℕ) → c < length Cs → finer n F (getD Cs c []) ≡ true → infimumAbove n F (drop c Cs) ≡ infimum (getD Cs c []) (infimumAbove n F (drop (suc c) Cs))
+  unfolding infimumAbove
+  above-here c h e = ap (infimumAbove n F) (drop-cons Cs c [] h) ∙ rw (e, infimumAbove)
+
+  pub above-past : (c : ℕ) → c < length Cs → finer n F (getD Cs c []) ≡ false → infimumAbove n F (drop c Cs) ≡ infimumAbove n F (drop (suc c) Cs)
+  unfolding infimumAbove
+  above-past c h e = ap (infimumAbove n F) (drop-cons Cs c [] h) ∙ rw (e, infimumAbove)
+
+-- ---- the listed columns
+
+-- column j does not keep column i from the list
+abbrev pub allows : ℕ → Column → List Column → ℕ → ℕ → Bool
+allows n F Cs i j = not (columnAbove n F Cs j && hides n Cs j i)
+
+module _ (n : ℕ) (F : Column) (Cs : List Column) (i : ℕ) where
+  pub listed-not : finer n F (getD Cs i []) ≡ false → listed n F Cs i ≡ false
+  unfolding listed columnAbove
+  listed-not e = rw e
+
+  pub listed-if : finer n F (getD Cs i []) ≡ true → listed n F Cs i ≡ every (length Cs) (allows n F Cs i)
+  unfolding listed columnAbove
+  listed-if e = rw e
+
+  allows-is : (j : ℕ) → allows n F Cs i j ≡ not (outdone n F (getD Cs j []) (getD Cs i []) (ltb j i))
+  unfolding columnAbove hides outdone
+  allows-is j = refl
+
+  -- column j keeps it from the list
+  pub outdone-here : (j : ℕ) → j < length Cs → outdone n F (getD Cs j []) (getD Cs i []) (ltb j i) ≡ true → every (length Cs) (allows n F Cs i) ≡ false
+  outdone-here j h e =
+      by-cases (every (length Cs) (allows n F Cs i))
+      (λ b. clash (every-at (length Cs) (allows n F Cs i) b j h) (allows-is j ∙ ap not e))
+      (λ b. b)
+
+  pub allowed-here : (j : ℕ) → every j (allows n F Cs i) ≡ true → outdone n F (getD Cs j []) (getD Cs i []) (ltb j i) ≡ false → every (j + 1) (allows n F Cs i) ≡ true
+  allowed-here j a e =
+      let p : allows n F Cs i j ≡ true = allows-is j ∙ ap not e in
+      rw add-one (every-suc j (allows n F Cs i) ∙ ap₂ _&&_ p a)

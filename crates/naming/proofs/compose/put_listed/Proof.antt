@@ -1,0 +1,94 @@
+-- `put_listed` meets its contract: what the columns from i on add gives the whole list.
+-- Assumes nothing.
+use mathlib.Core.Path.{_≡_, refl, sym, ap, _∙_}
+use mathlib.Core.Bool.{true, false}
+use mathlib.Core.Logic.{⊎-elim}
+use mathlib.Core.List.{[]}
+use Prim.Native.Nat.{_-_, _≤_}
+use native.Mathlib.Omega.{arith}
+use denote.Ref.{now}
+use lib.ListN.{length, getD}
+use borrow.Author.Needs.{needs}
+use Rattle.rules.specs.Family.{membersOf}
+use Rattle.rules.specs.Sheet.{columnNames, header}
+use Rattle.rules.specs.Names.{listed}
+use Rattle.decimal.specs.Writing.{written, placeAfter}
+use Rattle.decimal.proofs.Writing.{length-written}
+use Rattle.naming.specs.Listing.{separated}
+use Rattle.naming.proofs.Listing.{Lists, lists-start, lists-past, lists-next, lists-end}
+use Rattle.naming.proofs.compose.put_listed.Statement.{statement}
+use Rattle.naming.proofs.compose.put_listed.Tie as tie
+
+abbrev Inv-loop : tie.InvT-loop
+Inv-loop text mark columns n count member out₀ at end₀ first₀ i₀ out end first i =
+    (i ≤ count) × (length out ≡ length out₀) × Lists (columnNames mark (header text)) (listed n member (membersOf n columns count)) count out₀ at out end first i
+
+abbrev μ-loop : tie.MeasureT-loop
+μ-loop text mark columns n count member out₀ at end₀ first₀ i₀ out end first i = count - i
+
+loop-holds : tie.Need-loop-holds Inv-loop μ-loop
+loop-holds c =
+    let a = c .before .before .before .before .args in
+    (omega arith, refl, lists-start (columnNames (a .mark) (header (now (a .text)))) (listed (a .n) (now (a .member)) (membersOf (a .n) (now (a .columns)) (a .count))) (a .count) (now (a .out)) (a .at))
+
+is-listed-requires : tie.Need-is-listed-requires Inv-loop μ-loop
+is-listed-requires c κs =
+    let s = c .before .before .before .before .before .before in
+    (s .pre .0, omega arith, s .pre .1)
+
+put-next-requires : tie.Need-put-next-requires Inv-loop μ-loop
+put-next-requires c κs = search needs
+
+add-i : tie.Need-add-i Inv-loop μ-loop
+add-i c = omega arith
+
+loop-less : tie.Need-loop-less Inv-loop μ-loop
+loop-less c = omega arith
+
+loop-again : tie.Need-loop-again Inv-loop μ-loop
+loop-again c =
+    let k = c .before in
+    let b = k .before .before in
+    let a = b .before .before .before .before .before .args in
+    let names = columnNames (a .mark) (header (now (a .text))) in
+    let t = listed (a .n) (now (a .member)) (membersOf (a .n) (now (a .columns)) (a .count)) in
+    let out = b .loop .out in
+    let end = b .loop .end in
+    let i = b .loop .i in
+    let name = separated (b .loop .first) (getD names i []) in
+    ⊎-elim
+    (λ w.
+    let e : t i ≡ true = sym (k .is-listed .ensures) ∙ w .0 .taken in
+    let r = w .2 .ensures in
+    let o : c .if1 .out ≡ written out end name = w .5 ∙ r .1 in
+    let p : c .if1 .end ≡ placeAfter out end name = w .6 ∙ r .0 in
+    (omega arith, ap length o ∙ length-written out end name ∙ b .loop .inv .1, rw (o, p, w .7) (lists-next names t (a .count) (now (a .out)) (a .at) out end (b .loop .first) i (b .loop .inv .2) (omega arith) e)))
+    (λ w.
+    let e : t i ≡ false = sym (k .is-listed .ensures) ∙ w .0 .left in
+    (omega arith, ap length (w .1) ∙ b .loop .inv .1, rw (w .1, w .2, w .3) (lists-past names t (a .count) (now (a .out)) (a .at) out end (b .loop .first) i (b .loop .inv .2) (omega arith) e)))
+    (c .if1 .came)
+
+same-length : tie.Need-same-length Inv-loop μ-loop
+same-length c = c .before .loop .inv .1
+
+returns : tie.Need-returns Inv-loop μ-loop
+returns c =
+    let b = c .before in
+    let a = b .before .before .before .before .before .args in
+    let r = lists-end (columnNames (a .mark) (header (now (a .text)))) (listed (a .n) (now (a .member)) (membersOf (a .n) (now (a .columns)) (a .count))) (a .count) (now (a .out)) (a .at) (b .loop .out) (b .loop .end) (b .loop .first) (b .loop .i) (b .loop .inv .2) (omega arith) in
+    (r .1, r .0)
+
+pub put-listed-spec : {M : Type 1} → statement M
+put-listed-spec =
+    tie.close
+    (tie.spec
+    Inv-loop
+    μ-loop
+    loop-holds
+    is-listed-requires
+    put-next-requires
+    add-i
+    loop-less
+    loop-again
+    same-length
+    returns)

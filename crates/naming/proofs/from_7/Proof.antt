@@ -1,0 +1,176 @@
+-- `from_7` meets its contract: questions 7 and 15 in turn, then the name of the member that the part lent is.
+-- Assumes nothing.
+use mathlib.Core.Path.{_≡_, sym, ap, ap₂, _∙_}
+use mathlib.Core.List.{List, []}
+use Prim.Native.Nat.{ℕ, _+_, _-_, _*_, _≤_}
+use native.Mathlib.Omega.{arith}
+use denote.Ref.{now}
+use lib.ListN.{length, getD, take, drop}
+use borrow.Author.Tests.{not-true, not-false}
+use Rattle.rules.specs.Factor.{Column}
+use Rattle.rules.specs.Family.{columnsFrom, membersOf}
+use Rattle.rules.specs.Design.{allNonzero}
+use Rattle.rules.specs.Sheet.{countKind, header}
+use Rattle.rules.specs.Naming.{markOf, firstColumn, kindColumns, nameAt, NameAnswer, nameBuffer}
+use Rattle.rules.proofs.Buffer.{length-members, member-is}
+use Rattle.rules.proofs.WellFormed.{accepted}
+use Rattle.families.proofs.Lent.{part-of, formed-in}
+use Rattle.naming.specs.Answers.{kindOf, nameFor, startingWith}
+use Rattle.naming.proofs.Tables.{length-part}
+use Rattle.naming.proofs.Entry.{few-columns, first-column, named-for, naming-7, naming-15, naming-found, Ranges, ranges, ranges-fit}
+use borrow.Author.Needs.{needs}
+use Rattle.naming.proofs.from_7.Statement.{statement}
+use Rattle.naming.proofs.from_7.Tie as tie
+
+first-requires : tie.Need-first-requires
+first-requires c κs = search needs
+
+all-nonzero-requires : tie.Need-all-nonzero-requires
+all-nonzero-requires c κs =
+    let s = c .before .before .before .before .before in
+    let a = s .args in
+    let text = now (a .text) in
+    let levels = now (a .levels) in
+    let buffer = now (a .family) in
+    let n = a .plots in
+    let k = kindOf (a .kind) in
+    let out = now (a .name) in
+    let S = membersOf n buffer (a .size) in
+    let w = ranges n (a .size) (a .place) (length levels) (length buffer) (length out) (s .pre .1) in
+    let few = few-columns (a .kind) text (s .pre .0) in
+    let low = first-column (a .kind) in
+    let first : c .first .result ≡ firstColumn k = c .first .ensures in
+    let count : a .count ≡ countKind (markOf k) (header text) = s .pre .2 in
+    (w .few-plots, omega arith, w .table)
+
+returns : tie.Need-returns
+unfolding kindColumns
+returns c =
+    let s = c .before .before .before .before .before .before .before in
+    let a = s .args in
+    let text = now (a .text) in
+    let levels = now (a .levels) in
+    let buffer = now (a .family) in
+    let n = a .plots in
+    let k = kindOf (a .kind) in
+    let out = now (a .name) in
+    let S = membersOf n buffer (a .size) in
+    let w = ranges n (a .size) (a .place) (length levels) (length buffer) (length out) (s .pre .1) in
+    let asked : allNonzero (kindColumns k text n levels) ≡ c .before .all-nonzero .result = sym (c .before .all-nonzero .ensures ∙ ap₂ (λ (i m : ℕ). allNonzero (columnsFrom n levels i m)) (c .before .before .first .ensures) (s .pre .2)) in
+    let e = naming-7 k text n levels S (a .place) (asked ∙ not-true _ (c .if1 .taken)) in
+    (sym (ap (λ (r : NameAnswer). r .refusal) e), (sym (ap (λ (r : NameAnswer). length (r .name)) e), sym (ap (nameBuffer out) e)))
+
+well-formed-requires : tie.Need-well-formed-requires
+well-formed-requires c κs = search needs
+
+returns-2 : tie.Need-returns-2
+unfolding kindColumns
+returns-2 c =
+    let s = c .before .before .before .before .before .before .before .before .before in
+    let a = s .args in
+    let text = now (a .text) in
+    let levels = now (a .levels) in
+    let buffer = now (a .family) in
+    let n = a .plots in
+    let k = kindOf (a .kind) in
+    let out = now (a .name) in
+    let S = membersOf n buffer (a .size) in
+    let w = ranges n (a .size) (a .place) (length levels) (length buffer) (length out) (s .pre .1) in
+    let asked : allNonzero (kindColumns k text n levels) ≡ c .before .before .before .all-nonzero .result = sym (c .before .before .before .all-nonzero .ensures ∙ ap₂ (λ (i m : ℕ). allNonzero (columnsFrom n levels i m)) (c .before .before .before .before .first .ensures) (s .pre .2)) in
+    let f = sym (c .before .well-formed .ensures ∙ formed-in n buffer (a .size) (w .few-plots) (w .family)) ∙ not-true _ (c .if2 .taken) in
+    let e = naming-15 k text n levels S (a .place) (asked ∙ not-false _ (c .before .before .if1 .left)) f in
+    (sym (ap (λ (r : NameAnswer). r .refusal) e), (sym (ap (λ (r : NameAnswer). length (r .name)) e), sym (ap (nameBuffer out) e)))
+
+-- the place is one of 32, within the family
+bounds : (c : tie.Else2)
+    → Ranges (c .before .before .before .before .before .before .before .before .before .args .plots) (c .before .before .before .before .before .before .before .before .before .args .size) (c .before .before .before .before .before .before .before .before .before .args .place) (length (now (c .before .before .before .before .before .before .before .before .before .args .levels))) (length (now (c .before .before .before .before .before .before .before .before .before .args .family))) (length (now (c .before .before .before .before .before .before .before .before .before .args .name)))
+    × (c .before .before .before .before .before .before .before .before .before .args .place ≤ 32)
+bounds c =
+    let s = c .before .before .before .before .before .before .before .before .before in
+    let a = s .args in
+    let text = now (a .text) in
+    let levels = now (a .levels) in
+    let buffer = now (a .family) in
+    let n = a .plots in
+    let k = kindOf (a .kind) in
+    let out = now (a .name) in
+    let S = membersOf n buffer (a .size) in
+    let w = ranges n (a .size) (a .place) (length levels) (length buffer) (length out) (s .pre .1) in
+    let f = sym (c .before .well-formed .ensures ∙ formed-in n buffer (a .size) (w .few-plots) (w .family)) ∙ not-false _ (c .if2 .left) in
+    let few = accepted S f .few in
+    let size : length S ≡ a .size = length-members n (w .few-plots) buffer (a .size) in
+    (w, omega (arith, w .last))
+
+sub-a : tie.Need-sub-a
+sub-a c = let b = bounds c in omega (arith, b .0 .first, b .0 .few-plots, b .0 .family, b .1)
+
+mul-a : tie.Need-mul-a
+mul-a c = let b = bounds c in omega (arith, b .0 .first, b .0 .few-plots, b .0 .family, b .1)
+
+add-e : tie.Need-add-e
+add-e c = let b = bounds c in omega (arith, b .0 .first, b .0 .few-plots, b .0 .family, b .1)
+
+sub-name-of : tie.Need-sub-name-of
+sub-name-of c = let b = bounds c in omega (arith, b .0 .first, b .0 .few-plots, b .0 .family, b .1)
+
+part-name-of-start : tie.Need-part-name-of-start
+part-name-of-start c = let b = bounds c in omega (arith, b .0 .first, b .0 .few-plots, b .0 .family, b .1)
+
+part-name-of-end : tie.Need-part-name-of-end
+part-name-of-end c = let b = bounds c in omega (arith, b .0 .first, b .0 .few-plots, b .0 .family, b .1)
+
+name-of-requires : tie.Need-name-of-requires
+name-of-requires c κs = search needs
+
+same-length : tie.Need-same-length
+same-length c = search needs
+
+returns-3 : tie.Need-returns-3
+unfolding kindColumns nameAt
+returns-3 c =
+    let s = c .before .before .before .before .before .before .before .before .before .before .before .before .before .before in
+    let a = s .args in
+    let text = now (a .text) in
+    let levels = now (a .levels) in
+    let buffer = now (a .family) in
+    let n = a .plots in
+    let k = kindOf (a .kind) in
+    let out = now (a .name) in
+    let S = membersOf n buffer (a .size) in
+    let w = ranges n (a .size) (a .place) (length levels) (length buffer) (length out) (s .pre .1) in
+    let asked : allNonzero (kindColumns k text n levels) ≡ c .before .before .before .before .before .before .before .before .all-nonzero .result = sym (c .before .before .before .before .before .before .before .before .all-nonzero .ensures ∙ ap₂ (λ (i m : ℕ). allNonzero (columnsFrom n levels i m)) (c .before .before .before .before .before .before .before .before .before .first .ensures) (s .pre .2)) in
+    let i = a .place - 1 in
+    let b = bounds (c .before .before .before .before .before) in
+    let f = sym (c .before .before .before .before .before .before .well-formed .ensures ∙ formed-in n buffer (a .size) (w .few-plots) (w .family)) ∙ not-false _ (c .before .before .before .before .before .if2 .left) in
+    let e = naming-found k text n levels S (a .place) (asked ∙ not-false _ (c .before .before .before .before .before .before .before .if1 .left)) f in
+    let is = member-is n (w .few-plots) buffer (a .size) i (omega (arith, w .first, w .last)) in
+    let on : length (getD S i []) ≡ n = ap length is ∙ length-part n (240 * i) buffer (omega (arith, b .1, w .first, w .few-plots, w .family)) in
+    let same : nameFor k text levels n (take (240 * i + n - 240 * i) (drop (240 * i) buffer)) (a .place) (length out) ≡ nameAt k text n levels S (a .place) =
+    ap (λ (F : Column). nameFor k text levels n F (a .place) (length out)) (part-of n i buffer ∙ sym is)
+    ∙ named-for k text levels n (getD S i []) (a .place) (length out) (s .pre .0) (ranges-fit n (a .size) (a .place) (length levels) (length buffer) (length out) (length (getD S i [])) w on) in
+    let r = c .before .before .name-of .ensures in (
+      sym (ap (λ (r : NameAnswer). r .refusal) e),
+      (
+        r .0 ∙ ap length same ∙ sym (ap (λ (r : NameAnswer). length (r .name)) e),
+        r .1 ∙ ap (λ (W : List ℕ). startingWith W out) same ∙ sym (ap (nameBuffer out) e),
+      ),
+    )
+
+pub from-7-spec : {M : Type 1} → statement M
+from-7-spec =
+    tie.close
+    (tie.spec
+    first-requires
+    all-nonzero-requires
+    returns
+    well-formed-requires
+    returns-2
+    sub-a
+    mul-a
+    add-e
+    sub-name-of
+    part-name-of-start
+    part-name-of-end
+    name-of-requires
+    same-length
+    returns-3)

@@ -1,0 +1,117 @@
+// The columns of one kind, numbered, 240 bytes apart, and where a member stands among them.
+ghost use mathlib.Core.Path.{_≡_};
+ghost use mathlib.Core.Bool.{true};
+ghost use Prim.Native.Nat.{_+_, _≤_, _<_};
+ghost use lib.Dec.{ltb};
+ghost use lib.ListN.{length, take};
+ghost use Rattle.rules.specs.Factor.{finer};
+ghost use Rattle.rules.specs.Family.{membersOf, allNumbered};
+ghost use Rattle.rules.specs.Names.{equivalentColumn, infimumAbove, listed};
+ghost use Rattle.families.specs.Lent.{columnAt};
+ghost use Rattle.naming.specs.Columns.{Columns, outdone, numberedFrom};
+use limits::Level;
+use limits::PLOTS;
+
+// Numbers `count` columns of the level table, from column `first` on.
+pub fn number_columns(levels: &[Level], n: usize, first: usize, count: usize, out: &mut [u8])
+    requires { ⌜ Columns n count (now out) × (first + count ≤ 12) × (2880 ≤ length (now levels)) ⌝ }
+    ensures { λ _. ⌜ membersOf n (now (out .exit)) count ≡ numberedFrom n (now (levels .entry)) first count ⌝ }
+{
+    for c in 0..count {
+        let a = PLOTS * (first + c);
+        let e = a + n;
+        let mut column = [0u8; PLOTS];
+        factor::number_levels(&levels[a..e], &mut column);
+        decimal::write_bytes(&column[..n], out, PLOTS * c);
+    }
+}
+
+// Whether column `i` is finer than or equivalent to column `j`.
+fn column_finer(columns: &[u8], n: usize, i: usize, j: usize) -> bool
+    requires { ⌜ (n ≤ 240) × (1440 ≤ length (now columns)) × (i < 6) × (j < 6) ⌝ }
+    ensures { λ r. ⌜ r ≡ finer n (columnAt n (now (columns .entry)) i) (columnAt n (now (columns .entry)) j) ⌝ }
+{
+    let a = PLOTS * i;
+    let b = PLOTS * j;
+    let c = a + n;
+    let d = b + n;
+    factor::finer(&columns[a..c], &columns[b..d])
+}
+
+// Whether column `i` is coarser than or equivalent to the member.
+fn is_above(columns: &[u8], n: usize, i: usize, member: &[u8]) -> bool
+    requires { ⌜ (n ≤ 240) × (1440 ≤ length (now columns)) × (i < 6) × (length (now member) ≡ n) ⌝ }
+    ensures { λ r. ⌜ r ≡ finer n (now (member .entry)) (columnAt n (now (columns .entry)) i) ⌝ }
+{
+    let a = PLOTS * i;
+    let e = a + n;
+    factor::finer(member, &columns[a..e])
+}
+
+// Whether column `j` is above the member, and strictly finer than column `i` or equivalent to it and lower.
+fn outdoes(columns: &[u8], n: usize, member: &[u8], j: usize, i: usize) -> bool
+    requires { ⌜ (n ≤ 240) × (1440 ≤ length (now columns)) × (i < 6) × (j < 6) × (length (now member) ≡ n) ⌝ }
+    ensures { λ r. ⌜ r ≡ outdone n (now (member .entry)) (columnAt n (now (columns .entry)) j) (columnAt n (now (columns .entry)) i) (ltb j i) ⌝ }
+{
+    if !is_above(columns, n, j, member) {
+        return false;
+    }
+    if !column_finer(columns, n, j, i) {
+        return false;
+    }
+    if !column_finer(columns, n, i, j) {
+        return true;
+    }
+    j < i
+}
+
+// Whether column `i` is listed in the name: above the member, with no other above it that is finer, or equivalent and lower.
+pub fn is_listed(columns: &[u8], n: usize, count: usize, member: &[u8], i: usize) -> bool
+    requires { ⌜ Columns n count (now columns) × (i < count) × (length (now member) ≡ n) ⌝ }
+    ensures { λ r. ⌜ r ≡ listed n (now (member .entry)) (membersOf n (now (columns .entry)) count) i ⌝ }
+{
+    if !is_above(columns, n, i, member) {
+        return false;
+    }
+    for j in 0..count {
+        if outdoes(columns, n, member, j, i) {
+            return false;
+        }
+    }
+    true
+}
+
+// The lowest column equivalent to the member, from 1; 0 where there is none.
+pub fn equivalent_column(columns: &[u8], n: usize, count: usize, member: &[u8]) -> usize
+    requires { ⌜ Columns n count (now columns) × (allNumbered (membersOf n (now columns) count) ≡ true) ⌝ }
+    ensures { λ r. ⌜ r ≡ equivalentColumn (now (member .entry)) 0 (membersOf n (now (columns .entry)) count) ⌝ }
+{
+    for c in 0..count {
+        let a = PLOTS * c;
+        let e = a + n;
+        if factor::alike(&columns[a..e], member) {
+            return c + 1;
+        }
+    }
+    0
+}
+
+// The infimum of all columns above the member, in the first `n` bytes. The last column is met first.
+pub fn infimum_above(columns: &[u8], n: usize, count: usize, member: &[u8]) -> [u8; PLOTS]
+    requires { ⌜ Columns n count (now columns) × (length (now member) ≡ n) ⌝ }
+    ensures { λ r. ⌜ take n r ≡ infimumAbove n (now (member .entry)) (membersOf n (now (columns .entry)) count) ⌝ }
+{
+    let mut met = [1u8; PLOTS];
+    let mut c = count;
+    while 0 < c {
+        c -= 1;
+        if is_above(columns, n, c, member) {
+            let a = PLOTS * c;
+            let e = a + n;
+            let mut next = [0u8; PLOTS];
+            factor::infimum(&columns[a..e], &met, &mut next);
+            met = next;
+        }
+    }
+    met
+}

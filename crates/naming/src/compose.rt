@@ -1,0 +1,160 @@
+// The bytes of a name, by the first rule that fits.
+ghost use mathlib.Core.Path.{_≡_};
+ghost use mathlib.Core.Bool.{true};
+ghost use mathlib.Core.List.{[]};
+ghost use Prim.Native.Nat.{_+_, _≤_, _<_};
+ghost use lib.ListN.{length, getD};
+ghost use Rattle.rules.specs.Family.{membersOf, columnsFrom, allNumbered};
+ghost use Rattle.rules.specs.Lists.{passingFrom};
+ghost use Rattle.rules.specs.Sheet.{columnNames, header};
+ghost use Rattle.rules.specs.Names.{listed, withCommas, nameByInfimum, nameByColumn, equivalentColumn, nameOf, bytesOf, name-infimum};
+ghost use Rattle.decimal.specs.Writing.{written, placeAfter};
+ghost use Rattle.naming.specs.Columns.{Columns};
+ghost use Rattle.naming.specs.Listing.{separated};
+use crate::columns;
+use limits::Level;
+
+// bytes of the columns of one kind, once numbered
+const COLUMN_BYTES: usize = 1440;
+
+// Writes the name of column `c` of the kind that `mark` marks.
+fn put_column(text: &[u8], mark: u8, c: usize, out: &mut [u8], at: usize) -> usize
+    ensures { λ r. ⌜ r ≡ placeAfter (now (out .entry)) at (getD (columnNames mark (header (now (text .entry)))) c []) ⌝ }
+    ensures { λ _. ⌜ now (out .exit) ≡ written (now (out .entry)) at (getD (columnNames mark (header (now (text .entry)))) c []) ⌝ }
+{
+    let span = sheet::column_name(text, mark, c);
+    let start = span.start;
+    let end = span.end;
+    decimal::write_bytes(&text[start..end], out, at)
+}
+
+// The same as the next name of a list.
+fn put_next(text: &[u8], mark: u8, c: usize, first: bool, out: &mut [u8], at: usize) -> usize
+    ensures { λ r. ⌜ r ≡ placeAfter (now (out .entry)) at (separated first (getD (columnNames mark (header (now (text .entry)))) c [])) ⌝ }
+    ensures { λ _. ⌜ now (out .exit) ≡ written (now (out .entry)) at (separated first (getD (columnNames mark (header (now (text .entry)))) c [])) ⌝ }
+{
+    if first {
+        return put_column(text, mark, c, out, at);
+    }
+    let next = decimal::write_bytes(b",", out, at);
+    put_column(text, mark, c, out, next)
+}
+
+// Writes the names of the listed columns, with commas.
+fn put_listed(
+    text: &[u8],
+    mark: u8,
+    columns: &[u8],
+    n: usize,
+    count: usize,
+    member: &[u8],
+    out: &mut [u8],
+    at: usize,
+) -> usize
+    requires { ⌜ Columns n count (now columns) × (length (now member) ≡ n) ⌝ }
+    ensures { λ r. ⌜ r ≡ placeAfter (now (out .entry)) at (withCommas (columnNames mark (header (now (text .entry)))) (passingFrom (listed n (now (member .entry)) (membersOf n (now (columns .entry)) count)) 0 count)) ⌝ }
+    ensures { λ _. ⌜ now (out .exit) ≡ written (now (out .entry)) at (withCommas (columnNames mark (header (now (text .entry)))) (passingFrom (listed n (now (member .entry)) (membersOf n (now (columns .entry)) count)) 0 count)) ⌝ }
+{
+    let mut end = at;
+    let mut first = true;
+    for i in 0..count {
+        if columns::is_listed(columns, n, count, member, i) {
+            end = put_next(text, mark, i, first, out, end);
+            first = false;
+        }
+    }
+    end
+}
+
+// Writes `I(` names `)`.
+fn put_infimum(
+    text: &[u8],
+    mark: u8,
+    columns: &[u8],
+    n: usize,
+    count: usize,
+    member: &[u8],
+    out: &mut [u8],
+) -> usize
+    requires { ⌜ Columns n count (now columns) × (length (now member) ≡ n) ⌝ }
+    ensures { λ r. ⌜ r ≡ placeAfter (now (out .entry)) 0 (bytesOf (columnNames mark (header (now (text .entry)))) (name-infimum (passingFrom (listed n (now (member .entry)) (membersOf n (now (columns .entry)) count)) 0 count))) ⌝ }
+    ensures { λ _. ⌜ now (out .exit) ≡ written (now (out .entry)) 0 (bytesOf (columnNames mark (header (now (text .entry)))) (name-infimum (passingFrom (listed n (now (member .entry)) (membersOf n (now (columns .entry)) count)) 0 count))) ⌝ }
+{
+    let from = decimal::write_bytes(b"I(", out, 0);
+    let to = put_listed(text, mark, columns, n, count, member, out, from);
+    decimal::write_bytes(b")", out, to)
+}
+
+// The name of a member that no column is equivalent to: by an infimum, or else by its place.
+fn by_infimum(
+    text: &[u8],
+    mark: u8,
+    columns: &[u8],
+    n: usize,
+    count: usize,
+    member: &[u8],
+    place: usize,
+    out: &mut [u8],
+) -> usize
+    requires { ⌜ Columns n count (now columns) × (length (now member) ≡ n) ⌝ }
+    ensures { λ r. ⌜ r ≡ placeAfter (now (out .entry)) 0 (bytesOf (columnNames mark (header (now (text .entry)))) (nameByInfimum n (membersOf n (now (columns .entry)) count) place (now (member .entry)))) ⌝ }
+    ensures { λ _. ⌜ now (out .exit) ≡ written (now (out .entry)) 0 (bytesOf (columnNames mark (header (now (text .entry)))) (nameByInfimum n (membersOf n (now (columns .entry)) count) place (now (member .entry)))) ⌝ }
+{
+    let met = columns::infimum_above(columns, n, count, member);
+    if factor::alike(&met[..n], member) {
+        return put_infimum(text, mark, columns, n, count, member, out);
+    }
+    let at = decimal::write_bytes(b"#", out, 0);
+    decimal::write_decimal(place, out, at)
+}
+
+// The name of a member with neither one class nor a class for each plot, by the columns from `first` on of the level table.
+fn by_columns(
+    text: &[u8],
+    mark: u8,
+    levels: &[Level],
+    n: usize,
+    first: usize,
+    count: usize,
+    member: &[u8],
+    place: usize,
+    out: &mut [u8],
+) -> usize
+    requires { ⌜ (n ≤ 240) × (count ≤ 6) × (first + count ≤ 12) × (2880 ≤ length (now levels)) × (length (now member) ≡ n) ⌝ }
+    ensures { λ r. ⌜ r ≡ placeAfter (now (out .entry)) 0 (bytesOf (columnNames mark (header (now (text .entry)))) (nameByColumn n (columnsFrom n (now (levels .entry)) first count) place (now (member .entry)) (equivalentColumn (now (member .entry)) 0 (columnsFrom n (now (levels .entry)) first count)))) ⌝ }
+    ensures { λ _. ⌜ now (out .exit) ≡ written (now (out .entry)) 0 (bytesOf (columnNames mark (header (now (text .entry)))) (nameByColumn n (columnsFrom n (now (levels .entry)) first count) place (now (member .entry)) (equivalentColumn (now (member .entry)) 0 (columnsFrom n (now (levels .entry)) first count)))) ⌝ }
+{
+    let mut columns = [0u8; COLUMN_BYTES];
+    columns::number_columns(levels, n, first, count, &mut columns);
+    let c = columns::equivalent_column(&columns, n, count, member);
+    if c != 0 {
+        return put_column(text, mark, c - 1, out, 0);
+    }
+    by_infimum(text, mark, &columns, n, count, member, place, out)
+}
+
+// The name of a member by the first rule that fits.
+pub fn put_name(
+    text: &[u8],
+    mark: u8,
+    levels: &[Level],
+    n: usize,
+    first: usize,
+    count: usize,
+    member: &[u8],
+    place: usize,
+    out: &mut [u8],
+) -> usize
+    requires { ⌜ (n ≤ 240) × (count ≤ 6) × (first + count ≤ 12) × (2880 ≤ length (now levels)) × (length (now member) ≡ n) ⌝ }
+    ensures { λ r. ⌜ r ≡ placeAfter (now (out .entry)) 0 (bytesOf (columnNames mark (header (now (text .entry)))) (nameOf n (columnsFrom n (now (levels .entry)) first count) place (now (member .entry)))) ⌝ }
+    ensures { λ _. ⌜ now (out .exit) ≡ written (now (out .entry)) 0 (bytesOf (columnNames mark (header (now (text .entry)))) (nameOf n (columnsFrom n (now (levels .entry)) first count) place (now (member .entry)))) ⌝ }
+{
+    let k = factor::classes(member);
+    if k == 1 {
+        return decimal::write_bytes(b"U", out, 0);
+    }
+    if k == n {
+        return decimal::write_bytes(b"E", out, 0);
+    }
+    by_columns(text, mark, levels, n, first, count, member, place, out)
+}

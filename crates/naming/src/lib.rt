@@ -1,0 +1,120 @@
+// Names for the members of a family, by the column names of a sheet's first line.
+ghost use mathlib.Core.Path.{_≡_};
+ghost use lib.ListN.{length};
+ghost use mathlib.Core.Bool.{true};
+ghost use Rattle.rules.specs.Family.{membersOf};
+ghost use Rattle.rules.specs.Sheet.{question3, countKind, header};
+ghost use Rattle.rules.specs.Naming.{markOf, naming, namingWithin, namingFrom7, nameBuffer};
+ghost use Rattle.naming.specs.Answers.{kindOf, nameFor, startingWith, refusalOf, lengthOf};
+
+mod columns;
+mod compose;
+mod kinds;
+mod questions;
+
+use limits::Level;
+use limits::PLOTS;
+use limits::TEXT;
+
+// A family's kind, which the caller states.
+pub enum Kind {
+    Plot,
+    Treatment,
+}
+
+// What naming answers: how many bytes the name has, or the number of the question that failed.
+pub enum Named {
+    Written(usize),
+    Refused(u32),
+}
+
+// Names one member, whatever its family, and answers how many bytes the name has: 0 where the first line has not the form, a count or a length is out of range,
+// or the member is not on these plots.
+pub fn name_of(
+    text: &[u8],
+    levels: &[Level],
+    plots: usize,
+    kind: Kind,
+    member: &[u8],
+    place: usize,
+    name: &mut [u8],
+) -> usize
+    ensures answer { λ r. ⌜ r ≡ length (nameFor (kindOf kind) (now (text .entry)) (now (levels .entry)) plots (now (member .entry)) place (length (now (name .entry)))) ⌝ }
+    ensures buffer { λ _. ⌜ now (name .exit) ≡ startingWith (nameFor (kindOf kind) (now (text .entry)) (now (levels .entry)) plots (now (member .entry)) place (length (now (name .entry)))) (now (name .entry)) ⌝ }
+{
+    let h = sheet::read_header(text);
+    let end = h.end;
+    if end == 0 {
+        return 0;
+    }
+    if !questions::member_fits(plots, levels.len(), name.len(), member.len()) {
+        return 0;
+    }
+    let mark = kinds::mark(kind);
+    let first = kinds::first(kind);
+    let count = kinds::count(kind, h);
+    compose::put_name(text, mark, levels, plots, first, count, member, place, name)
+}
+
+// Names the member at a place of a family: questions 2, 3, 6, 7 and 15. A refusal writes nothing.
+pub fn member_name(
+    text: &[u8],
+    levels: &[Level],
+    family: &[u8],
+    plots: usize,
+    size: usize,
+    kind: Kind,
+    place: usize,
+    name: &mut [u8],
+) -> Named
+    ensures refusal { λ r. ⌜ refusalOf r ≡ naming (kindOf kind) (now (text .entry)) (now (levels .entry)) (now (family .entry)) plots size place (length (now (name .entry))) .refusal ⌝ }
+    ensures answer { λ r. ⌜ lengthOf r ≡ length (naming (kindOf kind) (now (text .entry)) (now (levels .entry)) (now (family .entry)) plots size place (length (now (name .entry))) .name) ⌝ }
+    ensures buffer { λ _. ⌜ now (name .exit) ≡ nameBuffer (now (name .entry)) (naming (kindOf kind) (now (text .entry)) (now (levels .entry)) (now (family .entry)) plots size place (length (now (name .entry)))) ⌝ }
+{
+    if text.len() < 1 {
+        return Named::Refused(2);
+    }
+    if TEXT < text.len() {
+        return Named::Refused(2);
+    }
+    let h = sheet::read_header(text);
+    let end = h.end;
+    if end == 0 {
+        return Named::Refused(3);
+    }
+    if !questions::within(plots, size, place, levels.len(), family.len(), name.len()) {
+        return Named::Refused(6);
+    }
+    let count = kinds::count(kind, h);
+    from_7(text, levels, family, plots, size, kind, count, place, name)
+}
+
+// Questions 7 and 15, once 2, 3 and 6 are answered.
+fn from_7(
+    text: &[u8],
+    levels: &[Level],
+    family: &[u8],
+    plots: usize,
+    size: usize,
+    kind: Kind,
+    count: usize,
+    place: usize,
+    name: &mut [u8],
+) -> Named
+    requires { ⌜ (question3 (now text) ≡ true) × (namingWithin plots size place (length (now levels)) (length (now family)) (length (now name)) ≡ true) × (count ≡ countKind (markOf (kindOf kind)) (header (now text))) ⌝ }
+    ensures refusal { λ r. ⌜ refusalOf r ≡ namingFrom7 (kindOf kind) (now (text .entry)) plots (now (levels .entry)) (membersOf plots (now (family .entry)) size) place .refusal ⌝ }
+    ensures answer { λ r. ⌜ lengthOf r ≡ length (namingFrom7 (kindOf kind) (now (text .entry)) plots (now (levels .entry)) (membersOf plots (now (family .entry)) size) place .name) ⌝ }
+    ensures buffer { λ _. ⌜ now (name .exit) ≡ nameBuffer (now (name .entry)) (namingFrom7 (kindOf kind) (now (text .entry)) plots (now (levels .entry)) (membersOf plots (now (family .entry)) size) place) ⌝ }
+{
+    let first = kinds::first(kind);
+    if !questions::all_nonzero(levels, plots, first, count) {
+        return Named::Refused(7);
+    }
+    if !families::well_formed(family, plots, size) {
+        return Named::Refused(15);
+    }
+    let a = PLOTS * (place - 1);
+    let e = a + plots;
+    let m = name_of(text, levels, plots, kind, &family[a..e], place, name);
+    Named::Written(m)
+}

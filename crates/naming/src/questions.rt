@@ -1,0 +1,91 @@
+// Questions 6 and 7, and what naming one member asks.
+ghost use mathlib.Core.Path.{_≡_};
+ghost use Prim.Native.Nat.{_+_, _≤_};
+ghost use lib.ListN.{length};
+ghost use Rattle.rules.specs.Family.{columnsFrom};
+ghost use Rattle.rules.specs.Design.{nonzero, allNonzero};
+ghost use Rattle.rules.specs.Naming.{namingWithin};
+ghost use Rattle.naming.specs.Answers.{memberFits};
+use limits::FAMILY;
+use limits::LEVELS;
+use limits::Level;
+use limits::NAME;
+use limits::PLOTS;
+
+// Whether one member can be named: the plots and the lengths are in range, and it is on these plots.
+pub fn member_fits(plots: usize, levels: usize, name: usize, member: usize) -> bool
+    ensures { λ r. ⌜ r ≡ memberFits plots levels name member ⌝ }
+{
+    if plots < 1 {
+        return false;
+    }
+    if PLOTS < plots {
+        return false;
+    }
+    if levels < LEVELS {
+        return false;
+    }
+    if name < NAME {
+        return false;
+    }
+    member == plots
+}
+
+// 6: are the plots, the place and the lengths in range?
+pub fn within(
+    plots: usize,
+    size: usize,
+    place: usize,
+    levels: usize,
+    family: usize,
+    name: usize,
+) -> bool
+    ensures { λ r. ⌜ r ≡ namingWithin plots size place levels family name ⌝ }
+{
+    if plots < 1 {
+        return false;
+    }
+    if PLOTS < plots {
+        return false;
+    }
+    if place < 1 {
+        return false;
+    }
+    if size < place {
+        return false;
+    }
+    if levels < LEVELS {
+        return false;
+    }
+    if family < FAMILY {
+        return false;
+    }
+    NAME <= name
+}
+
+// Whether no level of a column is 0.
+fn nonzero(column: &[Level]) -> bool
+    ensures { λ r. ⌜ r ≡ nonzero (now (column .entry)) ⌝ }
+{
+    for u in 0..column.len() {
+        if column[u] == 0 {
+            return false;
+        }
+    }
+    true
+}
+
+// 7: is every level of the columns from `first` on, `count` of them, nonzero?
+pub fn all_nonzero(levels: &[Level], n: usize, first: usize, count: usize) -> bool
+    requires { ⌜ (n ≤ 240) × (first + count ≤ 12) × (2880 ≤ length (now levels)) ⌝ }
+    ensures { λ r. ⌜ r ≡ allNonzero (columnsFrom n (now (levels .entry)) first count) ⌝ }
+{
+    for c in 0..count {
+        let at = PLOTS * (first + c);
+        let end = at + n;
+        if !nonzero(&levels[at..end]) {
+            return false;
+        }
+    }
+    true
+}
