@@ -87,3 +87,58 @@ written-all out text h =
 pub place-all : (out : List ℕ) (text : List ℕ) → length text ≤ length out → placeAfter out 0 text ≡ length text
 unfolding placeAfter fits
 place-all out text h = omega arith
+
+-- nothing is written
+pub written-nil : (out : List ℕ) (at : ℕ) → written out at [] ≡ out
+unfolding written fits
+written-nil out at =
+    let e : min 0 (length out - at) ≡ 0 = omega arith in
+    rw e (sym (paste-zero out at []))
+
+pub place-nil : (out : List ℕ) (at : ℕ) → placeAfter out at [] ≡ at
+unfolding placeAfter fits
+place-nil out at = omega arith
+
+-- ---- one writer after another
+
+-- a writer wrote a text from place `at` on: what it left and what it answered
+abbrev pub Wrote : List ℕ → ℕ → List ℕ → List ℕ → ℕ → Type 0
+Wrote out at text left r = (r ≡ placeAfter out at text) × (left ≡ written out at text)
+
+-- nothing
+pub wrote-nil : (out : List ℕ) (at : ℕ) → Wrote out at [] out at
+wrote-nil out at = (sym (place-nil out at), sym (written-nil out at))
+
+-- the same text
+pub wrote-as : (out : List ℕ) (at : ℕ) {s t : List ℕ} {left : List ℕ} {r : ℕ} → s ≡ t → Wrote out at s left r → Wrote out at t left r
+wrote-as out at e w = (w .0 ∙ ap (placeAfter out at) e, w .1 ∙ ap (written out at) e)
+
+-- a text and then another
+pub wrote-then : (out : List ℕ) (at : ℕ) (s t : List ℕ) {mid left : List ℕ} {p r : ℕ} → Wrote out at s mid p → Wrote mid p t left r → Wrote out at (s ++ t) left r
+wrote-then out at s t v w =
+    (w .0 ∙ ap₂ (λ (o : List ℕ) (i : ℕ). placeAfter o i t) (v .1) (v .0) ∙ written-append out at s t .1,
+    w .1 ∙ ap₂ (λ (o : List ℕ) (i : ℕ). written o i t) (v .1) (v .0) ∙ written-append out at s t .0)
+
+-- what is still to be written, from a later place, is the rest of the whole
+abbrev pub Rest : List ℕ → ℕ → List ℕ → List ℕ → ℕ → List ℕ → Type 0
+Rest left r rest out at whole = (placeAfter left r rest ≡ placeAfter out at whole) × (written left r rest ≡ written out at whole)
+
+module _ (out : List ℕ) (at : ℕ) (whole : List ℕ) where
+  -- a part of the rest is written
+  pub rest-then : (left : List ℕ) (r : ℕ) (s t : List ℕ) {all next : List ℕ} {q : ℕ} → all ≡ s ++ t → Wrote left r s next q → Rest left r all out at whole → Rest next q t out at whole
+  rest-then left r s t e w h =
+      (ap₂ (λ (o : List ℕ) (i : ℕ). placeAfter o i t) (w .1) (w .0) ∙ written-append left r s t .1 ∙ sym (ap (placeAfter left r) e) ∙ h .0,
+      ap₂ (λ (o : List ℕ) (i : ℕ). written o i t) (w .1) (w .0) ∙ written-append left r s t .0 ∙ sym (ap (written left r) e) ∙ h .1)
+
+  -- the rest in other words
+  pub rest-as : (left : List ℕ) (r : ℕ) {s t : List ℕ} → s ≡ t → Rest left r s out at whole → Rest left r t out at whole
+  rest-as left r e h = (sym (ap (placeAfter left r) e) ∙ h .0, sym (ap (written left r) e) ∙ h .1)
+
+  -- nothing is left to write
+  pub rest-end : (left : List ℕ) (r : ℕ) {s : List ℕ} → s ≡ [] → Rest left r s out at whole → Wrote out at whole left r
+  rest-end left r e h =
+      (sym (place-nil left r) ∙ sym (ap (placeAfter left r) e) ∙ h .0, sym (written-nil left r) ∙ sym (ap (written left r) e) ∙ h .1)
+
+-- writing keeps the buffer's length
+pub wrote-length : (out : List ℕ) (at : ℕ) (text : List ℕ) {left : List ℕ} {r : ℕ} → Wrote out at text left r → length left ≡ length out
+wrote-length out at text w = ap length (w .1) ∙ length-written out at text

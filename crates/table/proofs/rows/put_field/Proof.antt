@@ -1,0 +1,44 @@
+-- `put_field`: the field, then a tab.
+-- Assumes nothing.
+use mathlib.Core.Path.{_≡_, refl, sym, ap, _∙_, subst}
+use mathlib.Core.List.{List, [], _∷_, _++_}
+use Prim.Native.Nat.{ℕ, _+_, _-_, _*_, _<_, _≤_}
+use native.Mathlib.Omega.{arith}
+use denote.Ref.{now}
+use lib.IntN.{ℤ, pos}
+use lib.ListN.{length, getD, take, drop}
+use Rattle.rules.specs.Table.{rowBytes, rowsBytes, signed}
+use Rattle.decimal.proofs.Writing.{wrote-nil, wrote-as, wrote-then}
+use borrow.Author.Needs.{needs}
+use Rattle.table.proofs.rows.put_field.Statement.{statement}
+use Rattle.table.proofs.rows.put_field.Tie as tie
+use Rattle.table.proofs.rows.put_field.Reads as reads
+use Rattle.table.proofs.rows.put_field.Lts as lts
+use Rattle.decimal.proofs.write_bytes.Reads as write-bytes-reads
+
+write-bytes-requires : tie.Need-write-bytes-requires
+write-bytes-requires c κs = search needs
+
+slice-aggregate-write-bytes : tie.Need-slice-aggregate-write-bytes
+slice-aggregate-write-bytes c = search needs
+
+write-bytes-requires-2 : tie.Need-write-bytes-requires-2
+write-bytes-requires-2 c κs = search needs
+
+same-length : tie.Need-same-length
+same-length c = search needs
+
+returns : tie.Need-returns
+returns c =
+    let a = c .before .before .before .before .before .before .before .before .before .before .before .args in
+    wrote-then (now (a .out)) (a .at) (now (a .field)) (9 ∷ []) (c .before .before .before .before .before .before .before .write-bytes .ensures) (c .before .before .write-bytes2 .ensures)
+
+pub put-field-spec : {M : Type 1} → statement M
+put-field-spec =
+    tie.close
+    (tie.spec
+    write-bytes-requires
+    slice-aggregate-write-bytes
+    write-bytes-requires-2
+    same-length
+    returns)

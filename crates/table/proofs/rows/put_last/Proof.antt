@@ -1,0 +1,49 @@
+-- `put_last`: the number, then the end of the line.
+-- Assumes nothing.
+use mathlib.Core.Path.{_≡_, refl, sym, ap, _∙_, subst}
+use mathlib.Core.List.{List, [], _∷_, _++_}
+use Prim.Native.Nat.{ℕ, _+_, _-_, _*_, _<_, _≤_}
+use native.Mathlib.Omega.{arith}
+use denote.Ref.{now}
+use lib.IntN.{ℤ, pos}
+use lib.ListN.{length, getD, take, drop}
+use Rattle.rules.specs.Table.{rowBytes, rowsBytes, signed}
+use Rattle.decimal.proofs.Writing.{wrote-nil, wrote-as, wrote-then}
+use mir.Syntax.{w64}
+use mir.ValLaws.{toZ-ofZ}
+use borrow.Author.Needs.{needs}
+use Rattle.table.proofs.rows.put_last.Statement.{statement}
+use Rattle.table.proofs.rows.put_last.Tie as tie
+use Rattle.table.proofs.rows.put_last.Reads as reads
+use Rattle.table.proofs.rows.put_last.Lts as lts
+use Rattle.decimal.proofs.write_bytes.Reads as write-bytes-reads
+use Rattle.decimal.proofs.write_signed.Reads as write-signed-reads
+
+write-signed-requires : tie.Need-write-signed-requires
+write-signed-requires c κs = search needs
+
+slice-aggregate-write-bytes : tie.Need-slice-aggregate-write-bytes
+slice-aggregate-write-bytes c = search needs
+
+write-bytes-requires : tie.Need-write-bytes-requires
+write-bytes-requires c κs = search needs
+
+same-length : tie.Need-same-length
+same-length c = search needs
+
+returns : tie.Need-returns
+returns c =
+    let s = c .before .before .before .before .before .before .before .before .before .before in
+    let a = s .args in
+    let e = ap signed (toZ-ofZ w64 (a .d) (s .fits .d)) in
+    wrote-then (now (a .out)) (a .at) (signed (a .d)) (10 ∷ []) (wrote-as (now (a .out)) (a .at) e (c .before .before .before .before .before .before .before .write-signed .ensures)) (c .before .before .write-bytes .ensures)
+
+pub put-last-spec : {M : Type 1} → statement M
+put-last-spec =
+    tie.close
+    (tie.spec
+    write-signed-requires
+    slice-aggregate-write-bytes
+    write-bytes-requires
+    same-length
+    returns)

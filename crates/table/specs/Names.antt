@@ -1,0 +1,40 @@
+-- Names of all members of a family, worked out once: 96 bytes a member, and the length of each name.
+-- Assumes nothing.
+use mathlib.Core.Bool.{Bool, true, false, not, _||_, _&&_}
+use mathlib.Core.List.{List, [], _∷_, _++_}
+use Prim.Native.Nat.{ℕ, _*_, _≤_, _<_}
+use lib.Dec.{eqb}
+use lib.IntN.{ℤ}
+use lib.ListN.{length, getD, take, drop}
+use Rattle.rules.specs.Lists.{tabulate, decimalOf}
+use Rattle.rules.specs.Table.{Row, signed, isZero, wordResidual, wordStratum, wordSource, wordDf, wordAll, wordTotal}
+
+-- the name of the member at a place, from 0
+unfoldable pub nameIn : List ℕ → List ℕ → ℕ → List ℕ
+nameIn names lengths j = take (getD lengths j 0) (drop (96 * j) names)
+
+-- the names of the first members
+unfoldable pub namesIn : List ℕ → List ℕ → ℕ → List (List ℕ)
+unfolding tabulate nameIn
+namesIn names lengths size = tabulate (nameIn names lengths) size
+
+-- there is room for the names of so many members, and no name is longer than 96 bytes
+pub record Named (names lengths : List ℕ) (size : ℕ) : Type 0 where
+  pub room : 96 * size ≤ length names
+  pub counted : size ≤ length lengths
+  pub short : (j : ℕ) → j < size → getD lengths j 0 ≤ 96
+
+-- a place is among those of the strata
+unfoldable pub among : ℕ → List ℕ → Bool
+among i [] = false
+among i (s ∷ ss) = eqb s i || among i ss
+
+-- the residual's line of a stratum that has a treatment member or has none
+unfoldable pub residualOf : List ℕ → Bool → ℤ → List Row
+unfolding signed isZero
+residualOf name found r = elim (found && not (isZero r)) [ true ↦ (name ∷ wordResidual ∷ signed r ∷ []) ∷ [] | false ↦ [] ]
+
+-- the first line, the lines of the strata, and the last line with the number of plots
+unfoldable pub tableOf : ℕ → List Row → List Row
+unfolding decimalOf
+tableOf n rows = (wordStratum ∷ wordSource ∷ wordDf ∷ []) ∷ rows ++ (wordAll ∷ wordTotal ∷ decimalOf n ∷ []) ∷ []

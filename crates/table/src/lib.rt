@@ -1,0 +1,2 @@
+// The printed table of a sheet.
+mod rows;
