@@ -48,7 +48,7 @@ loop-again c =
     let e : suc (b .first - 1) ≡ b .first = omega arith in
     let d : drop (b .first - 1) (set (b .digits) (b .first - 1) v) ≡ v ∷ drop (b .first) (b .digits) =
         drop-set (b .digits) (b .first - 1) v (omega arith) ∙ rw e in
-    (omega arith, omega arith, length-set (b .digits) (b .first - 1) v ∙ b .inv .2, place-fewer (b .rest) (b .first) (omega arith) (b .inv .3),
+    (omega arith, omega arith, simp length-set (b .inv .2), place-fewer (b .rest) (b .first) (omega arith) (b .inv .3),
     rw d (sym (digits-more (b .rest) (drop (b .first) (b .digits)) (omega arith)) ∙ b .inv .4))
 
 sub-first-2 : tie.Need-sub-first-2 Inv-loop μ-loop
