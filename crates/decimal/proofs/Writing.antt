@@ -20,7 +20,7 @@ paste-paste d at s t k h =
     let p = paste d at s n in
     let front : take (at + n) p ≡ take at d ++ s = take-paste d at s n (omega arith) (omega arith) ∙ ap (λ (r : List ℕ). take at d ++ r) (take-length s) in
     let back : drop (at + n + k) p ≡ drop (at + (n + k)) d =
-        sym (drop-drop k (at + n) p) ∙ ap (drop k) (drop-paste d at s n (omega arith) (omega arith)) ∙ drop-drop k (at + n) d ∙ ap (λ (i : ℕ). drop i d) (add-assoc at n k) in
+    sym (drop-drop k (at + n) p) ∙ ap (drop k) (drop-paste d at s n (omega arith) (omega arith)) ∙ drop-drop k (at + n) d ∙ ap (λ (i : ℕ). drop i d) (add-assoc at n k) in
     ap₂ (λ (x y : List ℕ). x ++ take k t ++ y) front back
     ∙ ap (λ (x : List ℕ). x ++ drop (at + (n + k)) d) (append-assoc (take at d) s (take k t) ∙ ap (λ (x : List ℕ). take at d ++ x) (sym (take-append-add s t k)))
 
@@ -64,9 +64,10 @@ module _ (out : List ℕ) (at : ℕ) where
         let f : min (length s) m ≡ m = omega arith in
         let l : length (paste out at s m) ≡ length out = subst (λ (x : ℕ). length (paste out at s x) ≡ length out) f (length-written s) in
         let g : min (length t) (length (paste out at s m) - (at + m)) ≡ 0 = omega arith in
-        let e : min (length (s ++ t)) (length out - at) ≡ m = omega (arith, length-append s t) in
-        (rw (f, g, e) (sym (paste-zero (paste out at s m) (at + m) t) ∙ ap (λ (x : List ℕ). take at out ++ x ++ drop (at + m) out) (sym (take-append-le m s t (omega arith)))),
-        rw (f, g, e) (omega arith))
+        let e : min (length (s ++ t)) (length out - at) ≡ m = omega (arith, length-append s t) in (
+          rw (f, g, e) (sym (paste-zero (paste out at s m) (at + m) t) ∙ ap (λ (x : List ℕ). take at out ++ x ++ drop (at + m) out) (sym (take-append-le m s t (omega arith)))),
+          rw (f, g, e) (omega arith),
+        )
 
     pub written-append : Both
     written-append = go (leb (at + length s) (length out)) refl
@@ -114,9 +115,10 @@ wrote-as out at e w = (w .0 ∙ ap (placeAfter out at) e, w .1 ∙ ap (written o
 
 -- a text and then another
 pub wrote-then : (out : List ℕ) (at : ℕ) (s t : List ℕ) {mid left : List ℕ} {p r : ℕ} → Wrote out at s mid p → Wrote mid p t left r → Wrote out at (s ++ t) left r
-wrote-then out at s t v w =
-    (w .0 ∙ ap₂ (λ (o : List ℕ) (i : ℕ). placeAfter o i t) (v .1) (v .0) ∙ written-append out at s t .1,
-    w .1 ∙ ap₂ (λ (o : List ℕ) (i : ℕ). written o i t) (v .1) (v .0) ∙ written-append out at s t .0)
+wrote-then out at s t v w = (
+  w .0 ∙ ap₂ (λ (o : List ℕ) (i : ℕ). placeAfter o i t) (v .1) (v .0) ∙ written-append out at s t .1,
+  w .1 ∙ ap₂ (λ (o : List ℕ) (i : ℕ). written o i t) (v .1) (v .0) ∙ written-append out at s t .0,
+)
 
 -- what is still to be written, from a later place, is the rest of the whole
 abbrev pub Rest : List ℕ → ℕ → List ℕ → List ℕ → ℕ → List ℕ → Type 0
@@ -125,9 +127,10 @@ Rest left r rest out at whole = (placeAfter left r rest ≡ placeAfter out at wh
 module _ (out : List ℕ) (at : ℕ) (whole : List ℕ) where
   -- a part of the rest is written
   pub rest-then : (left : List ℕ) (r : ℕ) (s t : List ℕ) {all next : List ℕ} {q : ℕ} → all ≡ s ++ t → Wrote left r s next q → Rest left r all out at whole → Rest next q t out at whole
-  rest-then left r s t e w h =
-      (ap₂ (λ (o : List ℕ) (i : ℕ). placeAfter o i t) (w .1) (w .0) ∙ written-append left r s t .1 ∙ sym (ap (placeAfter left r) e) ∙ h .0,
-      ap₂ (λ (o : List ℕ) (i : ℕ). written o i t) (w .1) (w .0) ∙ written-append left r s t .0 ∙ sym (ap (written left r) e) ∙ h .1)
+  rest-then left r s t e w h = (
+    ap₂ (λ (o : List ℕ) (i : ℕ). placeAfter o i t) (w .1) (w .0) ∙ written-append left r s t .1 ∙ sym (ap (placeAfter left r) e) ∙ h .0,
+    ap₂ (λ (o : List ℕ) (i : ℕ). written o i t) (w .1) (w .0) ∙ written-append left r s t .0 ∙ sym (ap (written left r) e) ∙ h .1,
+  )
 
   -- the rest in other words
   pub rest-as : (left : List ℕ) (r : ℕ) {s t : List ℕ} → s ≡ t → Rest left r s out at whole → Rest left r t out at whole

@@ -47,9 +47,13 @@ loop-again c =
     let two : 2 ≤ b .first = two-places (b .rest) (b .first) (omega arith) (b .inv .3) in
     let e : suc (b .first - 1) ≡ b .first = omega arith in
     let d : drop (b .first - 1) (set (b .digits) (b .first - 1) v) ≡ v ∷ drop (b .first) (b .digits) =
-        drop-set (b .digits) (b .first - 1) v (omega arith) ∙ rw e in
-    (omega arith, omega arith, simp length-set (b .inv .2), place-fewer (b .rest) (b .first) (omega arith) (b .inv .3),
-    rw d (sym (digits-more (b .rest) (drop (b .first) (b .digits)) (omega arith)) ∙ b .inv .4))
+    drop-set (b .digits) (b .first - 1) v (omega arith) ∙ rw e in (
+      omega arith,
+      omega arith,
+      simp length-set (b .inv .2),
+      place-fewer (b .rest) (b .first) (omega arith) (b .inv .3),
+      rw d (sym (digits-more (b .rest) (drop (b .first) (b .digits)) (omega arith)) ∙ b .inv .4),
+    )
 
 sub-first-2 : tie.Need-sub-first-2 Inv-loop μ-loop
 sub-first-2 c = omega arith
@@ -74,7 +78,7 @@ returns c =
     let v = 48 + b .rest in
     let e : suc (b .first - 1) ≡ b .first = omega arith in
     let d : drop (b .first - 1) (set (b .digits) (b .first - 1) v) ≡ v ∷ drop (b .first) (b .digits) =
-        drop-set (b .digits) (b .first - 1) v (omega arith) ∙ rw e in
+    drop-set (b .digits) (b .first - 1) v (omega arith) ∙ rw e in
     (omega arith, d ∙ sym (digits-one (b .rest) (drop (b .first) (b .digits)) (omega arith)) ∙ b .inv .4)
 
 pub put-digits-spec : {M : Type 1} → statement M
