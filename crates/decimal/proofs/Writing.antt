@@ -115,9 +115,10 @@ wrote-as out at e w = (w .0 ∙ ap (placeAfter out at) e, w .1 ∙ ap (written o
 
 -- a text and then another
 pub wrote-then : (out : List ℕ) (at : ℕ) (s t : List ℕ) {mid left : List ℕ} {p r : ℕ} → Wrote out at s mid p → Wrote mid p t left r → Wrote out at (s ++ t) left r
-wrote-then out at s t v w =
-    (w .0 ∙ ap₂ (λ (o : List ℕ) (i : ℕ). placeAfter o i t) (v .1) (v .0) ∙ written-append out at s t .1,
-    w .1 ∙ ap₂ (λ (o : List ℕ) (i : ℕ). written o i t) (v .1) (v .0) ∙ written-append out at s t .0)
+wrote-then out at s t v w = (
+  w .0 ∙ ap₂ (λ (o : List ℕ) (i : ℕ). placeAfter o i t) (v .1) (v .0) ∙ written-append out at s t .1,
+  w .1 ∙ ap₂ (λ (o : List ℕ) (i : ℕ). written o i t) (v .1) (v .0) ∙ written-append out at s t .0,
+)
 
 -- what is still to be written, from a later place, is the rest of the whole
 abbrev pub Rest : List ℕ → ℕ → List ℕ → List ℕ → ℕ → List ℕ → Type 0
@@ -126,9 +127,10 @@ Rest left r rest out at whole = (placeAfter left r rest ≡ placeAfter out at wh
 module _ (out : List ℕ) (at : ℕ) (whole : List ℕ) where
   -- a part of the rest is written
   pub rest-then : (left : List ℕ) (r : ℕ) (s t : List ℕ) {all next : List ℕ} {q : ℕ} → all ≡ s ++ t → Wrote left r s next q → Rest left r all out at whole → Rest next q t out at whole
-  rest-then left r s t e w h =
-      (ap₂ (λ (o : List ℕ) (i : ℕ). placeAfter o i t) (w .1) (w .0) ∙ written-append left r s t .1 ∙ sym (ap (placeAfter left r) e) ∙ h .0,
-      ap₂ (λ (o : List ℕ) (i : ℕ). written o i t) (w .1) (w .0) ∙ written-append left r s t .0 ∙ sym (ap (written left r) e) ∙ h .1)
+  rest-then left r s t e w h = (
+    ap₂ (λ (o : List ℕ) (i : ℕ). placeAfter o i t) (w .1) (w .0) ∙ written-append left r s t .1 ∙ sym (ap (placeAfter left r) e) ∙ h .0,
+    ap₂ (λ (o : List ℕ) (i : ℕ). written o i t) (w .1) (w .0) ∙ written-append left r s t .0 ∙ sym (ap (written left r) e) ∙ h .1,
+  )
 
   -- the rest in other words
   pub rest-as : (left : List ℕ) (r : ℕ) {s t : List ℕ} → s ≡ t → Rest left r s out at whole → Rest left r t out at whole

@@ -8,9 +8,9 @@ ghost use Rattle.rules.specs.Design.{plotDesign, plotBuffer, fullDesign, treatm
 ghost use Rattle.rules.specs.Structure.{Lent, Demand3};
 ghost use Rattle.design.specs.Answers.{plotNumbers, plotNumbersOf, fullNumbers, fullNumbersOf};
 
+mod closed;
 mod closing;
 mod columns;
-mod families;
 mod pairs;
 mod questions;
 mod sorting;

@@ -8,8 +8,8 @@ ghost use Rattle.rules.specs.Design.{question8, plotBuffer, withTreatments, tre
 ghost use Rattle.design.specs.Answers.{plotNumbers, plotNumbersOf, fullNumbers, fullNumbersOf};
 use crate::FullDesign;
 use crate::PlotDesign;
-use crate::families::close_families;
-use crate::families::plot_family;
+use crate::closed::close_families;
+use crate::closed::plot_family;
 use crate::verdict::judge;
 use crate::verdict::judge_plots;
 use limits::FAMILY;

@@ -189,9 +189,9 @@ strata-step strata lens count totals residuals ts ss ds i h ht hr =
     let rows = stratumRows name (i + 1) ts ss ds (getD totals i (pos 0)) (getD residuals i (pos 0)) in
     let rest = strataRows (suc (i + 1)) (drop (suc i) ps) (drop (suc i) es) (drop (suc i) rs) ts ss ds in
     let first : strataRows (i + 1) (drop i ps) (drop i es) (drop i rs) ts ss ds ≡ rows ++ rest =
-        rw (drop-cons ps i [] lp, drop-cons es i (pos 0) le, drop-cons rs i (pos 0) lr, name-at strata lens count i h, getD-take count totals i (pos 0) h, getD-take count residuals i (pos 0) h) in
+    rw (drop-cons ps i [] lp, drop-cons es i (pos 0) le, drop-cons rs i (pos 0) lr, name-at strata lens count i h, getD-take count totals i (pos 0) h, getD-take count residuals i (pos 0) h) in
     let same : rest ≡ strataRows (i + 1 + 1) (drop (i + 1) ps) (drop (i + 1) es) (drop (i + 1) rs) ts ss ds =
-        ap₂ (λ (k j : ℕ). strataRows k (drop j ps) (drop j es) (drop j rs) ts ss ds) (sym (add-one (i + 1))) (sym (add-one i)) in
+    ap₂ (λ (k j : ℕ). strataRows k (drop j ps) (drop j es) (drop j rs) ts ss ds) (sym (add-one (i + 1))) (sym (add-one i)) in
     ap rowsBytes first ∙ rows-append rows rest ∙ ap (λ (x : List Row). rowsBytes rows ++ rowsBytes x) same
 
 -- no stratum is left
@@ -218,7 +218,7 @@ unfolding tableOf rowsBytes rowBytes
 table-bytes n rows =
     let last = (wordAll ∷ wordTotal ∷ decimalOf n ∷ []) ∷ [] in
     let e : rowsBytes rows ++ rowBytes (wordAll ∷ wordTotal ∷ decimalOf n ∷ []) ≡ rowsBytes (rows ++ last) =
-        sym (rows-append rows last ∙ ap (λ (x : List ℕ). rowsBytes rows ++ x) (rows-one (wordAll ∷ wordTotal ∷ decimalOf n ∷ []))) in
+    sym (rows-append rows last ∙ ap (λ (x : List ℕ). rowsBytes rows ++ x) (rows-one (wordAll ∷ wordTotal ∷ decimalOf n ∷ []))) in
     ap (λ (x : List ℕ). start-table ++ x) e
 
 -- `refused`, tab
@@ -233,5 +233,5 @@ refused-bytes q f s =
     let y = f ++ 9 ∷ [] in
     let t = s ++ 10 ∷ [] in
     let e : x ++ y ++ s ++ 10 ∷ [] ≡ d ++ 9 ∷ (f ++ 9 ∷ t) =
-        append-assoc (x ++ y) s (10 ∷ []) ∙ append-assoc x y t ∙ append-snoc d 9 (y ++ t) ∙ ap (λ (r : List ℕ). d ++ 9 ∷ r) (append-snoc f 9 t) in
+    append-assoc (x ++ y) s (10 ∷ []) ∙ append-assoc x y t ∙ append-snoc d 9 (y ++ t) ∙ ap (λ (r : List ℕ). d ++ 9 ∷ r) (append-snoc f 9 t) in
     ap (λ (r : List ℕ). start-refused ++ r) e ∙ sym (rows-one (refusedRow q f s))

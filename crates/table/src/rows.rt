@@ -101,13 +101,7 @@ fn has_source(i: usize, size: usize, places: [usize; MEMBERS]) -> bool
 }
 
 // Writes the residual's line, if the stratum has a treatment member and the residual is not 0.
-fn put_residual(
-    stratum: &[u8],
-    found: bool,
-    residual: i64,
-    out: &mut [u8],
-    at: usize,
-) -> usize
+fn put_residual(stratum: &[u8], found: bool, residual: i64, out: &mut [u8], at: usize) -> usize
     ensures answer { λ r. ⌜ r ≡ placeAfter (now (out .entry)) at (rowsBytes (residualOf (now (stratum .entry)) found residual)) ⌝ }
     ensures bytes { λ _. ⌜ now (out .exit) ≡ written (now (out .entry)) at (rowsBytes (residualOf (now (stratum .entry)) found residual)) ⌝ }
 {

@@ -50,7 +50,7 @@ loop-again c =
     drop-set (b .digits) (b .first - 1) v (omega arith) ∙ rw e in (
       omega arith,
       omega arith,
-      length-set (b .digits) (b .first - 1) v ∙ b .inv .2,
+      simp length-set (b .inv .2),
       place-fewer (b .rest) (b .first) (omega arith) (b .inv .3),
       rw d (sym (digits-more (b .rest) (drop (b .first) (b .digits)) (omega arith)) ∙ b .inv .4),
     )

@@ -96,10 +96,12 @@ loop-again c =
     let fit : SFits w64 x = record { sfits = c .before .before .before .before .before .d .given } in
     let part : 96 * j + getD (now (a .lengths)) j 0 - 96 * j ≡ getD (now (a .lengths)) j 0 = omega arith in
     let e : rowsBytes (sourceRows name (a .i) (take (96 * j + getD (now (a .lengths)) j 0 - 96 * j) (drop (96 * j) (now (a .names))) ∷ []) (getD (a .t6) j 0 ∷ []) (toZ w64 (ofZ w64 x) ∷ [])) ≡ one = rw (part, toZ-ofZ w64 x fit) in
-    let wrote = wrote-as (b .loop .out) (b .loop .next) e (w .ensures) in
-    (h, wrote-length (b .loop .out) (b .loop .next) one wrote ∙ b .loop .inv .1,
-    rest-then o (a .at) (rowsBytes (sourceRows name (a .i) ts ss ds)) (b .loop .out) (b .loop .next) one rest
-    (source-step name (a .i) (now (a .names)) (now (a .lengths)) (a .size) (a .t6) (a .t7) j (omega (arith, h)) (omega (arith, l6, s .pre .0)) (omega (arith, l7, s .pre .0))) wrote (b .loop .inv .2))
+    let wrote = wrote-as (b .loop .out) (b .loop .next) e (w .ensures) in (
+      h,
+      wrote-length (b .loop .out) (b .loop .next) one wrote ∙ b .loop .inv .1,
+      rest-then o (a .at) (rowsBytes (sourceRows name (a .i) ts ss ds)) (b .loop .out) (b .loop .next) one rest
+          (source-step name (a .i) (now (a .names)) (now (a .lengths)) (a .size) (a .t6) (a .t7) j (omega (arith, h)) (omega (arith, l6, s .pre .0)) (omega (arith, l7, s .pre .0))) wrote (b .loop .inv .2),
+    )
 
 same-length : tie.Need-same-length Inv-loop μ-loop
 same-length c = c .before .loop .inv .1

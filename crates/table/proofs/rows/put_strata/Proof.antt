@@ -100,10 +100,12 @@ loop-again c =
     let fy : SFits w64 y = record { sfits = c .before .before .before .before .before .residual .given } in
     let part : 96 * i + getD (now (a .strata-lengths)) i 0 - 96 * i ≡ getD (now (a .strata-lengths)) i 0 = omega arith in
     let e : rowsBytes (stratumRows (take (96 * i + getD (now (a .strata-lengths)) i 0 - 96 * i) (drop (96 * i) (now (a .strata)))) (i + 1) ts ss ds (toZ w64 (ofZ w64 x)) (toZ w64 (ofZ w64 y))) ≡ one = rw (part, toZ-ofZ w64 x fx, toZ-ofZ w64 y fy) in
-    let wrote = wrote-as (b .loop .out) (b .loop .next) e (w .ensures) in
-    (h, wrote-length (b .loop .out) (b .loop .next) one wrote ∙ b .loop .inv .1,
-    rest-then o (a .at) (rowsBytes (strataRows 1 ps (take (a .count) (a .t4)) (take (a .count) (a .t5)) ts ss ds)) (b .loop .out) (b .loop .next) one rest
-    (strata-step (now (a .strata)) (now (a .strata-lengths)) (a .count) (a .t4) (a .t5) ts ss ds i (omega (arith, h)) (omega (arith, lt, s .pre .2)) (omega (arith, lr, s .pre .2))) wrote (b .loop .inv .2))
+    let wrote = wrote-as (b .loop .out) (b .loop .next) e (w .ensures) in (
+      h,
+      wrote-length (b .loop .out) (b .loop .next) one wrote ∙ b .loop .inv .1,
+      rest-then o (a .at) (rowsBytes (strataRows 1 ps (take (a .count) (a .t4)) (take (a .count) (a .t5)) ts ss ds)) (b .loop .out) (b .loop .next) one rest
+          (strata-step (now (a .strata)) (now (a .strata-lengths)) (a .count) (a .t4) (a .t5) ts ss ds i (omega (arith, h)) (omega (arith, lt, s .pre .2)) (omega (arith, lr, s .pre .2))) wrote (b .loop .inv .2),
+    )
 
 same-length : tie.Need-same-length Inv-loop μ-loop
 same-length c = c .before .loop .inv .1

@@ -1,4 +1,4 @@
--- `families::close_plots` meets its contract: the plot columns are placed, and the family is closed.
+-- `closed::close_plots` meets its contract: the plot columns are placed, and the family is closed.
 -- Assumes nothing.
 use mathlib.Core.Bool.{true}
 use denote.Ref.{now}
@@ -6,8 +6,8 @@ use borrow.Author.Needs.{needs}
 use Rattle.rules.specs.Family.{columnsFrom}
 use Rattle.rules.specs.Closing.{plotGenerators}
 use Rattle.design.proofs.Work.{work-begun}
-use Rattle.design.proofs.families.close_plots.Statement.{statement}
-use Rattle.design.proofs.families.close_plots.Tie as tie
+use Rattle.design.proofs.closed.close_plots.Statement.{statement}
+use Rattle.design.proofs.closed.close_plots.Tie as tie
 
 place-plot-columns-requires : tie.Need-place-plot-columns-requires
 place-plot-columns-requires c κs = search needs

@@ -1,4 +1,4 @@
--- `families::close_families` meets its contract: each family is closed in its own memory.
+-- `closed::close_families` meets its contract: each family is closed in its own memory.
 -- Assumes nothing.
 use mathlib.Core.List.{List}
 use native.Mathlib.Omega.{arith}
@@ -8,8 +8,8 @@ use Rattle.rules.specs.Factor.{Column}
 use Rattle.rules.specs.Family.{columnsFrom}
 use Rattle.rules.proofs.Demand3.{column-length}
 use Rattle.design.proofs.FullAnswered.{first-held}
-use Rattle.design.proofs.families.close_families.Statement.{statement}
-use Rattle.design.proofs.families.close_families.Tie as tie
+use Rattle.design.proofs.closed.close_families.Statement.{statement}
+use Rattle.design.proofs.closed.close_families.Tie as tie
 
 plot-family-requires : tie.Need-plot-family-requires
 plot-family-requires c κs = search needs
