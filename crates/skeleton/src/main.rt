@@ -1,4 +1,6 @@
 // Reads a sheet on standard input and prints its skeleton table, or the line of its refusal.
+ghost use Prim.Native.Nat.{_+_, _≤_};
+ghost use lib.ListN.{length};
 use libc::STDIN_FILENO;
 use libc::STDOUT_FILENO;
 use table::Printed;
@@ -10,17 +12,20 @@ const INPUT: usize = limits::TEXT + 1;
 const TABLE: usize = 32768;
 
 // Reads until the input ends or `input` is full; answers how many bytes came, or more than there is room for where a read failed.
-fn read_input(input: &mut [u8]) -> usize {
+fn read_input(input: &mut [u8]) -> usize
+    ensures { λ r. ⌜ r ≤ length (now (input .entry)) + 1 ⌝ }
+{
     let mut done = 0;
     while done < input.len() {
         let got = libc::read(STDIN_FILENO, &mut input[done..]);
         if got < 0 {
             return input.len() + 1;
         }
-        if got == 0 {
+        let more = io::count(got, &input[done..]);
+        if more == 0 {
             return done;
         }
-        done += io::count(got, &input[done..]);
+        done += more;
     }
     done
 }
