@@ -1,19 +1,19 @@
 -- Laws of the names of a family's members: 96 bytes a member, and the length of each name.
 -- Assumes nothing.
-use mathlib.Core.Path.{_≡_, refl, sym, ap, ap₂, _∙_, subst}
-use mathlib.Core.Bool.{Bool, true, false}
-use mathlib.Core.List.{List, [], _∷_, _++_, append-assoc}
+use mathlib.Core.Path.{_≡_, refl, sym, ap, ap₂, _∙_}
+use mathlib.Core.Bool.{true, false}
+use mathlib.Core.List.{List, _∷_, append-assoc}
 use Prim.Native.Nat.{ℕ, zero, suc, _+_, _-_, _*_, _<_, _≤_}
-use native.Mathlib.Nat.{not-suc-le-zero, lt-irrefl}
+use native.Mathlib.Nat.{not-suc-le-zero}
 use native.Mathlib.Omega.{arith}
 use lib.Dec.{eqb}
-use lib.ListN.{length, getD, take, drop, set, length-append, length-drop, length-set}
-use lib.Seq.{take-at, drop-at, take-take, take-add, length-take-le, getD-set-same, getD-set-other}
+use lib.ListN.{length, getD, take, drop, set, length-append, length-drop}
+use lib.Seq.{take-at, drop-at, take-take, take-add, length-take-le, set-split, getD-set-same, getD-set-other}
 use borrow.Author.Tests.{lt-ltb, le-leb, eq-eqb, eqb-true, eqb-false}
-use borrow.Rule.Slice.PartMut.{midOf, putMid, same-len-mid, take-put, mid-len}
+use borrow.Rule.Slice.PartMut.{midOf, putMid, same-len-mid, take-put}
 use Rattle.rules.specs.Family.{Family, membersOf}
 use Rattle.rules.specs.Design.{plotsWithin}
-use Rattle.rules.specs.Sheet.{question3}
+use Rattle.rules.specs.Relation.{memberAt}
 use Rattle.rules.specs.Lists.{tabulate}
 use Rattle.rules.specs.Naming.{Kind, nameOn, nameAt}
 use Rattle.rules.specs.Table.{namesFrom}
@@ -35,18 +35,32 @@ fits-place text levels buffer n i room w h r =
     let on : length (columnAt n buffer i) ≡ n = length-column n i buffer (w .few) h (w .long) in
     rw (lt-ltb 0 n (w .some), le-leb n 240 (w .few), le-leb 2880 (length levels) (w .table), le-leb 96 room r, eq-eqb (length (columnAt n buffer i)) n on)
 
--- what naming the part answers is the name at the place after it
-pub name-placed : (kind : Kind) (text levels buffer : List ℕ) (n i room : ℕ) → Nameable text levels buffer n → i < 32 → 96 ≤ room
-    → nameFor kind text levels n (take (240 * i + n - 240 * i) (drop (240 * i) buffer)) (suc i) room ≡ placedName kind text n levels buffer (suc i)
+-- what naming the part answers is the name at the place
+pub name-placed : (kind : Kind) (text levels buffer : List ℕ) (n place room : ℕ) → Nameable text levels buffer n → 1 ≤ place → place ≤ 32 → 96 ≤ room
+    → nameFor kind text levels n (take (240 * (place - 1) + n - 240 * (place - 1)) (drop (240 * (place - 1)) buffer)) place room ≡ placedName kind text n levels buffer place
 unfolding placedName
-name-placed kind text levels buffer n i room w h r =
-    ap (λ (F : List ℕ). nameFor kind text levels n F (suc i) room) (part-of n i buffer)
-    ∙ named-for kind text levels n (columnAt n buffer i) (suc i) room (w .form) (fits-place text levels buffer n i room w h r)
+name-placed kind text levels buffer n zero room w l h r = absurd (not-suc-le-zero l)
+name-placed kind text levels buffer n (suc i) room w l h r =
+    let e : suc i - 1 ≡ i = omega arith in
+    ap (λ (k : ℕ). nameFor kind text levels n (take (240 * k + n - 240 * k) (drop (240 * k) buffer)) (suc i) room) e
+    ∙ ap (λ (F : List ℕ). nameFor kind text levels n F (suc i) room) (part-of n i buffer)
+    ∙ named-for kind text levels n (columnAt n buffer i) (suc i) room (w .form) (fits-place text levels buffer n i room w (omega arith) r)
+
+-- no name at place 0
+pub name-none : (kind : Kind) (text levels buffer name : List ℕ) (n : ℕ) → 1 ≤ length name → set name 0 45 ≡ startingWith (placedName kind text n levels buffer 0) name
+unfolding placedName
+name-none kind text levels buffer name n h = set-split name 0 45 h
+
+pub length-none : (kind : Kind) (text levels buffer : List ℕ) (n : ℕ) → 1 ≡ length (placedName kind text n levels buffer 0)
+unfolding placedName
+length-none kind text levels buffer n = refl
 
 -- the name at a place is that of the family's member there
 pub placed-member : (kind : Kind) (text levels buffer : List ℕ) (n size i : ℕ) → n ≤ 240 → i < size → placedName kind text n levels buffer (suc i) ≡ nameAt kind text n levels (membersOf n buffer size) (suc i)
 unfolding placedName nameAt
-placed-member kind text levels buffer n size i h l = ap (nameOn kind text n levels (suc i)) (sym (member-is n h buffer size i l))
+placed-member kind text levels buffer n size i h l =
+    let e : i ≡ suc i - 1 = omega arith in
+    ap (nameOn kind text n levels (suc i)) (sym (member-is n h buffer size i l) ∙ ap (memberAt (membersOf n buffer size)) e)
 
 -- it has at most 80 bytes
 pub placed-short : (kind : Kind) (text levels buffer : List ℕ) (n i : ℕ) → Nameable text levels buffer n → i < 32 → length (placedName kind text n levels buffer (suc i)) ≤ 80
@@ -112,6 +126,12 @@ module _ (names lengths W : List ℕ) (i k : ℕ) (room : 96 * i + 96 ≤ length
           let was = f j l in
           rw g
           (was .0, part-agrees (96 * j) (getD lengths j 0) (96 * i) more names (omega (arith, was .0)) (omega (arith, length-more)) (omega arith) before ∙ was .1)
+
+-- the same where the bytes and the length come back from a call
+pub filled-turn : (name : ℕ → List ℕ) (names lengths back : List ℕ) (m i k : ℕ) → 96 * i + 96 ≤ length names → i < length lengths → length (name i) ≤ 96 → k ≡ 96 → back ≡ startingWith (name i) (midOf (96 * i) k names) → m ≡ length (name i) → Filled name names lengths i
+    → (length (putMid (96 * i) k names back) ≡ length names) × Filled name (putMid (96 * i) k names back) (set lengths i m) (i + 1)
+filled-turn name names lengths back m i k room count short whole e l f =
+    rw (e, l) (length-more names lengths (name i) i k room count short whole, filled-more names lengths (name i) i k room count short whole name refl f)
 
 -- all members are named
 names-from : (kind : Kind) (text : List ℕ) (n : ℕ) (levels : List ℕ) (S : Family) (f : ℕ → List ℕ) (i m : ℕ) → ((j : ℕ) → j < m → f j ≡ nameAt kind text n levels S (i + j)) → tabulate f m ≡ namesFrom kind text n levels S i m
