@@ -74,7 +74,7 @@ loop-again c =
     let next : placedName (kindOf (a .kind)) (now (a .text)) (a .plots) (now (a .levels)) (now (a .family)) (i + 1) ≡ name i = rw add-one in
     let short = placed-short (kindOf (a .kind)) (now (a .text)) (now (a .levels)) (now (a .family)) (a .plots) i (s .pre .0) h in
     let turn = filled-turn name (b .loop .names) (b .loop .lengths) (w .last .1 .1 .1 .1 .1 .1 .0) (w .result) i k (omega arith) (omega arith) (omega (arith, short)) (omega arith)
-        (w .ensures .1 ∙ ap (λ (W : List ℕ). startingWith W (midOf (96 * i) k (b .loop .names))) next) (w .ensures .0 ∙ ap length next) (b .loop .inv .3) in
+    (w .ensures .1 ∙ ap (λ (W : List ℕ). startingWith W (midOf (96 * i) k (b .loop .names))) next) (w .ensures .0 ∙ ap length next) (b .loop .inv .3) in
     (omega arith, turn .0 ∙ b .loop .inv .1, length-set (b .loop .lengths) i (w .result) ∙ b .loop .inv .2, turn .1)
 
 same-length : tie.Need-same-length Inv-loop μ-loop
