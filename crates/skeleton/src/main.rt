@@ -39,6 +39,7 @@ fn main() {
     }
     let mut out = [0u8; TABLE];
     let answer = table::skeleton_table(&input[..got], &mut out);
+    // The buffer has the room that is asked for, so the table is not refused.
     let Printed::Text(length) = answer else {
         return;
     };
