@@ -2,16 +2,34 @@
 -- Assumes nothing.
 use mathlib.Core.Bool.{Bool, true, false, not, _||_, _&&_}
 use mathlib.Core.List.{List, [], _∷_, _++_}
-use Prim.Native.Nat.{ℕ, _*_, _≤_, _<_}
+use mathlib.Core.Path.{_≡_}
+use Prim.Native.Nat.{ℕ, zero, suc, _*_, _≤_, _<_}
 use lib.Dec.{eqb}
 use lib.IntN.{ℤ}
 use lib.ListN.{length, getD, take, drop}
 use Rattle.rules.specs.Lists.{tabulate, decimalOf}
-use Rattle.rules.specs.Table.{Row, signed, isZero, wordResidual, wordStratum, wordSource, wordDf, wordAll, wordTotal}
+use Rattle.rules.specs.Sheet.{question3}
+use Rattle.rules.specs.Naming.{Kind, nameOn}
+use Rattle.families.specs.Lent.{columnAt}
+use Rattle.rules.specs.Table.{dash, Row, signed, isZero, wordResidual, wordStratum, wordSource, wordDf, wordAll, wordTotal}
 
 -- the name of the member at a place, from 0
 unfoldable pub nameIn : List ℕ → List ℕ → ℕ → List ℕ
 nameIn names lengths j = take (getD lengths j 0) (drop (96 * j) names)
+
+-- what naming members of a family buffer asks: a first line of the form, a level table and a buffer long enough
+pub record Nameable (text levels buffer : List ℕ) (n : ℕ) : Type 0 where
+  pub form : question3 text ≡ true
+  pub some : 1 ≤ n
+  pub few : n ≤ 240
+  pub table : 2880 ≤ length levels
+  pub long : 7680 ≤ length buffer
+
+-- the name at a place of a family buffer, from 1; `-` at place 0
+unfoldable pub placedName : Kind → List ℕ → ℕ → List ℕ → List ℕ → ℕ → List ℕ
+unfolding nameOn
+placedName kind text n levels buffer zero = dash
+placedName kind text n levels buffer (suc i) = nameOn kind text n levels (suc i) (columnAt n buffer i)
 
 -- the names of the first members
 unfoldable pub namesIn : List ℕ → List ℕ → ℕ → List (List ℕ)

@@ -1,0 +1,159 @@
+-- Laws of the names of a family's members: 96 bytes a member, and the length of each name.
+-- Assumes nothing.
+use mathlib.Core.Path.{_≡_, refl, sym, ap, ap₂, _∙_}
+use mathlib.Core.Bool.{true, false}
+use mathlib.Core.List.{List, _∷_, append-assoc}
+use Prim.Native.Nat.{ℕ, zero, suc, _+_, _-_, _*_, _<_, _≤_}
+use native.Mathlib.Nat.{not-suc-le-zero}
+use native.Mathlib.Omega.{arith}
+use lib.Dec.{eqb}
+use lib.ListN.{length, getD, take, drop, set, length-append, length-drop}
+use lib.Seq.{take-at, drop-at, take-take, take-add, length-take-le, set-split, getD-set-same, getD-set-other}
+use borrow.Author.Tests.{lt-ltb, le-leb, eq-eqb, eqb-true, eqb-false}
+use borrow.Rule.Slice.PartMut.{midOf, putMid, same-len-mid, take-put}
+use Rattle.rules.specs.Family.{Family, membersOf}
+use Rattle.rules.specs.Design.{plotsWithin}
+use Rattle.rules.specs.Relation.{memberAt}
+use Rattle.rules.specs.Lists.{tabulate}
+use Rattle.rules.specs.Naming.{Kind, nameOn, nameAt}
+use Rattle.rules.specs.Table.{namesFrom}
+use Rattle.rules.proofs.Buffer.{member-is}
+use Rattle.rules.proofs.NameSize.{name-length}
+use Rattle.rules.proofs.Numbering.{by-cases}
+use Rattle.families.specs.Lent.{columnAt}
+use Rattle.families.proofs.Lent.{part-of, length-column}
+use Rattle.naming.specs.Answers.{memberFits, nameFor, startingWith}
+use Rattle.naming.proofs.Entry.{named-for}
+use Rattle.table.specs.Names.{Nameable, Named, nameIn, namesIn, placedName}
+
+-- ---- one name
+
+-- a member of the buffer has a name
+pub fits-place : (text levels buffer : List ℕ) (n i room : ℕ) → Nameable text levels buffer n → i < 32 → 96 ≤ room → memberFits n (length levels) room (length (columnAt n buffer i)) ≡ true
+unfolding memberFits plotsWithin
+fits-place text levels buffer n i room w h r =
+    let on : length (columnAt n buffer i) ≡ n = length-column n i buffer (w .few) h (w .long) in
+    rw (lt-ltb 0 n (w .some), le-leb n 240 (w .few), le-leb 2880 (length levels) (w .table), le-leb 96 room r, eq-eqb (length (columnAt n buffer i)) n on)
+
+-- what naming the part answers is the name at the place
+pub name-placed : (kind : Kind) (text levels buffer : List ℕ) (n place room : ℕ) → Nameable text levels buffer n → 1 ≤ place → place ≤ 32 → 96 ≤ room
+    → nameFor kind text levels n (take (240 * (place - 1) + n - 240 * (place - 1)) (drop (240 * (place - 1)) buffer)) place room ≡ placedName kind text n levels buffer place
+unfolding placedName
+name-placed kind text levels buffer n zero room w l h r = absurd (not-suc-le-zero l)
+name-placed kind text levels buffer n (suc i) room w l h r =
+    let e : suc i - 1 ≡ i = omega arith in
+    ap (λ (k : ℕ). nameFor kind text levels n (take (240 * k + n - 240 * k) (drop (240 * k) buffer)) (suc i) room) e
+    ∙ ap (λ (F : List ℕ). nameFor kind text levels n F (suc i) room) (part-of n i buffer)
+    ∙ named-for kind text levels n (columnAt n buffer i) (suc i) room (w .form) (fits-place text levels buffer n i room w (omega arith) r)
+
+-- no name at place 0
+pub name-none : (kind : Kind) (text levels buffer name : List ℕ) (n : ℕ) → 1 ≤ length name → set name 0 45 ≡ startingWith (placedName kind text n levels buffer 0) name
+unfolding placedName
+name-none kind text levels buffer name n h = set-split name 0 45 h
+
+pub length-none : (kind : Kind) (text levels buffer : List ℕ) (n : ℕ) → 1 ≡ length (placedName kind text n levels buffer 0)
+unfolding placedName
+length-none kind text levels buffer n = refl
+
+-- the name at a place is that of the family's member there
+pub placed-member : (kind : Kind) (text levels buffer : List ℕ) (n size i : ℕ) → n ≤ 240 → i < size → placedName kind text n levels buffer (suc i) ≡ nameAt kind text n levels (membersOf n buffer size) (suc i)
+unfolding placedName nameAt
+placed-member kind text levels buffer n size i h l =
+    let e : i ≡ suc i - 1 = omega arith in
+    ap (nameOn kind text n levels (suc i)) (sym (member-is n h buffer size i l) ∙ ap (memberAt (membersOf n buffer size)) e)
+
+-- it has at most 80 bytes
+pub placed-short : (kind : Kind) (text levels buffer : List ℕ) (n i : ℕ) → Nameable text levels buffer n → i < 32 → length (placedName kind text n levels buffer (suc i)) ≤ 80
+placed-short kind text levels buffer n i w h =
+    rw (placed-member kind text levels buffer n 32 i (w .few) h) (name-length kind text n levels (membersOf n buffer 32) (suc i) (w .form) (omega arith))
+
+-- ---- all names
+
+-- the first i members have these names
+abbrev pub Filled : (ℕ → List ℕ) → List ℕ → List ℕ → ℕ → Type 0
+Filled name names lengths i = (j : ℕ) → j < i → (getD lengths j 0 ≤ 96) × (nameIn names lengths j ≡ name j)
+
+pub filled-none : (name : ℕ → List ℕ) (names lengths : List ℕ) → Filled name names lengths 0
+filled-none name names lengths j h = absurd (not-suc-le-zero h)
+
+part-of-take : (k n : ℕ) (l : List ℕ) → k ≤ length l → take n (drop k l) ≡ drop k (take (k + n) l)
+part-of-take k n l h = sym (ap (λ (x : List ℕ). drop k x) (take-add k n l) ∙ drop-at (take k l) (take n (drop k l)) k (length-take-le k l h))
+
+-- bytes before a place that agree have the same parts
+part-agrees : (k n m : ℕ) (v w : List ℕ) → k + n ≤ m → k ≤ length v → k ≤ length w → take m v ≡ take m w → take n (drop k v) ≡ take n (drop k w)
+part-agrees k n m v w h hv hw e =
+    part-of-take k n v hv
+    ∙ ap (λ (x : List ℕ). drop k x) (sym (take-take (k + n) m v h) ∙ ap (λ (x : List ℕ). take (k + n) x) e ∙ take-take (k + n) m w h)
+    ∙ sym (part-of-take k n w hw)
+
+-- a name written after the first i
+module _ (names lengths W : List ℕ) (i k : ℕ) (room : 96 * i + 96 ≤ length names) (count : i < length lengths) (short : length W ≤ 96) (whole : k ≡ 96) where
+  abbrev pub more : List ℕ
+  more = putMid (96 * i) k names (startingWith W (midOf (96 * i) k names))
+
+  mid-length : length (midOf (96 * i) k names) ≡ 96
+  mid-length = rw whole (length-take-le 96 (drop (96 * i) names) (rw (length-drop (96 * i) names) (omega arith)))
+
+  pub length-more : length more ≡ length names
+  length-more = same-len-mid (96 * i) k names (startingWith W (midOf (96 * i) k names)) (simp (length-append, length-drop) (omega (arith, mid-length)))
+
+  before : take (96 * i) more ≡ take (96 * i) names
+  before = take-put (96 * i) k names (startingWith W (midOf (96 * i) k names)) (omega arith)
+
+  here : take (length W) (drop (96 * i) more) ≡ W
+  here =
+      ap (λ (x : List ℕ). take (length W) x) (drop-at (take (96 * i) names) _ (96 * i) (length-take-le (96 * i) names (omega arith)) ∙ append-assoc W _ _)
+      ∙ take-at W _ (length W) refl
+
+  pub filled-more : (name : ℕ → List ℕ) → W ≡ name i → Filled name names lengths i → Filled name more (set lengths i (length W)) (i + 1)
+  unfolding nameIn
+  filled-more name e f j h = by-cases (eqb j i) same other
+    where
+      Goal : Type 0
+      Goal = (getD (set lengths i (length W)) j 0 ≤ 96) × (take (getD (set lengths i (length W)) j 0) (drop (96 * j) more) ≡ name j)
+
+      same : eqb j i ≡ true → Goal
+      same q =
+          let p : j ≡ i = eqb-true j i q in
+          let g : getD (set lengths i (length W)) i 0 ≡ length W = getD-set-same lengths i (length W) 0 count in
+          rw (p, g) (short, here ∙ e)
+
+      other : eqb j i ≡ false → Goal
+      other q =
+          let d = eqb-false j i q in
+          let g : getD (set lengths i (length W)) j 0 ≡ getD lengths j 0 = getD-set-other lengths i j (length W) 0 d in
+          let l : j < i = omega arith in
+          let was = f j l in
+          rw g
+          (was .0, part-agrees (96 * j) (getD lengths j 0) (96 * i) more names (omega (arith, was .0)) (omega (arith, length-more)) (omega arith) before ∙ was .1)
+
+-- the same where the bytes and the length come back from a call
+pub filled-turn : (name : ℕ → List ℕ) (names lengths back : List ℕ) (m i k : ℕ) → 96 * i + 96 ≤ length names → i < length lengths → length (name i) ≤ 96 → k ≡ 96 → back ≡ startingWith (name i) (midOf (96 * i) k names) → m ≡ length (name i) → Filled name names lengths i
+    → (length (putMid (96 * i) k names back) ≡ length names) × Filled name (putMid (96 * i) k names back) (set lengths i m) (i + 1)
+filled-turn name names lengths back m i k room count short whole e l f =
+    rw (e, l) (length-more names lengths (name i) i k room count short whole, filled-more names lengths (name i) i k room count short whole name refl f)
+
+-- all members are named
+names-from : (kind : Kind) (text : List ℕ) (n : ℕ) (levels : List ℕ) (S : Family) (f : ℕ → List ℕ) (i m : ℕ) → ((j : ℕ) → j < m → f j ≡ nameAt kind text n levels S (i + j)) → tabulate f m ≡ namesFrom kind text n levels S i m
+unfolding tabulate namesFrom
+names-from kind text n levels S f i zero h = refl
+names-from kind text n levels S f i (suc m) h =
+    let first : i + 0 ≡ i = omega arith in
+    ap₂ (λ (x : List ℕ) (xs : List (List ℕ)). x ∷ xs) (h 0 (omega arith) ∙ ap (nameAt kind text n levels S) first)
+    (names-from kind text n levels S (λ k. f (suc k)) (suc i) m (λ j l. h (suc j) (omega arith) ∙ ap (nameAt kind text n levels S) (across i j)))
+  where
+    across : (i j : ℕ) → i + suc j ≡ suc i + j
+    across i j = omega arith
+
+pub filled-names : (kind : Kind) (text : List ℕ) (n : ℕ) (levels buffer : List ℕ) (size : ℕ) (names lengths : List ℕ) → n ≤ 240
+    → Filled (λ j. placedName kind text n levels buffer (suc j)) names lengths size → namesIn names lengths size ≡ namesFrom kind text n levels (membersOf n buffer size) 1 size
+unfolding namesIn
+filled-names kind text n levels buffer size names lengths h f =
+    names-from kind text n levels (membersOf n buffer size) (nameIn names lengths) 1 size
+    (λ j l. f j l .1 ∙ placed-member kind text levels buffer n size j h l ∙ ap (nameAt kind text n levels (membersOf n buffer size)) (one-more j))
+  where
+    one-more : (j : ℕ) → suc j ≡ 1 + j
+    one-more j = omega arith
+
+pub filled-named : (name : ℕ → List ℕ) (names lengths : List ℕ) (size : ℕ) → 96 * size ≤ length names → size ≤ length lengths → Filled name names lengths size → Named names lengths size
+filled-named name names lengths size h l f = record { room = h; counted = l; short = λ j k. f j k .0 }

@@ -1,0 +1,78 @@
+-- `name_at`: the part lent is the member at the place.
+-- Assumes nothing.
+use mathlib.Core.Path.{_≡_, ap, _∙_}
+use mathlib.Core.List.{List}
+use Prim.Native.Nat.{ℕ, _-_, _≤_}
+use native.Mathlib.Omega.{arith}
+use denote.Ref.{now}
+use lib.ListN.{length}
+use Rattle.naming.specs.Answers.{kindOf, startingWith}
+use Rattle.table.proofs.NameTable.{name-placed, name-none, length-none}
+use borrow.Author.Needs.{needs}
+use Rattle.table.proofs.names.name_at.Statement.{statement}
+use Rattle.table.proofs.names.name_at.Tie as tie
+
+slice-write-name : tie.Need-slice-write-name
+slice-write-name c = search needs
+
+same-length : tie.Need-same-length
+same-length c = search needs
+
+returns : tie.Need-returns
+returns c =
+    let s = c .before .before .before .before .before in
+    let a = s .args in
+    let k = kindOf (a .kind) in
+    let z : a .place ≡ 0 = c .if1 .taken in
+    let l : 1 ≤ length (now (a .name)) = omega (arith, s .pre .2) in
+    rw z (length-none k (now (a .text)) (now (a .levels)) (now (a .family)) (a .plots), name-none k (now (a .text)) (now (a .levels)) (now (a .family)) (now (a .name)) (a .plots) l)
+
+sub-a : tie.Need-sub-a
+sub-a c = search needs
+
+mul-a : tie.Need-mul-a
+mul-a c = search needs
+
+add-e : tie.Need-add-e
+add-e c = search needs
+
+sub-name-of : tie.Need-sub-name-of
+sub-name-of c = search needs
+
+part-name-of-start : tie.Need-part-name-of-start
+part-name-of-start c = search needs
+
+part-name-of-end : tie.Need-part-name-of-end
+part-name-of-end c = search needs
+
+name-of-requires : tie.Need-name-of-requires
+name-of-requires c κs = search needs
+
+same-length-2 : tie.Need-same-length-2
+same-length-2 c = search needs
+
+returns-2 : tie.Need-returns-2
+returns-2 c =
+    let s = c .before .before .before .before .before .before .before .before .before .before in
+    let a = s .args in
+    let l : 1 ≤ a .place = omega arith in
+    let same = name-placed (kindOf (a .kind)) (now (a .text)) (now (a .levels)) (now (a .family)) (a .plots) (a .place) (length (now (a .name))) (s .pre .0) l (s .pre .1) (s .pre .2) in
+    let r = c .before .before .name-of .ensures in
+    (r .0 ∙ ap length same, r .1 ∙ ap (λ (W : List ℕ). startingWith W (now (a .name))) same)
+
+pub name-at-spec : {M : Type 1} → statement M
+name-at-spec =
+    tie.close
+    (tie.spec
+    slice-write-name
+    same-length
+    returns
+    sub-a
+    mul-a
+    add-e
+    sub-name-of
+    part-name-of-start
+    part-name-of-end
+    name-of-requires
+    same-length-2
+    returns-2)

@@ -1,0 +1,57 @@
+// The names of members, worked out once.
+ghost use mathlib.Core.Path.{_≡_};
+ghost use Prim.Native.Nat.{_≤_};
+ghost use lib.ListN.{length};
+ghost use Rattle.rules.specs.Family.{membersOf};
+ghost use Rattle.rules.specs.Table.{namesFrom};
+ghost use Rattle.naming.specs.Answers.{kindOf, startingWith};
+ghost use Rattle.table.specs.Names.{Nameable, Named, namesIn, placedName};
+use limits::Level;
+use limits::NAME;
+use limits::PLOTS;
+use naming::Kind;
+
+// Names each of the first `size` members in its 96 bytes, and keeps how many bytes the name has.
+pub fn fill_names(
+    text: &[u8],
+    levels: &[Level],
+    plots: usize,
+    kind: Kind,
+    family: &[u8],
+    size: usize,
+    names: &mut [u8],
+    lengths: &mut [usize],
+)
+    requires { ⌜ Nameable (now text) (now levels) (now family) plots × (size ≤ 32) × (length (now names) ≡ 3072) × (length (now lengths) ≡ 32) ⌝ }
+    ensures names { λ _. ⌜ namesIn (now (names .exit)) (now (lengths .exit)) size ≡ namesFrom (kindOf kind) (now (text .entry)) plots (now (levels .entry)) (membersOf plots (now (family .entry)) size) 1 size ⌝ }
+    ensures named { λ _. ⌜ Named (now (names .exit)) (now (lengths .exit)) size ⌝ }
+{
+    for i in 0..size {
+        let a = NAME * i;
+        let e = a + NAME;
+        lengths[i] = name_at(text, levels, plots, kind, family, i + 1, &mut names[a..e]);
+    }
+}
+
+// Names the member at a place, from 1; `-` at place 0.
+pub fn name_at(
+    text: &[u8],
+    levels: &[Level],
+    plots: usize,
+    kind: Kind,
+    family: &[u8],
+    place: usize,
+    name: &mut [u8],
+) -> usize
+    requires { ⌜ Nameable (now text) (now levels) (now family) plots × (place ≤ 32) × (96 ≤ length (now name)) ⌝ }
+    ensures answer { λ r. ⌜ r ≡ length (placedName (kindOf kind) (now (text .entry)) plots (now (levels .entry)) (now (family .entry)) place) ⌝ }
+    ensures bytes { λ _. ⌜ now (name .exit) ≡ startingWith (placedName (kindOf kind) (now (text .entry)) plots (now (levels .entry)) (now (family .entry)) place) (now (name .entry)) ⌝ }
+{
+    if place == 0 {
+        name[0] = b'-';
+        return 1;
+    }
+    let a = PLOTS * (place - 1);
+    let e = a + plots;
+    naming::name_of(text, levels, plots, kind, &family[a..e], place, name)
+}
