@@ -1,6 +1,7 @@
 -- The enum that the entry answers, by the rules' definitions.
 -- Assumes nothing.
 use Prim.Native.Nat.{ℕ}
+use Rattle.rules.specs.Sheet.{Outcome, read, refused}
 use Rattle.table.specs.declared.Printed.{Printed}
 use Rattle.table.specs.declared.Printed.the-variants.{Text, Refused}
 
@@ -13,3 +14,8 @@ refusalOf (Refused q) = q
 abbrev pub lengthOf : Printed → ℕ
 lengthOf (Text m) = m
 lengthOf (Refused q) = 0
+
+-- the number of a refused reading, 0 for a sheet that was read
+abbrev pub numberOf : Outcome → ℕ
+numberOf (read n p t) = 0
+numberOf (refused q) = q

@@ -1,9 +1,21 @@
 // The printed table of a sheet.
 ghost use mathlib.Core.Path.{_≡_};
+ghost use mathlib.Core.Bool.{true};
+ghost use mathlib.Core.List.{[], _∷_};
+ghost use Prim.Native.Nat.{_≤_};
 ghost use lib.ListN.{length};
-ghost use Rattle.rules.specs.Table.{tableText, skeletonTable, tableBuffer};
+ghost use Rattle.rules.specs.Design.{fullDesign};
+ghost use Rattle.rules.specs.Family.{membersOf};
+ghost use Rattle.rules.specs.Naming.{treatment};
+ghost use Rattle.rules.specs.Sheet.{question3};
+ghost use Rattle.rules.specs.Table.{tableText, skeletonTable, tableBuffer, rowsBytes, designRows, acceptedRows, firstKind, secondKind, namesFrom};
 ghost use Rattle.decimal.specs.Writing.{written, placeAfter};
-ghost use Rattle.table.specs.Answers.{refusalOf, lengthOf};
+ghost use Rattle.design.specs.Answers.{fullNumbers};
+ghost use Rattle.naming.specs.Answers.{startingWith};
+ghost use Rattle.sheet.specs.Answers.{outcomeOf};
+ghost use Rattle.table.specs.Answers.{refusalOf, lengthOf, numberOf};
+ghost use Rattle.table.specs.Designs.{Accepted, bufferFor, placedRow, namedRows};
+ghost use Rattle.table.specs.Names.{Nameable, Named, namesIn, placedName};
 
 mod names;
 mod rows;
@@ -58,7 +70,9 @@ fn print(text: &[u8], out: &mut [u8]) -> usize
 }
 
 // The number of a refused reading.
-fn reading_refusal(reading: Reading) -> usize {
+fn reading_refusal(reading: Reading) -> usize
+    ensures { λ r. ⌜ r ≡ numberOf (outcomeOf reading) ⌝ }
+{
     match reading {
         Reading::Read(_) => 0,
         Reading::Refused(q) => q as usize,
@@ -66,7 +80,11 @@ fn reading_refusal(reading: Reading) -> usize {
 }
 
 // Writes the text of a sheet that was read.
-fn print_design(text: &[u8], levels: &[Level], counts: Counts, out: &mut [u8]) -> usize {
+fn print_design(text: &[u8], levels: &[Level], counts: Counts, out: &mut [u8]) -> usize
+    requires { ⌜ (question3 (now text) ≡ true) × (1 ≤ counts .plots) × (counts .plots ≤ 240) × (2880 ≤ length (now levels)) ⌝ }
+    ensures answer { λ r. ⌜ r ≡ placeAfter (now (out .entry)) 0 (rowsBytes (designRows (now (text .entry)) (counts .plots) (now (levels .entry)) (fullDesign (counts .plots) (counts .«plot_columns») (counts .«treatment_columns») 6 (now (levels .entry)) 7680 7680))) ⌝ }
+    ensures bytes { λ _. ⌜ now (out .exit) ≡ written (now (out .entry)) 0 (rowsBytes (designRows (now (text .entry)) (counts .plots) (now (levels .entry)) (fullDesign (counts .plots) (counts .«plot_columns») (counts .«treatment_columns») 6 (now (levels .entry)) 7680 7680))) ⌝ }
+{
     let plots = counts.plots;
     let mut plot_family = [0u8; FAMILY];
     let mut treatment_family = [0u8; FAMILY];
@@ -80,11 +98,12 @@ fn print_design(text: &[u8], levels: &[Level], counts: Counts, out: &mut [u8]) -
         &mut treatment_family,
     );
     let FullDesign::Accepted(sizes) = answer else {
+        let refusal = design_refusal(answer);
         return print_refusal(
             text,
             levels,
             plots,
-            design_refusal(answer),
+            refusal,
             &plot_family,
             &treatment_family,
             out,
@@ -103,7 +122,9 @@ fn print_design(text: &[u8], levels: &[Level], counts: Counts, out: &mut [u8]) -
 }
 
 // The refusal of a refused design.
-fn design_refusal(answer: FullDesign) -> FullRefusal {
+fn design_refusal(answer: FullDesign) -> FullRefusal
+    ensures { λ r. ⌜ (r .number ≡ fullNumbers answer .refusal) × (r .first ≡ fullNumbers answer .first) × (r .second ≡ fullNumbers answer .second) ⌝ }
+{
     match answer {
         FullDesign::Accepted(_) => FullRefusal {
             number: 0,
@@ -116,7 +137,7 @@ fn design_refusal(answer: FullDesign) -> FullRefusal {
     }
 }
 
-// Writes the line of a refused design. The first place of 12 is in the treatment family, the second of 10 in the plot family.
+// Writes the line of a refused design.
 fn print_refusal(
     text: &[u8],
     levels: &[Level],
@@ -125,58 +146,84 @@ fn print_refusal(
     plot_family: &[u8],
     treatment_family: &[u8],
     out: &mut [u8],
-) -> usize {
+) -> usize
+    requires { ⌜ Nameable (now text) (now levels) (now «plot_family») plots × Nameable (now text) (now levels) (now «treatment_family») plots × (refusal .first ≤ 32) × (refusal .second ≤ 32) ⌝ }
+    ensures answer { λ r. ⌜ r ≡ placeAfter (now (out .entry)) 0 (rowsBytes (placedRow (now (text .entry)) plots (now (levels .entry)) (now («plot_family» .entry)) (now («treatment_family» .entry)) (refusal .number) (refusal .first) (refusal .second) ∷ [])) ⌝ }
+    ensures bytes { λ _. ⌜ now (out .exit) ≡ written (now (out .entry)) 0 (rowsBytes (placedRow (now (text .entry)) plots (now (levels .entry)) (now («plot_family» .entry)) (now («treatment_family» .entry)) (refusal .number) (refusal .first) (refusal .second) ∷ [])) ⌝ }
+{
     let number = refusal.number;
-    let first_place = refusal.first;
-    let second_place = refusal.second;
+    let i = refusal.first;
+    let j = refusal.second;
     let mut first = [0u8; NAME];
     let mut second = [0u8; NAME];
-    let a = if number == 12 {
-        names::name_at(
-            text,
-            levels,
-            plots,
-            Kind::Treatment,
-            treatment_family,
-            first_place,
-            &mut first,
-        )
-    } else {
-        names::name_at(
-            text,
-            levels,
-            plots,
-            Kind::Plot,
-            plot_family,
-            first_place,
-            &mut first,
-        )
-    };
-    let b = if number == 10 {
-        names::name_at(
-            text,
-            levels,
-            plots,
-            Kind::Plot,
-            plot_family,
-            second_place,
-            &mut second,
-        )
-    } else {
-        names::name_at(
-            text,
-            levels,
-            plots,
-            Kind::Treatment,
-            treatment_family,
-            second_place,
-            &mut second,
-        )
-    };
+    let a = first_name(
+        text,
+        levels,
+        plots,
+        number,
+        i,
+        plot_family,
+        treatment_family,
+        &mut first,
+    );
+    let b = second_name(
+        text,
+        levels,
+        plots,
+        number,
+        j,
+        plot_family,
+        treatment_family,
+        &mut second,
+    );
     rows::put_refused(number as usize, &first[..a], &second[..b], out)
 }
 
-// Writes the table of an accepted design.
+// Names the member at the first place of a refusal: in 12 it is a treatment member.
+fn first_name(
+    text: &[u8],
+    levels: &[Level],
+    plots: usize,
+    number: u32,
+    place: usize,
+    plot_family: &[u8],
+    treatment_family: &[u8],
+    name: &mut [u8],
+) -> usize
+    requires { ⌜ Nameable (now text) (now levels) (now «plot_family») plots × Nameable (now text) (now levels) (now «treatment_family») plots × (place ≤ 32) × (96 ≤ length (now name)) ⌝ }
+    ensures answer { λ r. ⌜ r ≡ length (placedName (firstKind number) (now (text .entry)) plots (now (levels .entry)) (bufferFor (firstKind number) (now («plot_family» .entry)) (now («treatment_family» .entry))) place) ⌝ }
+    ensures bytes { λ _. ⌜ now (name .exit) ≡ startingWith (placedName (firstKind number) (now (text .entry)) plots (now (levels .entry)) (bufferFor (firstKind number) (now («plot_family» .entry)) (now («treatment_family» .entry))) place) (now (name .entry)) ⌝ }
+{
+    if number == 12 {
+        let kind = Kind::Treatment;
+        return names::name_at(text, levels, plots, kind, treatment_family, place, name);
+    }
+    names::name_at(text, levels, plots, Kind::Plot, plot_family, place, name)
+}
+
+// Names the member at the second place of a refusal: in 10 it is a plot member.
+fn second_name(
+    text: &[u8],
+    levels: &[Level],
+    plots: usize,
+    number: u32,
+    place: usize,
+    plot_family: &[u8],
+    treatment_family: &[u8],
+    name: &mut [u8],
+) -> usize
+    requires { ⌜ Nameable (now text) (now levels) (now «plot_family») plots × Nameable (now text) (now levels) (now «treatment_family») plots × (place ≤ 32) × (96 ≤ length (now name)) ⌝ }
+    ensures answer { λ r. ⌜ r ≡ length (placedName (secondKind number) (now (text .entry)) plots (now (levels .entry)) (bufferFor (secondKind number) (now («plot_family» .entry)) (now («treatment_family» .entry))) place) ⌝ }
+    ensures bytes { λ _. ⌜ now (name .exit) ≡ startingWith (placedName (secondKind number) (now (text .entry)) plots (now (levels .entry)) (bufferFor (secondKind number) (now («plot_family» .entry)) (now («treatment_family» .entry))) place) (now (name .entry)) ⌝ }
+{
+    if number == 10 {
+        return names::name_at(text, levels, plots, Kind::Plot, plot_family, place, name);
+    }
+    let kind = Kind::Treatment;
+    names::name_at(text, levels, plots, kind, treatment_family, place, name)
+}
+
+// Writes the table of an accepted design: names its plot members first.
 fn print_accepted(
     text: &[u8],
     levels: &[Level],
@@ -186,11 +233,13 @@ fn print_accepted(
     treatment_family: &[u8],
     treatment_size: usize,
     out: &mut [u8],
-) -> usize {
-    let mut strata_names = [0u8; NAMES];
+) -> usize
+    requires { ⌜ (question3 (now text) ≡ true) × (2880 ≤ length (now levels)) × Accepted plots (now «plot_family») «plot_size» (now «treatment_family») «treatment_size» ⌝ }
+    ensures answer { λ r. ⌜ r ≡ placeAfter (now (out .entry)) 0 (rowsBytes (acceptedRows (now (text .entry)) plots (now (levels .entry)) (membersOf plots (now («plot_family» .entry)) «plot_size») (membersOf plots (now («treatment_family» .entry)) «treatment_size»))) ⌝ }
+    ensures bytes { λ _. ⌜ now (out .exit) ≡ written (now (out .entry)) 0 (rowsBytes (acceptedRows (now (text .entry)) plots (now (levels .entry)) (membersOf plots (now («plot_family» .entry)) «plot_size») (membersOf plots (now («treatment_family» .entry)) «treatment_size»))) ⌝ }
+{
+    let mut strata = [0u8; NAMES];
     let mut strata_lengths = [0usize; MEMBERS];
-    let mut source_names = [0u8; NAMES];
-    let mut source_lengths = [0usize; MEMBERS];
     names::fill_names(
         text,
         levels,
@@ -198,42 +247,100 @@ fn print_accepted(
         Kind::Plot,
         plot_family,
         plot_size,
-        &mut strata_names,
+        &mut strata,
         &mut strata_lengths,
     );
+    print_sources(
+        text,
+        levels,
+        plots,
+        &strata,
+        &strata_lengths,
+        plot_family,
+        plot_size,
+        treatment_family,
+        treatment_size,
+        out,
+    )
+}
+
+// Names the treatment members, then writes the table.
+fn print_sources(
+    text: &[u8],
+    levels: &[Level],
+    plots: usize,
+    strata: &[u8],
+    strata_lengths: &[usize],
+    plot_family: &[u8],
+    plot_size: usize,
+    family: &[u8],
+    size: usize,
+    out: &mut [u8],
+) -> usize
+    requires { ⌜ (question3 (now text) ≡ true) × (2880 ≤ length (now levels)) × Accepted plots (now «plot_family») «plot_size» (now family) size × Named (now strata) (now «strata_lengths») «plot_size» ⌝ }
+    ensures answer { λ r. ⌜ r ≡ placeAfter (now (out .entry)) 0 (rowsBytes (namedRows plots (membersOf plots (now («plot_family» .entry)) «plot_size») (membersOf plots (now (family .entry)) size) (namesIn (now (strata .entry)) (now («strata_lengths» .entry)) «plot_size») (namesFrom treatment (now (text .entry)) plots (now (levels .entry)) (membersOf plots (now (family .entry)) size) 1 size))) ⌝ }
+    ensures bytes { λ _. ⌜ now (out .exit) ≡ written (now (out .entry)) 0 (rowsBytes (namedRows plots (membersOf plots (now («plot_family» .entry)) «plot_size») (membersOf plots (now (family .entry)) size) (namesIn (now (strata .entry)) (now («strata_lengths» .entry)) «plot_size») (namesFrom treatment (now (text .entry)) plots (now (levels .entry)) (membersOf plots (now (family .entry)) size) 1 size))) ⌝ }
+{
+    let mut names = [0u8; NAMES];
+    let mut lengths = [0usize; MEMBERS];
     names::fill_names(
         text,
         levels,
         plots,
         Kind::Treatment,
-        treatment_family,
-        treatment_size,
-        &mut source_names,
-        &mut source_lengths,
+        family,
+        size,
+        &mut names,
+        &mut lengths,
     );
-    let total = strata::degrees_of_freedom(plot_family, plots, plot_size);
-    let source = strata::degrees_of_freedom(treatment_family, plots, treatment_size);
-    let report = strata::strata(
+    print_degrees(
+        plots,
+        strata,
+        strata_lengths,
         plot_family,
         plot_size,
-        treatment_family,
-        treatment_size,
-        plots,
-    );
+        &names,
+        &lengths,
+        family,
+        size,
+        out,
+    )
+}
+
+// Works out degrees of freedom, strata and residuals, and writes the table.
+fn print_degrees(
+    plots: usize,
+    strata: &[u8],
+    strata_lengths: &[usize],
+    plot_family: &[u8],
+    plot_size: usize,
+    names: &[u8],
+    lengths: &[usize],
+    family: &[u8],
+    size: usize,
+    out: &mut [u8],
+) -> usize
+    requires { ⌜ Accepted plots (now «plot_family») «plot_size» (now family) size × Named (now strata) (now «strata_lengths») «plot_size» × Named (now names) (now lengths) size ⌝ }
+    ensures answer { λ r. ⌜ r ≡ placeAfter (now (out .entry)) 0 (rowsBytes (namedRows plots (membersOf plots (now («plot_family» .entry)) «plot_size») (membersOf plots (now (family .entry)) size) (namesIn (now (strata .entry)) (now («strata_lengths» .entry)) «plot_size») (namesIn (now (names .entry)) (now (lengths .entry)) size))) ⌝ }
+    ensures bytes { λ _. ⌜ now (out .exit) ≡ written (now (out .entry)) 0 (rowsBytes (namedRows plots (membersOf plots (now («plot_family» .entry)) «plot_size») (membersOf plots (now (family .entry)) size) (namesIn (now (strata .entry)) (now («strata_lengths» .entry)) «plot_size») (namesIn (now (names .entry)) (now (lengths .entry)) size))) ⌝ }
+{
+    let total = strata::degrees_of_freedom(plot_family, plots, plot_size);
+    let source = strata::degrees_of_freedom(family, plots, size);
+    let report = strata::strata(plot_family, plot_size, family, size, plots);
     let totals = total.degrees;
     let degrees = source.degrees;
     let places = report.places;
     let residuals = report.residuals;
     rows::put_table(
         plots,
-        &strata_names,
-        &strata_lengths,
+        strata,
+        strata_lengths,
         plot_size,
         totals,
         residuals,
-        &source_names,
-        &source_lengths,
-        treatment_size,
+        names,
+        lengths,
+        size,
         places,
         degrees,
         out,

@@ -1,0 +1,53 @@
+-- `print_accepted`: the names of the plot members are those of the family in the buffer.
+-- Assumes nothing.
+use mathlib.Core.Path.{ap}
+use denote.Ref.{now}
+use borrow.Author.Needs.{needs}
+use Rattle.rules.specs.Table.{rowsBytes}
+use Rattle.decimal.proofs.Writing.{wrote-as}
+use Rattle.table.proofs.TableLaws.{accepted-from}
+use Rattle.table.proofs.print_accepted.Statement.{statement}
+use Rattle.table.proofs.print_accepted.Tie as tie
+
+slice-aggregate-fill-names : tie.Need-slice-aggregate-fill-names
+slice-aggregate-fill-names c = search needs
+
+slice-aggregate-fill-names-2 : tie.Need-slice-aggregate-fill-names-2
+slice-aggregate-fill-names-2 c = search needs
+
+fill-names-requires : tie.Need-fill-names-requires
+fill-names-requires c κs = search needs
+
+slice-aggregate-print-sources : tie.Need-slice-aggregate-print-sources
+slice-aggregate-print-sources c = search needs
+
+slice-aggregate-print-sources-2 : tie.Need-slice-aggregate-print-sources-2
+slice-aggregate-print-sources-2 c = search needs
+
+print-sources-requires : tie.Need-print-sources-requires
+print-sources-requires c κs = search needs
+
+same-length : tie.Need-same-length
+same-length c = search needs
+
+returns : tie.Need-returns
+returns c =
+    let s = c .before .before .before .before .before .before .before .before .before .before .before .before .before .before .before .before in
+    let a = s .args in
+    let f = c .before .before .before .before .before .before .before .before .fill-names in
+    wrote-as (now (a .out)) 0
+    (ap rowsBytes (accepted-from (now (a .text)) (a .plots) (s .pre .2 .few) (now (a .levels)) (now (a .plot-family)) (a .plot-size) (now (a .treatment-family)) (a .treatment-size) _ (f .ensures .0)))
+    (c .before .before .print-sources .ensures)
+
+pub print-accepted-spec : {M : Type 1} → statement M
+print-accepted-spec =
+    tie.close
+    (tie.spec
+    slice-aggregate-fill-names
+    slice-aggregate-fill-names-2
+    fill-names-requires
+    slice-aggregate-print-sources
+    slice-aggregate-print-sources-2
+    print-sources-requires
+    same-length
+    returns)

@@ -1,0 +1,94 @@
+-- `print_refusal`: the names at the two places, and the line.
+-- Assumes nothing.
+use mathlib.Core.Path.{sym, ap, ap₂}
+use mathlib.Core.List.{List, [], _∷_}
+use Prim.Native.Nat.{ℕ}
+use denote.Ref.{now}
+use lib.ListN.{length, take, replicate}
+use lib.Seq.{length-take-le}
+use borrow.Author.Needs.{needs}
+use Rattle.rules.specs.Table.{rowsBytes, refusedRow, firstKind, secondKind}
+use Rattle.decimal.proofs.Writing.{wrote-as}
+use Rattle.table.specs.Names.{placedName}
+use Rattle.table.specs.Designs.{bufferFor, placedRow}
+use Rattle.table.proofs.TableLaws.{starting-room, starting-take}
+use Rattle.table.proofs.print_refusal.Statement.{statement}
+use Rattle.table.proofs.print_refusal.Tie as tie
+
+slice-aggregate-first-name : tie.Need-slice-aggregate-first-name
+slice-aggregate-first-name c = search needs
+
+first-name-requires : tie.Need-first-name-requires
+first-name-requires c κs = search needs
+
+slice-aggregate-second-name : tie.Need-slice-aggregate-second-name
+slice-aggregate-second-name c = search needs
+
+second-name-requires : tie.Need-second-name-requires
+second-name-requires c κs = search needs
+
+cast-put-refused : tie.Need-cast-put-refused
+cast-put-refused c = search needs
+
+array-share-prefix-first : tie.Need-array-share-prefix-first
+array-share-prefix-first c =
+    let a = c .before .before .before .before .before .before .before .before .before .before .before .args in
+    let f = c .before .before .before .before .first-name in
+    let name = placedName (firstKind (a .refusal .number)) (now (a .text)) (a .plots) (now (a .levels)) (bufferFor (firstKind (a .refusal .number)) (now (a .plot-family)) (now (a .treatment-family))) (a .refusal .first) in
+    starting-room (f .result) name (replicate 96 0) (f .last .1 .1 .1 .1 .1 .1 .1 .0) (f .ensures .0) (f .ensures .1)
+
+slice-aggregate-put-refused : tie.Need-slice-aggregate-put-refused
+slice-aggregate-put-refused c =
+    let a = c .before .before .before .before .before .before .before .before .before .before .before .before .args in
+    let f = c .before .before .before .before .before .first-name in
+    let name = placedName (firstKind (a .refusal .number)) (now (a .text)) (a .plots) (now (a .levels)) (bufferFor (firstKind (a .refusal .number)) (now (a .plot-family)) (now (a .treatment-family))) (a .refusal .first) in
+    sym (length-take-le (f .result) (f .last .1 .1 .1 .1 .1 .1 .1 .0) (starting-room (f .result) name (replicate 96 0) (f .last .1 .1 .1 .1 .1 .1 .1 .0) (f .ensures .0) (f .ensures .1)))
+
+array-share-prefix-second : tie.Need-array-share-prefix-second
+array-share-prefix-second c =
+    let a = c .before .before .before .before .before .before .before .before .before .before .before .before .args in
+    let f = c .before .before .second-name in
+    let name = placedName (secondKind (a .refusal .number)) (now (a .text)) (a .plots) (now (a .levels)) (bufferFor (secondKind (a .refusal .number)) (now (a .plot-family)) (now (a .treatment-family))) (a .refusal .second) in
+    starting-room (f .result) name (replicate 96 0) (f .last .1 .1 .1 .1 .1 .1 .1 .0) (f .ensures .0) (f .ensures .1)
+
+slice-aggregate-put-refused-2 : tie.Need-slice-aggregate-put-refused-2
+slice-aggregate-put-refused-2 c =
+    let a = c .before .before .before .before .before .before .before .before .before .before .before .before .before .args in
+    let f = c .before .before .before .second-name in
+    let name = placedName (secondKind (a .refusal .number)) (now (a .text)) (a .plots) (now (a .levels)) (bufferFor (secondKind (a .refusal .number)) (now (a .plot-family)) (now (a .treatment-family))) (a .refusal .second) in
+    sym (length-take-le (f .result) (f .last .1 .1 .1 .1 .1 .1 .1 .0) (starting-room (f .result) name (replicate 96 0) (f .last .1 .1 .1 .1 .1 .1 .1 .0) (f .ensures .0) (f .ensures .1)))
+
+put-refused-requires : tie.Need-put-refused-requires
+put-refused-requires c κs = search needs
+
+same-length : tie.Need-same-length
+same-length c = search needs
+
+returns : tie.Need-returns
+unfolding placedRow
+returns c =
+    let a = c .before .before .before .before .before .before .before .before .before .before .before .before .before .before .before .before .before .args in
+    let f = c .before .before .before .before .before .before .before .before .before .before .first-name in
+    let s = c .before .before .before .before .before .before .before .second-name in
+    let one = placedName (firstKind (a .refusal .number)) (now (a .text)) (a .plots) (now (a .levels)) (bufferFor (firstKind (a .refusal .number)) (now (a .plot-family)) (now (a .treatment-family))) (a .refusal .first) in
+    let two = placedName (secondKind (a .refusal .number)) (now (a .text)) (a .plots) (now (a .levels)) (bufferFor (secondKind (a .refusal .number)) (now (a .plot-family)) (now (a .treatment-family))) (a .refusal .second) in
+    let is-one = starting-take (f .result) one (replicate 96 0) (f .last .1 .1 .1 .1 .1 .1 .1 .0) (f .ensures .0) (f .ensures .1) in
+    let is-two = starting-take (s .result) two (replicate 96 0) (s .last .1 .1 .1 .1 .1 .1 .1 .0) (s .ensures .0) (s .ensures .1) in
+    wrote-as (now (a .out)) 0 (ap₂ (λ (x y : List ℕ). rowsBytes (refusedRow (a .refusal .number) x y ∷ [])) is-one is-two) (c .before .before .put-refused .ensures)
+
+pub print-refusal-spec : {M : Type 1} → statement M
+print-refusal-spec =
+    tie.close
+    (tie.spec
+    slice-aggregate-first-name
+    first-name-requires
+    slice-aggregate-second-name
+    second-name-requires
+    cast-put-refused
+    array-share-prefix-first
+    slice-aggregate-put-refused
+    array-share-prefix-second
+    slice-aggregate-put-refused-2
+    put-refused-requires
+    same-length
+    returns)
