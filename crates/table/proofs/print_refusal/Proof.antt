@@ -15,6 +15,14 @@ use Rattle.table.proofs.TableLaws.{starting-room, starting-take}
 use Rattle.table.proofs.print_refusal.Statement.{statement}
 use Rattle.table.proofs.print_refusal.Tie as tie
 
+-- the name at the first place
+abbrev firstName : tie.Start → List ℕ
+firstName s = placedName (firstKind (s .args .refusal .number)) (now (s .args .text)) (s .args .plots) (now (s .args .levels)) (bufferFor (firstKind (s .args .refusal .number)) (now (s .args .plot-family)) (now (s .args .treatment-family))) (s .args .refusal .first)
+
+-- the name at the second place
+abbrev secondName : tie.Start → List ℕ
+secondName s = placedName (secondKind (s .args .refusal .number)) (now (s .args .text)) (s .args .plots) (now (s .args .levels)) (bufferFor (secondKind (s .args .refusal .number)) (now (s .args .plot-family)) (now (s .args .treatment-family))) (s .args .refusal .second)
+
 slice-aggregate-first-name : tie.Need-slice-aggregate-first-name
 slice-aggregate-first-name c = search needs
 
@@ -32,30 +40,30 @@ cast-put-refused c = search needs
 
 array-share-prefix-first : tie.Need-array-share-prefix-first
 array-share-prefix-first c =
-    let a = c .before .before .before .before .before .before .before .before .before .before .before .args in
+    let s = c .before .before .before .before .before .before .before .before .before .before .before in
     let f = c .before .before .before .before .first-name in
-    let name = placedName (firstKind (a .refusal .number)) (now (a .text)) (a .plots) (now (a .levels)) (bufferFor (firstKind (a .refusal .number)) (now (a .plot-family)) (now (a .treatment-family))) (a .refusal .first) in
+    let name = firstName s in
     starting-room (f .result) name (replicate 96 0) (f .last .1 .1 .1 .1 .1 .1 .1 .0) (f .ensures .0) (f .ensures .1)
 
 slice-aggregate-put-refused : tie.Need-slice-aggregate-put-refused
 slice-aggregate-put-refused c =
-    let a = c .before .before .before .before .before .before .before .before .before .before .before .before .args in
+    let s = c .before .before .before .before .before .before .before .before .before .before .before .before in
     let f = c .before .before .before .before .before .first-name in
-    let name = placedName (firstKind (a .refusal .number)) (now (a .text)) (a .plots) (now (a .levels)) (bufferFor (firstKind (a .refusal .number)) (now (a .plot-family)) (now (a .treatment-family))) (a .refusal .first) in
+    let name = firstName s in
     sym (length-take-le (f .result) (f .last .1 .1 .1 .1 .1 .1 .1 .0) (starting-room (f .result) name (replicate 96 0) (f .last .1 .1 .1 .1 .1 .1 .1 .0) (f .ensures .0) (f .ensures .1)))
 
 array-share-prefix-second : tie.Need-array-share-prefix-second
 array-share-prefix-second c =
-    let a = c .before .before .before .before .before .before .before .before .before .before .before .before .args in
+    let s = c .before .before .before .before .before .before .before .before .before .before .before .before in
     let f = c .before .before .second-name in
-    let name = placedName (secondKind (a .refusal .number)) (now (a .text)) (a .plots) (now (a .levels)) (bufferFor (secondKind (a .refusal .number)) (now (a .plot-family)) (now (a .treatment-family))) (a .refusal .second) in
+    let name = secondName s in
     starting-room (f .result) name (replicate 96 0) (f .last .1 .1 .1 .1 .1 .1 .1 .0) (f .ensures .0) (f .ensures .1)
 
 slice-aggregate-put-refused-2 : tie.Need-slice-aggregate-put-refused-2
 slice-aggregate-put-refused-2 c =
-    let a = c .before .before .before .before .before .before .before .before .before .before .before .before .before .args in
+    let s = c .before .before .before .before .before .before .before .before .before .before .before .before .before in
     let f = c .before .before .before .second-name in
-    let name = placedName (secondKind (a .refusal .number)) (now (a .text)) (a .plots) (now (a .levels)) (bufferFor (secondKind (a .refusal .number)) (now (a .plot-family)) (now (a .treatment-family))) (a .refusal .second) in
+    let name = secondName s in
     sym (length-take-le (f .result) (f .last .1 .1 .1 .1 .1 .1 .1 .0) (starting-room (f .result) name (replicate 96 0) (f .last .1 .1 .1 .1 .1 .1 .1 .0) (f .ensures .0) (f .ensures .1)))
 
 put-refused-requires : tie.Need-put-refused-requires
@@ -67,14 +75,14 @@ same-length c = search needs
 returns : tie.Need-returns
 unfolding placedRow
 returns c =
-    let a = c .before .before .before .before .before .before .before .before .before .before .before .before .before .before .before .before .before .args in
+    let s = c .before .before .before .before .before .before .before .before .before .before .before .before .before .before .before .before .before in
     let f = c .before .before .before .before .before .before .before .before .before .before .first-name in
-    let s = c .before .before .before .before .before .before .before .second-name in
-    let one = placedName (firstKind (a .refusal .number)) (now (a .text)) (a .plots) (now (a .levels)) (bufferFor (firstKind (a .refusal .number)) (now (a .plot-family)) (now (a .treatment-family))) (a .refusal .first) in
-    let two = placedName (secondKind (a .refusal .number)) (now (a .text)) (a .plots) (now (a .levels)) (bufferFor (secondKind (a .refusal .number)) (now (a .plot-family)) (now (a .treatment-family))) (a .refusal .second) in
+    let g = c .before .before .before .before .before .before .before .second-name in
+    let one = firstName s in
+    let two = secondName s in
     let is-one = starting-take (f .result) one (replicate 96 0) (f .last .1 .1 .1 .1 .1 .1 .1 .0) (f .ensures .0) (f .ensures .1) in
-    let is-two = starting-take (s .result) two (replicate 96 0) (s .last .1 .1 .1 .1 .1 .1 .1 .0) (s .ensures .0) (s .ensures .1) in
-    wrote-as (now (a .out)) 0 (ap₂ (λ (x y : List ℕ). rowsBytes (refusedRow (a .refusal .number) x y ∷ [])) is-one is-two) (c .before .before .put-refused .ensures)
+    let is-two = starting-take (g .result) two (replicate 96 0) (g .last .1 .1 .1 .1 .1 .1 .1 .0) (g .ensures .0) (g .ensures .1) in
+    wrote-as (now (s .args .out)) 0 (ap₂ (λ (x y : List ℕ). rowsBytes (refusedRow (s .args .refusal .number) x y ∷ [])) is-one is-two) (c .before .before .put-refused .ensures)
 
 pub print-refusal-spec : {M : Type 1} → statement M
 print-refusal-spec =
