@@ -1,0 +1,179 @@
+// The entries as functions that C, Rust and Python call. Each answers the number of the refusal, 0 for none, and writes its
+// numbers whole into `answer`, 0 where there is none.
+ghost use mathlib.Core.Path.{_≡_};
+ghost use lib.ListN.{length};
+ghost use Rattle.rules.specs.Sheet.{reading, levelsAfter};
+ghost use Rattle.rules.specs.Design.{plotDesign, plotBuffer, fullDesign, treatmentBuffer};
+ghost use Rattle.rules.specs.Relation.{relation};
+ghost use Rattle.rules.specs.Degrees.{degreesOfFreedom};
+ghost use Rattle.rules.specs.Strata.{strata};
+ghost use Rattle.rachdoum.specs.Numbers.{readingRefusal, readingNumbers, plotDesignNumbers, fullDesignNumbers, relationNumbers, strataNumbers};
+
+mod gather;
+
+use design::FullDesign;
+use design::PlotDesign;
+use sheet::Reading;
+
+// Questions 1 to 5. The answer: plots, plot columns, treatment columns.
+#[no_mangle]
+pub extern "C" fn rachdoum_read_sheet(text: &[u8], levels: &mut [u16], answer: &mut [u64; 3]) -> u32
+    ensures refusal { λ r. ⌜ r ≡ readingRefusal (reading (now (text .entry)) (now (levels .entry))) ⌝ }
+    ensures table { λ _. ⌜ now (levels .exit) ≡ levelsAfter (reading (now (text .entry)) (now (levels .entry))) (now (text .entry)) (now (levels .entry)) ⌝ }
+    ensures numbers { λ _. ⌜ now (answer .exit) ≡ readingNumbers (reading (now (text .entry)) (now (levels .entry))) ⌝ }
+{
+    let found = sheet::read_sheet(text, levels);
+    match found {
+        Reading::Refused(number) => {
+            *answer = [0; 3];
+            number
+        }
+        Reading::Read(counts) => {
+            *answer = [
+                counts.plots as u64,
+                counts.plot_columns as u64,
+                counts.treatment_columns as u64,
+            ];
+            0
+        }
+    }
+}
+
+// Questions 6 to 10. The answer: the first place, the second place, the size of the family written.
+#[no_mangle]
+pub extern "C" fn rachdoum_plot_design(
+    levels: &[u16],
+    plots: usize,
+    columns: usize,
+    family: &mut [u8],
+    answer: &mut [u64; 3],
+) -> u32
+    ensures refusal { λ r. ⌜ r ≡ plotDesign plots columns (now (levels .entry)) (length (now (family .entry))) .refusal ⌝ }
+    ensures buffer { λ _. ⌜ now (family .exit) ≡ plotBuffer (now (family .entry)) (plotDesign plots columns (now (levels .entry)) (length (now (family .entry)))) ⌝ }
+    ensures numbers { λ _. ⌜ now (answer .exit) ≡ plotDesignNumbers (plotDesign plots columns (now (levels .entry)) (length (now (family .entry)))) ⌝ }
+{
+    let found = design::plot_design(levels, plots, columns, family);
+    match found {
+        PlotDesign::Accepted(size) => {
+            *answer = [0, 0, size as u64];
+            0
+        }
+        PlotDesign::Refused(r) => {
+            *answer = [r.first as u64, r.second as u64, r.size as u64];
+            r.number
+        }
+    }
+}
+
+// Questions 6 to 14. The answer: the first place, the second place, the sizes of the plot and the treatment family written.
+#[no_mangle]
+pub extern "C" fn rachdoum_full_design(
+    levels: &[u16],
+    plots: usize,
+    plot_columns: usize,
+    treatment_columns: usize,
+    k: usize,
+    plot_family: &mut [u8],
+    treatment_family: &mut [u8],
+    answer: &mut [u64; 4],
+) -> u32
+    ensures refusal { λ r. ⌜ r ≡ fullDesign plots «plot_columns» «treatment_columns» k (now (levels .entry)) (length (now («plot_family» .entry))) (length (now («treatment_family» .entry))) .refusal ⌝ }
+    ensures plots { λ _. ⌜ now («plot_family» .exit) ≡ plotBuffer (now («plot_family» .entry)) (fullDesign plots «plot_columns» «treatment_columns» k (now (levels .entry)) (length (now («plot_family» .entry))) (length (now («treatment_family» .entry)))) ⌝ }
+    ensures treatments { λ _. ⌜ now («treatment_family» .exit) ≡ treatmentBuffer (now («treatment_family» .entry)) (fullDesign plots «plot_columns» «treatment_columns» k (now (levels .entry)) (length (now («plot_family» .entry))) (length (now («treatment_family» .entry)))) ⌝ }
+    ensures numbers { λ _. ⌜ now (answer .exit) ≡ fullDesignNumbers (fullDesign plots «plot_columns» «treatment_columns» k (now (levels .entry)) (length (now («plot_family» .entry))) (length (now («treatment_family» .entry)))) ⌝ }
+{
+    let found = design::full_design(
+        levels,
+        plots,
+        plot_columns,
+        treatment_columns,
+        k,
+        plot_family,
+        treatment_family,
+    );
+    match found {
+        FullDesign::Accepted(sizes) => {
+            *answer = [0, 0, sizes.plot as u64, sizes.treatment as u64];
+            0
+        }
+        FullDesign::Refused(r) => {
+            *answer = [
+                r.first as u64,
+                r.second as u64,
+                r.plot as u64,
+                r.treatment as u64,
+            ];
+            r.number
+        }
+    }
+}
+
+// Questions 6 and 15. The answer: the size, the words of the strictly coarser members, those of the neighbours directly above,
+// how many neighbours each has directly above.
+#[no_mangle]
+pub extern "C" fn rachdoum_relation(
+    family: &[u8],
+    plots: usize,
+    size: usize,
+    answer: &mut [u32; 97],
+) -> u32
+    ensures refusal { λ r. ⌜ r ≡ relation plots (now (family .entry)) size .refusal ⌝ }
+    ensures numbers { λ _. ⌜ now (answer .exit) ≡ relationNumbers (relation plots (now (family .entry)) size) ⌝ }
+{
+    let found = strata::relation(family, plots, size);
+    let members = found.size;
+    let coarser = found.coarser;
+    let direct = found.direct;
+    let counts = found.counts;
+    let all = gather::words(members as u32, coarser, direct, counts);
+    *answer = all;
+    let number = found.refusal;
+    number as u32
+}
+
+// Questions 6 and 15. The answer: the degrees of freedom of each member.
+#[no_mangle]
+pub extern "C" fn rachdoum_degrees(
+    family: &[u8],
+    plots: usize,
+    size: usize,
+    answer: &mut [i64; 32],
+) -> u32
+    ensures refusal { λ r. ⌜ r ≡ degreesOfFreedom plots (now (family .entry)) size .refusal ⌝ }
+    ensures numbers { λ _. ⌜ now (answer .exit) ≡ degreesOfFreedom plots (now (family .entry)) size .degrees ⌝ }
+{
+    let found = strata::degrees_of_freedom(family, plots, size);
+    let degrees = found.degrees;
+    *answer = degrees;
+    let number = found.refusal;
+    number as u32
+}
+
+// Questions 6, 15 and 16. The answer: the places of the treatment members' strata, the residuals of the plot members.
+#[no_mangle]
+pub extern "C" fn rachdoum_strata(
+    plot_family: &[u8],
+    plot_size: usize,
+    treatment_family: &[u8],
+    treatment_size: usize,
+    plots: usize,
+    answer: &mut [i64; 64],
+) -> u32
+    ensures refusal { λ r. ⌜ r ≡ strata plots (now («plot_family» .entry)) «plot_size» (now («treatment_family» .entry)) «treatment_size» .refusal ⌝ }
+    ensures numbers { λ _. ⌜ now (answer .exit) ≡ strataNumbers (strata plots (now («plot_family» .entry)) «plot_size» (now («treatment_family» .entry)) «treatment_size») ⌝ }
+{
+    let found = strata::strata(
+        plot_family,
+        plot_size,
+        treatment_family,
+        treatment_size,
+        plots,
+    );
+    let strata_places = found.places;
+    let places = gather::signed(strata_places);
+    let residuals = found.residuals;
+    let all = gather::numbers(places, residuals);
+    *answer = all;
+    let number = found.refusal;
+    number as u32
+}
