@@ -1,15 +1,19 @@
 -- The numbers that each entry answers, in the order of its array.
 -- Assumes nothing.
+use mathlib.Core.Bool.{true, false}
 use mathlib.Core.List.{List, [], _∷_, _++_, map}
 use Prim.Native.Nat.{ℕ}
 use lib.IntN.{ℤ, pos}
-use lib.ListN.{getD}
+use lib.Dec.{eqb}
+use lib.ListN.{length, getD}
 use mir.Syntax.{w64}
 use mir.Val.{SFits}
 use Rattle.rules.specs.Sheet.{Outcome, read, refused}
 use Rattle.rules.specs.Design.{Answer, plotSize, treatmentSize}
 use Rattle.rules.specs.Relation.{RelationAnswer}
 use Rattle.rules.specs.Strata.{StrataAnswer}
+use Rattle.rules.specs.Naming.{Kind, plot, treatment, NameAnswer}
+use Rattle.rules.specs.Table.{TableAnswer}
 
 -- the number of the refusal, 0 for none
 abbrev pub readingRefusal : Outcome → ℕ
@@ -36,6 +40,18 @@ relationNumbers a = a .size ∷ a .coarser ++ a .direct ++ a .counts
 -- the places of the strata, then the residuals
 abbrev pub strataNumbers : StrataAnswer → List ℤ
 strataNumbers a = map pos (a .places) ++ a .residuals
+
+-- the kind that the caller states: "plot or treatment"
+abbrev pub statedKind : ℕ → Kind
+statedKind k = elim (eqb k 0) [ true ↦ plot | false ↦ treatment ]
+
+-- how many bytes the name has
+abbrev pub nameNumbers : NameAnswer → List ℕ
+nameNumbers a = length (a .name) ∷ []
+
+-- how many bytes the text has
+abbrev pub textNumbers : TableAnswer → List ℕ
+textNumbers a = length (a .text) ∷ []
 
 -- signed numbers of 64 bits
 abbrev pub AllFit : List ℤ → Type 0

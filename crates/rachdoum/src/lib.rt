@@ -7,13 +7,19 @@ ghost use Rattle.rules.specs.Design.{plotDesign, plotBuffer, fullDesign, treatm
 ghost use Rattle.rules.specs.Relation.{relation};
 ghost use Rattle.rules.specs.Degrees.{degreesOfFreedom};
 ghost use Rattle.rules.specs.Strata.{strata};
-ghost use Rattle.rachdoum.specs.Numbers.{readingRefusal, readingNumbers, plotDesignNumbers, fullDesignNumbers, relationNumbers, strataNumbers};
+ghost use Rattle.rules.specs.Naming.{naming, nameBuffer};
+ghost use Rattle.rules.specs.Table.{skeletonTable, tableBuffer};
+ghost use Rattle.naming.specs.Answers.{kindOf};
+ghost use Rattle.rachdoum.specs.Numbers.{readingRefusal, readingNumbers, plotDesignNumbers, fullDesignNumbers, relationNumbers, strataNumbers, statedKind, nameNumbers, textNumbers};
 
 mod gather;
 
 use design::FullDesign;
 use design::PlotDesign;
+use naming::Kind;
+use naming::Named;
 use sheet::Reading;
+use table::Printed;
 
 // Questions 1 to 5. The answer: plots, plot columns, treatment columns.
 #[no_mangle]
@@ -176,4 +182,65 @@ pub extern "C" fn rachdoum_strata(
     *answer = all;
     let number = found.refusal;
     number as u32
+}
+
+// The kind that a number states: 0 plot, any other treatment.
+fn stated_kind(kind: u32) -> Kind
+    ensures { λ r. ⌜ kindOf r ≡ statedKind kind ⌝ }
+{
+    if kind == 0 {
+        return Kind::Plot;
+    }
+    Kind::Treatment
+}
+
+// Questions 2, 3, 6, 7 and 15. The answer: how many bytes the name has.
+#[no_mangle]
+pub extern "C" fn rachdoum_name(
+    text: &[u8],
+    levels: &[u16],
+    family: &[u8],
+    plots: usize,
+    size: usize,
+    kind: u32,
+    place: usize,
+    name: &mut [u8],
+    answer: &mut [u64; 1],
+) -> u32
+    ensures refusal { λ r. ⌜ r ≡ naming (statedKind kind) (now (text .entry)) (now (levels .entry)) (now (family .entry)) plots size place (length (now (name .entry))) .refusal ⌝ }
+    ensures buffer { λ _. ⌜ now (name .exit) ≡ nameBuffer (now (name .entry)) (naming (statedKind kind) (now (text .entry)) (now (levels .entry)) (now (family .entry)) plots size place (length (now (name .entry)))) ⌝ }
+    ensures numbers { λ _. ⌜ now (answer .exit) ≡ nameNumbers (naming (statedKind kind) (now (text .entry)) (now (levels .entry)) (now (family .entry)) plots size place (length (now (name .entry)))) ⌝ }
+{
+    let stated = stated_kind(kind);
+    let found = naming::member_name(text, levels, family, plots, size, stated, place, name);
+    match found {
+        Named::Written(length) => {
+            *answer = [length as u64];
+            0
+        }
+        Named::Refused(number) => {
+            *answer = [0];
+            number
+        }
+    }
+}
+
+// The whole printed text. The answer: how many bytes it has. 6: the buffer is too short.
+#[no_mangle]
+pub extern "C" fn rachdoum_skeleton(text: &[u8], out: &mut [u8], answer: &mut [u64; 1]) -> u32
+    ensures refusal { λ r. ⌜ r ≡ skeletonTable (now (text .entry)) (length (now (out .entry))) .refusal ⌝ }
+    ensures buffer { λ _. ⌜ now (out .exit) ≡ tableBuffer (now (out .entry)) (skeletonTable (now (text .entry)) (length (now (out .entry)))) ⌝ }
+    ensures numbers { λ _. ⌜ now (answer .exit) ≡ textNumbers (skeletonTable (now (text .entry)) (length (now (out .entry)))) ⌝ }
+{
+    let found = table::skeleton_table(text, out);
+    match found {
+        Printed::Text(length) => {
+            *answer = [length as u64];
+            0
+        }
+        Printed::Refused(number) => {
+            *answer = [0];
+            number
+        }
+    }
 }
