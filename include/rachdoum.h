@@ -42,6 +42,17 @@ uint32_t rachdoum_degrees(const uint8_t *family, size_t family_len, size_t plots
 uint32_t rachdoum_strata(const uint8_t *plot_family, size_t plot_family_len, size_t plot_size, const uint8_t *treatment_family,
                          size_t treatment_family_len, size_t treatment_size, size_t plots, int64_t answer[64]);
 
+/* The name of the member at a place (from 1) of a family: questions 2, 3, 6, 7 and 15. `kind` is 0 for a plot family, any other number
+ * for a treatment family; the sheet's first line gives the column names, the level table the columns. The name buffer has at least 96
+ * bytes; those past the name are not touched. Answer: the name's length. */
+uint32_t rachdoum_name(const uint8_t *text, size_t text_len, const uint16_t *levels, size_t levels_len, const uint8_t *family,
+                       size_t family_len, size_t plots, size_t size, uint32_t kind, size_t place, uint8_t *name, size_t name_len,
+                       uint64_t answer[1]);
+
+/* What is printed for a sheet's text: the skeleton table with k = 6, or the line of the sheet's refusal. 6: `out` has fewer than 32,768
+ * bytes; bytes past the text are not touched. Answer: the length of the text. */
+uint32_t rachdoum_skeleton(const uint8_t *text, size_t text_len, uint8_t *out, size_t out_len, uint64_t answer[1]);
+
 #ifdef __cplusplus
 }
 #endif

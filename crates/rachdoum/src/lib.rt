@@ -234,13 +234,13 @@ pub extern "C" fn rachdoum_skeleton(text: &[u8], out: &mut [u8], answer: &mut [u
 {
     let found = table::skeleton_table(text, out);
     match found {
-        Printed::Text(length) => {
-            *answer = [length as u64];
+        Printed::Text(bytes) => {
+            *answer = [bytes as u64];
             0
         }
-        Printed::Refused(number) => {
+        Printed::Refused(question) => {
             *answer = [0];
-            number
+            question
         }
     }
 }
