@@ -1,0 +1,3 @@
+//! The library of the proved planner as seen from Rust, in the shape of the second implementation's entries.
+
+pub mod library;
