@@ -299,7 +299,9 @@ fn strata(random: &mut Random) -> Call {
 
 fn name(random: &mut Random) -> Call {
     let trial = trial_with_columns(random);
-    let mut text = sheet_text(random, 0, &trial);
+    // Only the first line counts; what follows it may be anything.
+    let lines = if random.once_in(3) { trial.plots } else { 0 };
+    let mut text = sheet_text(random, lines, &trial);
     damage_text(random, &mut text);
     let mut levels = trial.level_table();
     let of_treatments = random.below(2);
@@ -360,7 +362,7 @@ fn damage_text(random: &mut Random, text: &mut Vec<u8>) {
     let line = text.iter().position(|&byte| byte == 10).unwrap_or(0);
     let end = if random.once_in(2) { line + 1 } else { text.len() };
     let at = random.below(end);
-    match random.below(11) {
+    match random.below(12) {
         0 => text[at] = random.pick(b"\t\n01:ptA \r\0"),
         1 => text[at] = random.next() as u8,
         2 => { text.remove(at); }
@@ -371,6 +373,7 @@ fn damage_text(random: &mut Random, text: &mut Vec<u8>) {
         7 => { let copy = text[line_at(text, at)].to_vec(); text.splice(at..at, copy); }
         8 => { let range = line_at(text, at); let copy = text[range.clone()].to_vec(); text.splice(range.end..range.end, copy); }
         9 => replace_field(random, text, at),
+        10 => text.clear(),
         _ => lengthen(random, text, line),
     }
 }
