@@ -12,7 +12,7 @@ use std::path::{Path, PathBuf};
 use std::process::ExitCode;
 
 const USAGE: &str = "compare [--seed S] [--cases N] [--first INDEX] [--one ENTRY INDEX] [--self-test]
-  --cases N          so many calls of each entry
+  --cases N          so many calls of each entry; 0 for the kept cases alone
   --first INDEX      the index of the first one
   --one ENTRY INDEX  one call alone, written out
   --self-test        faults put into the library on purpose must be reported";
@@ -63,6 +63,7 @@ fn main() -> ExitCode {
     let passed = match asked.one {
         Some((entry, index)) => one(entry, asked.seed, index),
         None if asked.self_test => self_test(asked.seed),
+        None if asked.cases == 0 => kept(),
         None => {
             let kept = kept();
             compare_all(&asked) && kept
@@ -196,7 +197,8 @@ fn one(entry: Entry, seed: u64, index: u64) -> bool {
     let checked = check(&call, &LIBRARY, true);
     let what = checked.difference.clone().unwrap_or("no difference".to_string());
     print!("{}", case::write(&call, &[format!("seed {seed}, index {index}: {what}")]));
-    println!("refusal {}\nanswer {}", checked.outcome.refusal, checked.outcome.answer.iter().map(i128::to_string).collect::<Vec<_>>().join(" "));
+    let answer: Vec<String> = checked.outcome.answer.iter().map(i128::to_string).collect();
+    println!("refusal {}\nanswer {}", checked.outcome.refusal, answer.join(" "));
     checked.difference.is_none()
 }
 
