@@ -2,7 +2,7 @@
 
 use compare::case;
 use compare::check::{affordable, check, Checked};
-use compare::common::call::{Call, Entry};
+use compare::common::call::{Call, Entry, PRINTED};
 use compare::common::generate;
 use compare::fault::{faults, Fault};
 use compare::library::LIBRARY;
@@ -11,9 +11,10 @@ use reference::Entries;
 use std::path::{Path, PathBuf};
 use std::process::ExitCode;
 
-const USAGE: &str = "compare [--seed S] [--cases N] [--first INDEX] [--one ENTRY INDEX] [--self-test]
+const USAGE: &str = "compare [--seed S] [--cases N] [--first INDEX] [--trace] [--one ENTRY INDEX] [--self-test]
   --cases N          so many calls of each entry; 0 for the kept cases alone
   --first INDEX      the index of the first one
+  --trace            names each call before it is made, in case one does not return
   --one ENTRY INDEX  one call alone, written out
   --self-test        faults put into the library on purpose must be reported";
 
@@ -25,6 +26,7 @@ struct Asked {
     seed: u64,
     cases: u64,
     first: u64,
+    trace: bool,
     one: Option<(Entry, u64)>,
     self_test: bool,
 }
@@ -73,7 +75,7 @@ fn main() -> ExitCode {
 }
 
 fn asked(arguments: &[String]) -> Result<Asked, String> {
-    let mut asked = Asked { seed: 1, cases: 8000, first: 0, one: None, self_test: false };
+    let mut asked = Asked { seed: 1, cases: 8000, first: 0, trace: false, one: None, self_test: false };
     let mut rest = arguments.iter();
     while let Some(option) = rest.next() {
         let mut next = || rest.next().ok_or(format!("nothing after {option}"));
@@ -82,6 +84,7 @@ fn asked(arguments: &[String]) -> Result<Asked, String> {
             "--seed" => asked.seed = number(next()?)?,
             "--cases" => asked.cases = number(next()?)?,
             "--first" => asked.first = number(next()?)?,
+            "--trace" => asked.trace = true,
             "--one" => {
                 let title = next()?;
                 let entry = Entry::titled(title).ok_or(format!("no entry {title}"))?;
@@ -128,6 +131,9 @@ fn compare_all(asked: &Asked) -> bool {
     for entry in Entry::ALL {
         let tally = &mut tallies[entry as usize];
         for index in asked.first..asked.first.saturating_add(asked.cases) {
+            if asked.trace {
+                eprintln!("{} {index}", entry.title());
+            }
             let call = generate::call(entry, asked.seed, index);
             let checked = check(&call, &LIBRARY, affordable(&call, index));
             tally.count(entry, &checked);
@@ -178,17 +184,18 @@ fn print_table(tallies: &[Tally; 8]) {
     println!("compare: {calls} calls, {calls} with the fast version, {literal} with the literal one, {differences} differences");
 }
 
-/// Whether each entry gave each refusal that it has.
+/// Whether each entry gave each refusal that it has, and each that a printed text can tell was printed.
 fn all_reached(tallies: &[Tally; 8]) -> bool {
-    let mut all = true;
-    for entry in Entry::ALL {
-        let missing = entry.refusals().iter().filter(|&&number| tallies[entry as usize].refusals[number as usize] == 0);
-        for number in missing {
-            println!("compare: {} never gave refusal {number}", entry.title());
-            all = false;
+    let missing = |title: &str, numbers: &[u32], seen: &[u64; 17]| {
+        let missing: Vec<u32> = numbers.iter().copied().filter(|&number| seen[number as usize] == 0).collect();
+        if !missing.is_empty() {
+            println!("compare: {title} never gave {missing:?}");
         }
-    }
-    all
+        missing.is_empty()
+    };
+    let printed = missing("the printed text", &PRINTED, &tallies[Entry::Skeleton as usize].printed);
+    let reached = Entry::ALL.map(|entry| missing(entry.title(), entry.refusals(), &tallies[entry as usize].refusals));
+    printed && reached.iter().all(|&all| all)
 }
 
 /// One case alone, written out.
@@ -214,7 +221,8 @@ fn self_test(seed: u64) -> bool {
             return Err("the written case is another one".to_string());
         }
         let what = differs(&again).ok_or("the smaller call shows no difference")?;
-        Ok(format!("index {index}, {} plots made {}; {what}", call.plots, again.plots))
+        let size = |call: &Call| case::write(call, &[]).len();
+        Ok(format!("index {index}, made smaller from {} to {} bytes; {what}", size(&call), size(&again)))
     };
     let mut all = true;
     for fault in faults() {

@@ -44,6 +44,9 @@ impl Entry {
     }
 }
 
+/// The refusals that a printed text can tell, and 0 for a table.
+pub const PRINTED: [u32; 12] = [0, 2, 3, 4, 5, 8, 9, 10, 11, 12, 13, 14];
+
 /// A call. Each entry takes the parts that it has a use for; the others are empty or 0.
 #[derive(Clone, Debug, PartialEq, Eq)]
 pub struct Call {

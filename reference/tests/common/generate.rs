@@ -103,7 +103,7 @@ fn labels(random: &mut Random, plots: usize, radix: &[usize]) -> Vec<usize> {
         return sums(random, plots, radix.len());
     }
     match random.below(24) {
-        0 => { let classes = 1 + random.below(plots); (0..plots).map(|_| random.below(classes)).collect() }
+        0 => scattered(random, plots),
         1 => vec![0; plots],
         2 => (0..plots).collect(),
         3 => {
@@ -116,7 +116,14 @@ fn labels(random: &mut Random, plots: usize, radix: &[usize]) -> Vec<usize> {
     }
 }
 
-/// All columns of one kind. Digits one by one are fully crossed, the first so many together are nested; else each as it comes.
+/// A column of labels without any structure.
+fn scattered(random: &mut Random, plots: usize) -> Vec<usize> {
+    let classes = 1 + random.below(plots);
+    (0..plots).map(|_| random.below(classes)).collect()
+}
+
+/// All columns of one kind. Digits one by one are fully crossed, the first so many together are nested, few plots may be scattered;
+/// else each as it comes.
 fn labelled(random: &mut Random, plots: usize, radix: &[usize]) -> Vec<Vec<usize>> {
     let many = random.pick(&[0, 1, 1, 2, 2, 3, 3, 4, 5, 6]);
     let chosen = |most: usize, take: &dyn Fn(usize, usize) -> bool| -> Vec<Vec<usize>> {
@@ -127,6 +134,7 @@ fn labelled(random: &mut Random, plots: usize, radix: &[usize]) -> Vec<Vec<usize
         0 => chosen(6, &|i, c| i == c),
         1 => chosen(5, &|i, c| i == c),
         2 => chosen(many, &|i, c| i <= c),
+        3 if plots <= 6 => (0..many).map(|_| scattered(random, plots)).collect(),
         _ => (0..many).map(|_| labels(random, plots, radix)).collect(),
     }
 }
