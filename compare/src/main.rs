@@ -18,8 +18,8 @@ const USAGE: &str = "compare [--seed S] [--cases N] [--first INDEX] [--trace] [-
   --one ENTRY INDEX  one call alone, written out
   --self-test        faults put into the library on purpose must be reported";
 
-/// No more differences than these are made smaller and written down.
-const WRITTEN: u64 = 10;
+/// So many differences of an entry are shown, made smaller and written down; the others are counted.
+const WRITTEN: u64 = 3;
 
 /// What the command line asks for.
 struct Asked {
@@ -127,7 +127,6 @@ fn kept() -> bool {
 fn compare_all(asked: &Asked) -> bool {
     println!("compare: seed {}, {} calls of each entry from index {} on", asked.seed, asked.cases, asked.first);
     let mut tallies = [Tally::default(); 8];
-    let mut written = 0;
     for entry in Entry::ALL {
         let tally = &mut tallies[entry as usize];
         for index in asked.first..asked.first.saturating_add(asked.cases) {
@@ -137,10 +136,7 @@ fn compare_all(asked: &Asked) -> bool {
             let call = generate::call(entry, asked.seed, index);
             let checked = check(&call, &LIBRARY, affordable(&call, index));
             tally.count(entry, &checked);
-            let Some(what) = checked.difference else { continue };
-            println!("{} {index}: {what}", entry.title());
-            if written < WRITTEN {
-                written += 1;
+            if let Some(what) = checked.difference.filter(|_| tally.differences <= WRITTEN) {
                 keep(&call, asked.seed, index, &what);
             }
         }
@@ -151,6 +147,7 @@ fn compare_all(asked: &Asked) -> bool {
 
 /// Makes a call that showed a difference smaller and writes it beside the kept cases.
 fn keep(call: &Call, seed: u64, index: u64, what: &str) {
+    println!("{} {index}: {what}", call.entry.title());
     let smaller = smaller(call, &LIBRARY);
     let now = check(&smaller, &LIBRARY, true).difference.unwrap_or_default();
     let remarks = [format!("seed {seed}, index {index}: {what}"), format!("made smaller: {now}")];

@@ -225,7 +225,8 @@ fn numbered(labels: &[usize]) -> Vec<u8> {
     labels.iter().map(|label| *seen.entry(label).or_insert_with(|| { next += 1; next })).collect()
 }
 
-/// A family for the entries that take one: made by a design, a part of one, or with random members; in order.
+/// A family for the entries that take one: made by a design, a part of one, or with random members; in order, now and then of more
+/// members than there may be.
 fn family(random: &mut Random) -> (usize, Vec<Vec<u8>>) {
     let trial = trial(random);
     let plots = trial.plots;
@@ -244,7 +245,7 @@ fn family(random: &mut Random) -> (usize, Vec<Vec<u8>>) {
     }
     found.sort_by_key(|member| (member.iter().copied().max(), member.clone()));
     found.dedup();
-    found.truncate(32);
+    found.truncate(if random.once_in(10) { 34 } else { 32 });
     if found.is_empty() {
         found.push(vec![1; plots]);
     }
@@ -284,7 +285,7 @@ fn order(random: &mut Random, entry: Entry) -> Call {
     let (plots, found) = family(random);
     let mut buffer = family_buffer(&found);
     damage(random, plots, found.len(), &mut buffer);
-    buffer.resize(length(random, FAMILY), 1);
+    buffer.resize(length(random, buffer.len()), 1);
     let sizes = [size_of(random, found.len()), 0];
     Call { plots: count(random, plots), sizes, families: [buffer, Vec::new()], ..Call::new(entry) }
 }

@@ -112,9 +112,9 @@ pub fn members(buffer: &[u8], plots: usize, size: u64) -> Vec<Vec<u8>> {
     (0..size as usize).map(|i| buffer[PLOTS * i..PLOTS * i + plots].to_vec()).collect()
 }
 
-/// A buffer of the least length with these members, the rest a pattern.
+/// A buffer of the least length with these members, longer for more than 32, the rest a pattern.
 pub fn family_buffer(members: &[Vec<u8>]) -> Vec<u8> {
-    let mut buffer = pattern(FAMILY);
+    let mut buffer = pattern(FAMILY.max(PLOTS * members.len()));
     for (i, member) in members.iter().enumerate() {
         buffer[PLOTS * i..PLOTS * i + member.len()].copy_from_slice(member);
     }
