@@ -11,8 +11,8 @@ use lib.Dec.{eqb}
 use lib.ListN.{length, take, drop, set, length-map, replicate, take-append-drop}
 use lib.Seq.{getD-set-same, getD-set-other, drop-cons, getD-at, length-take-le}
 use borrow.Author.Tests.{eqb-true, eqb-false, eq-eqb, ne-eqb}
-use Rattle.rules.specs.Factor.{Column, at, Same, Finer, Equivalent, relabel, number, classes, universal, supremum}
-use Rattle.rules.proofs.Numbering.{by-cases}
+use Rattle.rules.specs.Factor.{Column, at, Same, Equivalent, indexOf, relabel, number, classes, universal, supremum}
+use Rattle.rules.proofs.Numbering.{by-cases, eqb-self, has-getD, getD-place}
 use Rattle.rules.proofs.Supremum.{length-relabel, number-supremum}
 use Rattle.rules.proofs.Bounds.{length-supremum′, numbered-equal, supremum-left, supremum-right, supremum-least}
 use Rattle.rules.proofs.Columns.{classes-equivalent, Earlier}
@@ -20,7 +20,7 @@ use Rattle.rules.proofs.Extremes.{number-universal, length-universal}
 use Rattle.rules.proofs.ClassCount.{finer-universal}
 use Rattle.factor.proofs.Fill.{filled, length-filled, getD-filled}
 use Rattle.factor.proofs.Table.{getD-zeros}
-use Rattle.factor.specs.Joining.{Below, Own, OneEntry, relabelled, spread}
+use Rattle.factor.specs.Joining.{Below, Own, OneEntry, Links, Joins, relabelled, spread}
 
 -- what holds of all before u and of u holds of all before u + 1
 pub one-more : (P : ℕ → Type 0) (u : ℕ) → ((v : ℕ) → v < u → P v) → P u → (v : ℕ) → v < u + 1 → P v
@@ -117,9 +117,9 @@ module _ (top : ℕ) (t : List ℕ) (h : top ≤ length t) where
 -- ---- joining along the classes of G
 
 module _ (F G : Column) where
-  -- plots whose labels have one entry share a class of the supremum
+  -- labels with one entry have one value wherever plots of one G-class have
   abbrev pub Sound : List ℕ → Type 0
-  Sound t = (u v : ℕ) → u < length F → v < length F → at t (at F u) ≡ at t (at F v) → Same (supremum F G) u v
+  Sound t = (h : ℕ → ℕ) → Links F G h → (u v : ℕ) → u < length F → v < length F → at t (at F u) ≡ at t (at F v) → h (at F u) ≡ h (at F v)
 
   -- the F-label of a plot of p's G-class, plus 1, is held for that class; its entry is that of p's label
   record Link (u : ℕ) (first t : List ℕ) (p : ℕ) : Type 0 where
@@ -182,7 +182,7 @@ module _ (F G : Column) where
 
 module _ (F G : Column) (l : length G ≡ length F) where
   pub sound-own : (t : List ℕ) → Own F t → Sound F G t
-  sound-own t own u v hu hv e = supremum-left (length F) F G refl l u v hu hv (sym (own u hu) ∙ e ∙ own v hv)
+  sound-own t own h links u v hu hv e = ap h (sym (own u hu) ∙ e ∙ own v hv)
 
   -- the labels of plots i and j get one entry
   module _ (top : ℕ) (t : List ℕ) (h : top ≤ length t) (below : Below top F) (i j : ℕ) (hi : i < length F) (hj : j < length F) where
@@ -219,15 +219,18 @@ module _ (F G : Column) (l : length G ≡ length F) where
         (λ e. let q : at t (at F u) ≡ a = eqb-true _ _ e in moved q (entry-of u hu ∙ rename-yes a b _ q))
         (λ e. kept (entry-of u hu ∙ rename-no a b _ (eqb-false _ _ e)))
 
-    -- no others have come to have one, if i and j share a class of the supremum
-    merge-sound : Sound F G t → Same (supremum F G) i j → Sound F G merged
-    merge-sound sound s u v hu hv e = go (new u hu) (new v hv)
+    -- no others have come to have one, if i and j share a class of G
+    merge-sound : Sound F G t → Same G i j → Sound F G merged
+    merge-sound sound shares val links u v hu hv e = go (new u hu) (new v hv)
       where
-        go : New u → New v → Same (supremum F G) u v
-        go (moved p x) (moved q y) = sound u v hu hv (p ∙ sym q)
-        go (moved p x) (kept y) = sound u i hu hi p ∙ s ∙ sound j v hj hv (sym x ∙ e ∙ y)
-        go (kept x) (moved q y) = sound u j hu hj (sym x ∙ e ∙ y) ∙ sym s ∙ sound i v hi hv (sym q)
-        go (kept x) (kept y) = sound u v hu hv (sym x ∙ e ∙ y)
+        s : val (at F i) ≡ val (at F j)
+        s = links i j hi hj shares
+
+        go : New u → New v → val (at F u) ≡ val (at F v)
+        go (moved p x) (moved q y) = sound val links u v hu hv (p ∙ sym q)
+        go (moved p x) (kept y) = sound val links u i hu hi p ∙ s ∙ sound val links j v hj hv (sym x ∙ e ∙ y)
+        go (kept x) (moved q y) = sound val links u j hu hj (sym x ∙ e ∙ y) ∙ sym s ∙ sound val links i v hi hv (sym q)
+        go (kept x) (kept y) = sound val links u v hu hv (sym x ∙ e ∙ y)
 
   -- the labels of the two plots get one entry
   module _ (u : ℕ) (first t : List ℕ) (linked : Linked F G u first t) (sound : Sound F G t) (m : Met F G u first t) (hu : u < length F) (top : ℕ) (h : top ≤ length t) (below : Below top F) where
@@ -246,33 +249,79 @@ module _ (F G : Column) (l : length G ≡ length F) where
     }
 
     pub sound-old : Sound F G (relabelled top (at t (at F u)) (at t (at F (m .plot))) t)
-    sound-old = merge-sound top t h below u (m .plot) hu before sound (supremum-right (length F) F G refl l u (m .plot) hu before (sym (m .shares)))
+    sound-old = merge-sound top t h below u (m .plot) hu before sound (sym (m .shares))
 
-  -- all plots are linked: the entries make the classes of the supremum
-  pub linked-all : (first t : List ℕ) → Linked F G (length F) first t → Sound F G t → Equivalent (length F) (spread t F) (supremum F G)
-  linked-all first t linked sound = record {
-    to = λ u v hu hv e. sound u v hu hv (sym (spread-at t F u hu) ∙ e ∙ spread-at t F v hv);
-    from = supremum-least (length F) F G refl l (spread t F)
-        (λ u v hu hv e. spread-at t F u hu ∙ ap (at t) e ∙ sym (spread-at t F v hv))
-        (λ u v hu hv e. spread-at t F u hu ∙ along u v hu hv e ∙ sym (spread-at t F v hv));
-  }
+  -- all plots are linked
+  pub joined-all : (first t : List ℕ) → Linked F G (length F) first t → Sound F G t → Joins F G t
+  joined-all first t linked sound = record { links = along; least = sound }
     where
-      along : (u v : ℕ) → u < length F → v < length F → Same G u v → at t (at F u) ≡ at t (at F v)
+      along : Links F G (at t)
       along u v hu hv e =
           let p = linked .known u hu in
           let q = linked .known v hv in
           sym (p .entry) ∙ ap (at t) (suc-inj (sym (p .holds) ∙ ap (at first) e ∙ q .holds)) ∙ q .entry
 
-  -- so they do once all labels have one entry
-  module _ (top : ℕ) (t : List ℕ) (below : Below top F) (one : OneEntry top t) where
-    one-entry : (u v : ℕ) → u < length F → v < length F → Same (spread t F) u v
-    one-entry u v hu hv = spread-at t F u hu ∙ one (at F u) (at F v) (below u hu) (below v hv) ∙ sym (spread-at t F v hv)
+  -- all labels have one entry
+  pub joined-one : (top : ℕ) (t : List ℕ) → Below top F → OneEntry top t → Sound F G t → Joins F G t
+  joined-one top t below one sound = record { links = λ u v hu hv e. one (at F u) (at F v) (below u hu) (below v hv); least = sound }
 
-    pub joined-one : Sound F G t → Equivalent (length F) (spread t F) (supremum F G)
-    joined-one sound = record {
-      to = λ u v hu hv e. sound u v hu hv (one (at F u) (at F v) (below u hu) (below v hv));
-      from = λ u v hu hv e. one-entry u v hu hv;
+-- ---- the classes that the entries make
+
+-- a plot that has the labels x and y
+pub record Plot (F G : Column) (x y : ℕ) : Type 0 where
+  pub plot : ℕ
+  pub less : plot < length F
+  pub first : at F plot ≡ x
+  pub second : at G plot ≡ y
+
+-- the labels X and Y are those of plots of F and G, and each plot has its labels there
+pub record Listed (F G X Y : Column) : Type 0 where
+  pub plot : (i : ℕ) → i < length X → Plot F G (at X i) (at Y i)
+  pub place : (u : ℕ) → u < length F → Plot X Y (at F u) (at G u)
+
+-- every column lists itself
+pub listed-self : (F G : Column) → Listed F G F G
+listed-self F G = record { plot = λ i h. record { plot = i; less = h; first = refl; second = refl }; place = λ i h. record { plot = i; less = h; first = refl; second = refl } }
+
+module _ (F G : Column) (l : length G ≡ length F) where
+  -- the class of the supremum of the first plot with the label x
+  unfoldable class-of : ℕ → ℕ
+  unfolding indexOf
+  class-of x = at (supremum F G) (indexOf eqb F x)
+
+  class-of-plot : (u : ℕ) → u < length F → class-of (at F u) ≡ at (supremum F G) u
+  unfolding class-of
+  class-of-plot u h =
+      let k = has-getD eqb eqb-true eqb-self F u 0 h in
+      supremum-left (length F) F G refl l (indexOf eqb F (at F u)) u k h (getD-place eqb eqb-true eqb-self F (at F u) 0 k)
+
+  module _ (X Y t : List ℕ) (listed : Listed F G X Y) (joins : Joins X Y t) where
+    class-links : Links X Y class-of
+    class-links i j hi hj e =
+        let p = listed .plot i hi in
+        let q = listed .plot j hj in
+        ap class-of (sym (p .first)) ∙ class-of-plot (p .plot) (p .less)
+        ∙ supremum-right (length F) F G refl l (p .plot) (q .plot) (p .less) (q .less) (p .second ∙ e ∙ sym (q .second))
+        ∙ sym (class-of-plot (q .plot) (q .less)) ∙ ap class-of (q .first)
+
+    -- joined labels make the classes of the supremum
+    pub joins-supremum : Equivalent (length F) (spread t F) (supremum F G)
+    joins-supremum = record {
+      to = λ u v hu hv e. let p = listed .place u hu in
+          let q = listed .place v hv in
+          let same : at t (at X (p .plot)) ≡ at t (at X (q .plot)) = ap (at t) (p .first) ∙ sym (spread-at t F u hu) ∙ e ∙ spread-at t F v hv ∙ ap (at t) (sym (q .first)) in
+          sym (class-of-plot u hu) ∙ ap class-of (sym (p .first)) ∙ joins .least class-of class-links (p .plot) (q .plot) (p .less) (q .less) same ∙ ap class-of (q .first) ∙ class-of-plot v hv;
+      from = supremum-least (length F) F G refl l (spread t F)
+          (λ u v hu hv e. spread-at t F u hu ∙ ap (at t) e ∙ sym (spread-at t F v hv))
+          (λ u v hu hv e. let p = listed .place u hu in
+          let q = listed .place v hv in
+          spread-at t F u hu ∙ ap (at t) (sym (p .first)) ∙ joins .links (p .plot) (q .plot) (p .less) (q .less) (p .second ∙ e ∙ sym (q .second)) ∙ ap (at t) (q .first) ∙ sym (spread-at t F v hv));
     }
+
+  -- one entry makes one class
+  module _ (top : ℕ) (t : List ℕ) (below : Below top F) (one : OneEntry top t) where
+    pub one-entry : (u v : ℕ) → u < length F → v < length F → Same (spread t F) u v
+    one-entry u v hu hv = spread-at t F u hu ∙ one (at F u) (at F v) (below u hu) (below v hv) ∙ sym (spread-at t F v hv)
 
     -- the supremum has one class
     pub one-universal : Equivalent (length F) (spread t F) (supremum F G) → supremum F G ≡ universal (length F)

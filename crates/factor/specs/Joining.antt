@@ -4,7 +4,7 @@ use mathlib.Core.Path.{_≡_}
 use mathlib.Core.List.{List, map, _++_}
 use Prim.Native.Nat.{ℕ, _≤_, _<_}
 use lib.ListN.{length, take, drop}
-use Rattle.rules.specs.Factor.{Column, at, relabel}
+use Rattle.rules.specs.Factor.{Column, at, Same, relabel}
 
 -- every label of F is below top, or none is below low
 abbrev pub Below : ℕ → Column → Type 0
@@ -32,3 +32,12 @@ OneEntry top t = (x y : ℕ) → x < top → y < top → at t x ≡ at t y
 -- the entry of each plot's label
 unfoldable pub spread : List ℕ → Column → Column
 spread t F = map (at t) F
+
+-- the values that h gives to labels of F are one where plots share a class of G
+abbrev pub Links : Column → Column → (ℕ → ℕ) → Type 0
+Links F G h = (u v : ℕ) → u < length F → v < length F → Same G u v → h (at F u) ≡ h (at F v)
+
+-- the entries in t are one where plots share a class of G, and for no other labels of F than this makes one
+pub record Joins (F G : Column) (t : List ℕ) : Type 0 where
+  pub links : Links F G (at t)
+  pub least : (h : ℕ → ℕ) → Links F G h → (u v : ℕ) → u < length F → v < length F → at t (at F u) ≡ at t (at F v) → h (at F u) ≡ h (at F v)

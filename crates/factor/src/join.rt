@@ -3,9 +3,9 @@ ghost use mathlib.Core.Path.{_≡_};
 ghost use mathlib.Core.Bool.{true};
 ghost use Prim.Native.Nat.{_≤_, _<_};
 ghost use lib.ListN.{length};
-ghost use Rattle.rules.specs.Factor.{at, Equivalent, universal, number, classes, supremum};
+ghost use Rattle.rules.specs.Factor.{at, universal, number, classes, supremum};
 ghost use Rattle.factor.specs.Lent.{onCommon, overlay};
-ghost use Rattle.factor.specs.Joining.{Below, OwnFrom, Own, OneEntry, relabelled, spread};
+ghost use Rattle.factor.specs.Joining.{Below, OwnFrom, Own, OneEntry, Joins, relabelled, spread};
 use crate::labels::least_label;
 use crate::labels::past_labels;
 use crate::plots::common_plots;
@@ -91,7 +91,7 @@ fn merge(table: &mut [u8; 256], top: usize, x: usize, y: usize) -> bool
 pub(crate) fn join(table: &mut [u8; 256], f: &[u8], g: &[u8], top: usize) -> bool
     requires { ⌜ (length (now table) ≡ 256) × (length (now g) ≡ length (now f)) × (top ≤ 256) × Below top (now f) × Own (now f) (now table) ⌝ }
     ensures answer { λ r. ⌜ (r ≡ true → (0 < length (now (f .entry))) × OneEntry top (now (table .exit))) ⌝ }
-    ensures entries { λ _. ⌜ (length (now (table .exit)) ≡ 256) × Equivalent (length (now (f .entry))) (spread (now (table .exit)) (now (f .entry))) (supremum (now (f .entry)) (now (g .entry))) ⌝ }
+    ensures entries { λ _. ⌜ (length (now (table .exit)) ≡ 256) × Joins (now (f .entry)) (now (g .entry)) (now (table .exit)) ⌝ }
 {
     let mut first = [0u16; 256];
     for u in 0..f.len() {

@@ -10,7 +10,7 @@ use denote.Ref.{now}
 use lib.ListN.{length, length-set}
 use Rattle.rules.specs.Factor.{Column, at}
 use Rattle.factor.specs.Joining.{relabelled}
-use Rattle.factor.proofs.Joining.{length-relabelled, held-small, Sound, sound-own, Linked, linked-none, linked-new, Met, met, linked-old, sound-old, linked-all, joined-one}
+use Rattle.factor.proofs.Joining.{length-relabelled, held-small, Sound, sound-own, Linked, linked-none, linked-new, Met, met, linked-old, sound-old, joined-all, joined-one}
 use Rattle.factor.proofs.join.join.Statement.{statement}
 use Rattle.factor.proofs.join.join.Tie as tie
 
@@ -184,7 +184,7 @@ returns-2 c =
     let g = now (s .args .g) in
     let e : b .loop .u ≡ length f = omega arith in
     let all = subst (λ (i : ℕ). Linked f g i (b .loop .first) (b .loop .table)) e (b .loop .inv .4) in
-    (λ q. absurd (true≢false (sym q)), (b .loop .inv .2, linked-all f g (s .pre .1) (b .loop .first) (b .loop .table) all (b .loop .inv .5)))
+    (λ q. absurd (true≢false (sym q)), (b .loop .inv .2, joined-all f g (s .pre .1) (b .loop .first) (b .loop .table) all (b .loop .inv .5)))
 
 pub join-spec : {M : Type 1} → statement M
 join-spec =

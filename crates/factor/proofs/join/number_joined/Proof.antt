@@ -8,7 +8,7 @@ use borrow.Author.Needs.{needs}
 use Rattle.rules.specs.Factor.{at, classes, supremum}
 use Rattle.rules.proofs.ClassCount.{classes-universal}
 use Rattle.factor.specs.Lent.{overlay}
-use Rattle.factor.proofs.Joining.{number-spread, classes-spread, one-universal}
+use Rattle.factor.proofs.Joining.{listed-self, joins-supremum, number-spread, classes-spread, one-universal}
 use Rattle.factor.proofs.join.number_joined.Statement.{statement}
 use Rattle.factor.proofs.join.number_joined.Tie as tie
 
@@ -35,7 +35,8 @@ returns c =
     let f = now (s .args .f) in
     let g = now (s .args .g) in
     let one = j .join .ensures .0 (c .before .before .if1 .taken) in
-    let e = one-universal f g (s .pre .1) (s .args .top) (j .join .last .0) (s .pre .3) (one .1) (j .join .ensures .1 .1) in (
+    let t = j .join .last .0 in
+    let e = one-universal f g (s .pre .1) (s .args .top) t (s .pre .3) (one .1) (joins-supremum f g (s .pre .1) f g t (listed-self f g) (j .join .ensures .1 .1)) in (
       c .one-class .ensures .0 ∙ sym (ap classes e ∙ classes-universal (length f) (one .0)),
       c .one-class .ensures .1 ∙ ap (overlay (now (s .args .out))) (sym e),
     )
@@ -52,9 +53,10 @@ returns-2 c =
     let s = j .before .before .before .before .before .before in
     let f = now (s .args .f) in
     let g = now (s .args .g) in
-    let e = j .join .ensures .1 .1 in (
-      c .number-entries .ensures .0 ∙ classes-spread f g (s .pre .1) (j .join .last .0) e,
-      c .number-entries .ensures .1 ∙ ap (overlay (now (s .args .out))) (number-spread f g (s .pre .1) (j .join .last .0) e),
+    let t = j .join .last .0 in
+    let e = joins-supremum f g (s .pre .1) f g t (listed-self f g) (j .join .ensures .1 .1) in (
+      c .number-entries .ensures .0 ∙ classes-spread f g (s .pre .1) t e,
+      c .number-entries .ensures .1 ∙ ap (overlay (now (s .args .out))) (number-spread f g (s .pre .1) t e),
     )
 
 pub number-joined-spec : {M : Type 1} → statement M
