@@ -20,6 +20,7 @@ use Rattle.rules.proofs.Extremes.{number-universal, length-universal}
 use Rattle.rules.proofs.ClassCount.{finer-universal}
 use Rattle.factor.proofs.Fill.{filled, length-filled, getD-filled}
 use Rattle.factor.proofs.Table.{getD-zeros}
+use Rattle.factor.specs.Cells.{Plot}
 use Rattle.factor.specs.Joining.{Below, Own, OneEntry, Links, Joins, relabelled, spread}
 
 -- what holds of all before u and of u holds of all before u + 1
@@ -267,17 +268,10 @@ module _ (F G : Column) (l : length G ≡ length F) where
 
 -- ---- the classes that the entries make
 
--- a plot that has the labels x and y
-pub record Plot (F G : Column) (x y : ℕ) : Type 0 where
-  pub plot : ℕ
-  pub less : plot < length F
-  pub first : at F plot ≡ x
-  pub second : at G plot ≡ y
-
 -- the labels X and Y are those of plots of F and G, and each plot has its labels there
 pub record Listed (F G X Y : Column) : Type 0 where
-  pub plot : (i : ℕ) → i < length X → Plot F G (at X i) (at Y i)
-  pub place : (u : ℕ) → u < length F → Plot X Y (at F u) (at G u)
+  pub plot : (i : ℕ) → i < length X → Plot (length F) F G (at X i) (at Y i)
+  pub place : (u : ℕ) → u < length F → Plot (length X) X Y (at F u) (at G u)
 
 -- every column lists itself
 pub listed-self : (F G : Column) → Listed F G F G

@@ -1,6 +1,6 @@
 // Sizes of the classes of a column.
 ghost use mathlib.Core.Path.{_≡_};
-ghost use Prim.Native.Nat.{_≤_, _<_};
+ghost use Prim.Native.Nat.{_*_, _≤_, _<_};
 ghost use lib.ListN.{length};
 ghost use Rattle.rules.specs.Factor.{uniform};
 ghost use Rattle.factor.specs.Lent.{plotsOf};
@@ -47,4 +47,11 @@ fn one_size(f: &[u8]) -> bool
         }
     }
     true
+}
+
+// The product of two sizes.
+pub(crate) fn product(x: u8, y: u8) -> u16
+    ensures { λ r. ⌜ r ≡ x * y ⌝ }
+{
+    x as u16 * y as u16
 }

@@ -1,12 +1,16 @@
 // How two columns stand to each other.
 ghost use mathlib.Core.Path.{_≡_};
-ghost use Prim.Native.Nat.{ℕ, _*_, _≤_, _<_};
+ghost use Prim.Native.Nat.{ℕ, _≤_, _<_};
 ghost use lib.ListN.{length, getD};
 ghost use Rattle.rules.specs.Factor.{finer, orthogonal};
 ghost use Rattle.factor.specs.Standing.{testCommon, balanced, follows, named, equivalent, orderOf, ordered, stands};
+use crate::cells::CELLS;
+use crate::cells::orthogonal_cells;
 use crate::join::supremum;
+use crate::labels::past_labels;
 use crate::meet::infimum;
 use crate::plots::common_plots;
+use crate::sizes::product;
 use crate::sizes::sizes;
 use limits::PLOTS;
 
@@ -74,6 +78,19 @@ pub fn finer(f: &[u8], g: &[u8]) -> bool
 
 // Whether two columns are orthogonal over their common plots.
 pub fn orthogonal(f: &[u8], g: &[u8]) -> bool
+    ensures { λ r. ⌜ r ≡ testCommon orthogonal (now (f .entry)) (now (g .entry)) ⌝ }
+{
+    let n = common_plots(f.len(), g.len());
+    let a = past_labels(&f[..n]);
+    let b = past_labels(&g[..n]);
+    if a * b <= CELLS {
+        return orthogonal_cells(&f[..n], &g[..n], a, b);
+    }
+    orthogonal_plots(f, g)
+}
+
+// The same for any labels: infimum and supremum are numbered.
+fn orthogonal_plots(f: &[u8], g: &[u8]) -> bool
     ensures { λ r. ⌜ r ≡ testCommon orthogonal (now (f .entry)) (now (g .entry)) ⌝ }
 {
     let n = common_plots(f.len(), g.len());
@@ -171,11 +188,4 @@ fn balanced(a: &[u8], b: &[u8], f: &[u8], g: &[u8]) -> bool
         }
     }
     true
-}
-
-// The product of two sizes.
-fn product(x: u8, y: u8) -> u16
-    ensures { λ r. ⌜ r ≡ x * y ⌝ }
-{
-    x as u16 * y as u16
 }

@@ -4,8 +4,8 @@ use Prim.Native.Nat.{_≤_}
 use native.Mathlib.Nat.{mul-le-mul}
 use native.Mathlib.Omega.{arith}
 use borrow.Author.Needs.{needs}
-use Rattle.factor.proofs.standing.product.Statement.{statement}
-use Rattle.factor.proofs.standing.product.Tie as tie
+use Rattle.factor.proofs.sizes.product.Statement.{statement}
+use Rattle.factor.proofs.sizes.product.Tie as tie
 
 mul-result : tie.Need-mul-result
 mul-result c =
