@@ -71,13 +71,13 @@ pub cell-le : (u : ℕ) (F G : Column) (x y : ℕ) → labelledBoth u F G x y �
 unfolding labelledBoth
 cell-le u F G x y = count-le u _
 
-module _ (w u : ℕ) (F G : Column) (cells : List ℕ) (long : length cells ≡ 4096) (below : at G u < w) (h : w * at F u + at G u < 4096) where
+module _ (w u : ℕ) (F G : Column) (cells : List ℕ) (long : length cells ≡ 2048) (below : at G u < w) (h : w * at F u + at G u < 2048) where
   abbrev here : ℕ
   here = w * at F u + at G u
 
   -- one plot more in the table of cells
-  cell-step : ((x y : ℕ) → y < w → w * x + y < 4096 → at cells (w * x + y) ≡ labelledBoth u F G x y)
-      → (x y : ℕ) → y < w → w * x + y < 4096 → at (set cells here (at cells here + 1)) (w * x + y) ≡ labelledBoth (u + 1) F G x y
+  cell-step : ((x y : ℕ) → y < w → w * x + y < 2048 → at cells (w * x + y) ≡ labelledBoth u F G x y)
+      → (x y : ℕ) → y < w → w * x + y < 2048 → at (set cells here (at cells here + 1)) (w * x + y) ≡ labelledBoth (u + 1) F G x y
   unfolding labelledBoth
   cell-step counts x y hy hx =
       by-cases (eqb (w * x + y) here)
@@ -103,13 +103,13 @@ module _ (w u : ℕ) (F G : Column) (cells : List ℕ) (long : length cells ≡ 
   }
 
 -- no plot yet
-pub tables-none : (w : ℕ) (F G : Column) → Tables w 0 F G (replicate 4096 0) (replicate 256 0) (replicate 256 0)
+pub tables-none : (w : ℕ) (F G : Column) → Tables w 0 F G (replicate 2048 0) (replicate 256 0) (replicate 256 0)
 unfolding labelledBoth labelled count
 tables-none w F G = record {
   cells-room = refl;
   f-room = refl;
   g-room = refl;
-  cell = λ x y hy hx. getD-zeros 4096 (w * x + y);
+  cell = λ x y hy hx. getD-zeros 2048 (w * x + y);
   size-f = λ x h. getD-zeros 256 x;
   size-g = λ x h. getD-zeros 256 x;
 }
@@ -207,7 +207,7 @@ module _ (F G X Y : Column) (listed : Listed F G X Y) where
       (subst (λ (y : ℕ). y < w) (p .second) (k .0), rw (← p .first, ← p .second) (k .1))
 
 -- cells of labels below a and w
-pub inside-below : (a w : ℕ) (F G : Column) → length G ≡ length F → Below a F → Below w G → a * w ≤ 4096 → Inside w F G
+pub inside-below : (a w : ℕ) (F G : Column) → length G ≡ length F → Below a F → Below w G → a * w ≤ 2048 → Inside w F G
 inside-below a w F G l bf bg h u hu =
     let hg : at G u < w = bg u (rw l hu) in
     (hg, omega (arith, cell-below w a (at F u) (at G u) (bf u hu) hg, mul-comm a w))

@@ -22,16 +22,16 @@ pub record Plot (n : ℕ) (F G : Column) (x y : ℕ) : Type 0 where
   pub first : at F plot ≡ x
   pub second : at G plot ≡ y
 
--- labels x and y make cell w × x + y: the G-labels are below w, and all cells are below 4096
+-- labels x and y make cell w × x + y: the G-labels are below w, and all cells are below 2048
 abbrev pub Inside : ℕ → Column → Column → Type 0
-Inside w F G = (u : ℕ) → u < length F → (at G u < w) × (w * at F u + at G u < 4096)
+Inside w F G = (u : ℕ) → u < length F → (at G u < w) × (w * at F u + at G u < 2048)
 
 -- of the first u plots, how many are in each cell, and how many have each F-label and each G-label
 pub record Tables (w u : ℕ) (F G : Column) (cells inF inG : List ℕ) : Type 0 where
-  pub cells-room : length cells ≡ 4096
+  pub cells-room : length cells ≡ 2048
   pub f-room : length inF ≡ 256
   pub g-room : length inG ≡ 256
-  pub cell : (x y : ℕ) → y < w → w * x + y < 4096 → at cells (w * x + y) ≡ labelledBoth u F G x y
+  pub cell : (x y : ℕ) → y < w → w * x + y < 2048 → at cells (w * x + y) ≡ labelledBoth u F G x y
   pub size-f : (x : ℕ) → x < 256 → at inF x ≡ labelled u F x
   pub size-g : (x : ℕ) → x < 256 → at inG x ≡ labelled u G x
 

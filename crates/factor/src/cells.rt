@@ -13,12 +13,12 @@ use crate::sizes::product;
 use limits::PLOTS;
 
 // The cells that are counted without numbering them: labels x of the one factor and y of the other, below w, make cell w × x + y.
-pub(crate) const CELLS: usize = 4096;
+pub(crate) const CELLS: usize = 2048;
 
 // Whether two columns of one length are orthogonal; the labels of `f` are below `a`, those of `g` below `w`.
 // Plots of one cell have the same labels, so one of each cell is looked at.
 pub(crate) fn orthogonal_cells(f: &[u8], g: &[u8], a: usize, w: usize) -> bool
-    requires { ⌜ (length (now f) ≤ 240) × (length (now g) ≡ length (now f)) × (a ≤ 256) × (w ≤ 256) × Below a (now f) × Below w (now g) × (a * w ≤ 4096) ⌝ }
+    requires { ⌜ (length (now f) ≤ 240) × (length (now g) ≡ length (now f)) × (a ≤ 256) × (w ≤ 256) × Below a (now f) × Below w (now g) × (a * w ≤ 2048) ⌝ }
     ensures { λ r. ⌜ r ≡ orthogonal (length (now (f .entry))) (now (f .entry)) (now (g .entry)) ⌝ }
 {
     let mut in_cells = [0u8; CELLS];

@@ -69,7 +69,7 @@ module _ (c : tie.After-shared-slice-known2 Inv-loop μ-loop) where
   byte-g : (v : ℕ) → at g v < 256
   byte-g v = omega (arith, c .shared-slice-known2 .given v)
 
-  inside : w * at f u + at g u < 4096
+  inside : w * at f u + at g u < 2048
   inside = start .pre .3 u (omega arith) .1
 
   -- how many plots of the cell have been met

@@ -76,7 +76,7 @@ module _ (c : tie.After-shared-slice-known6 Inv-loop μ-loop) where
   entry : at table (at X i) < 256
   entry = omega (arith, c .shared-slice-known6 .given (at X i))
 
-  inside : start .args .w * at X i + at Y i < 4096
+  inside : start .args .w * at X i + at Y i < 2048
   inside = start .pre .4 i (omega arith) .1
 
 shared-slice-read-k : tie.Need-shared-slice-read-k Inv-loop μ-loop
