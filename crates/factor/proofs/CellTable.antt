@@ -33,7 +33,7 @@ pub cell-below : (w a x y : ℕ) → x < a → y < w → w * x + y < w * a
 cell-below w a x y hx hy = let r = row-below w x a hx in omega arith
 
 -- two labels are told by their cell
-cell-unique : (w x y a b : ℕ) → y < w → b < w → w * x + y ≡ w * a + b → (x ≡ a) × (y ≡ b)
+pub cell-unique : (w x y a b : ℕ) → y < w → b < w → w * x + y ≡ w * a + b → (x ≡ a) × (y ≡ b)
 cell-unique w x y a b hy hb e =
     by-cases (ltb x a)
     (λ l. let r = row-below w x a (ltb-true x a l) in absurd (omega arith))
