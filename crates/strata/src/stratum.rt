@@ -10,12 +10,12 @@ ghost use Rattle.rules.specs.Factor.{every};
 ghost use Rattle.rules.specs.Family.{membersOf};
 ghost use Rattle.rules.specs.Lists.{tabulate, forPlaces, wordOf};
 ghost use Rattle.rules.specs.Relation.{coarserWords};
-ghost use Rattle.rules.specs.Strata.{stratum, strataRefused, question15, question16};
-ghost use Rattle.strata.specs.Answers.{strataIn};
+ghost use Rattle.rules.specs.Strata.{stratum, question15, question16};
+ghost use Rattle.strata.specs.Answers.{analysisIn, analysisRefused, withDegrees};
 ghost use Rattle.strata.specs.Lent.{Formed};
 ghost use Rattle.strata.specs.Sums.{AllSmall, residualAt};
 ghost use Rattle.strata.specs.Words.{candidateWord, below, coarsest, firstPassing};
-use crate::StrataReport;
+use crate::AnalysisReport;
 use crate::degrees::degrees;
 use crate::degrees::less;
 use crate::family::member_finer;
@@ -25,11 +25,13 @@ use families::well_formed;
 use limits::MEMBERS;
 
 // The answer of question `q` where it fails.
-pub fn refused(q: u8) -> StrataReport
-    ensures { λ r. ⌜ strataIn r ≡ strataRefused q ⌝ }
+pub fn refused(q: u8) -> AnalysisReport
+    ensures { λ r. ⌜ analysisIn r ≡ analysisRefused q ⌝ }
 {
-    StrataReport {
+    AnalysisReport {
         refusal: q,
+        totals: [0i64; MEMBERS],
+        degrees: [0i64; MEMBERS],
         places: [0usize; MEMBERS],
         residuals: [0i64; MEMBERS],
     }
@@ -174,9 +176,9 @@ fn from_16(
     treatment_family: &[u8],
     treatment_size: usize,
     n: usize,
-) -> StrataReport
+) -> AnalysisReport
     requires { ⌜ Formed n (now «plot_family») «plot_size» × Formed n (now «treatment_family») «treatment_size» ⌝ }
-    ensures { λ r. ⌜ strataIn r ≡ question16 n (membersOf n (now («plot_family» .entry)) «plot_size») (membersOf n (now («treatment_family» .entry)) «treatment_size») ⌝ }
+    ensures { λ r. ⌜ analysisIn r ≡ withDegrees n (membersOf n (now («plot_family» .entry)) «plot_size») (membersOf n (now («treatment_family» .entry)) «treatment_size») (question16 n (membersOf n (now («plot_family» .entry)) «plot_size») (membersOf n (now («treatment_family» .entry)) «treatment_size»)) ⌝ }
 {
     let plot_words = coarser_words(plot_family, n, plot_size);
     let places = stratum_places(
@@ -194,8 +196,10 @@ fn from_16(
     let treatment_words = coarser_words(treatment_family, n, treatment_size);
     let numbers = degrees(treatment_family, n, treatment_size, treatment_words);
     let left = residuals(own, plot_size, numbers, places, treatment_size);
-    StrataReport {
+    AnalysisReport {
         refusal: 0,
+        totals: own,
+        degrees: numbers,
         places,
         residuals: left,
     }
@@ -208,9 +212,9 @@ pub fn from_15(
     treatment_family: &[u8],
     treatment_size: usize,
     n: usize,
-) -> StrataReport
+) -> AnalysisReport
     requires { ⌜ (n ≤ 240) × (7680 ≤ length (now «plot_family»)) × (7680 ≤ length (now «treatment_family»)) ⌝ }
-    ensures { λ r. ⌜ strataIn r ≡ question15 n (membersOf n (now («plot_family» .entry)) «plot_size») (membersOf n (now («treatment_family» .entry)) «treatment_size») ⌝ }
+    ensures { λ r. ⌜ analysisIn r ≡ withDegrees n (membersOf n (now («plot_family» .entry)) «plot_size») (membersOf n (now («treatment_family» .entry)) «treatment_size») (question15 n (membersOf n (now («plot_family» .entry)) «plot_size») (membersOf n (now («treatment_family» .entry)) «treatment_size»)) ⌝ }
 {
     if !well_formed(plot_family, n, plot_size) {
         return refused(15);
