@@ -135,7 +135,7 @@ module _ (n : ℕ) (F : Column) where
         (λ j l. ap not (ap₂ _&&_ (column-numbered j l) (hides-numbered j i l h))))
 
 -- tests that agree pass the same numbers
-passing-same : (s t : ℕ → Bool) (i m : ℕ) → ((k : ℕ) → i ≤ k → k < i + m → s k ≡ t k) → passingFrom s i m ≡ passingFrom t i m
+pub passing-same : (s t : ℕ → Bool) (i m : ℕ) → ((k : ℕ) → i ≤ k → k < i + m → s k ≡ t k) → passingFrom s i m ≡ passingFrom t i m
 unfolding passingFrom
 passing-same s t i zero h = refl
 passing-same s t i (suc m) h =

@@ -5,11 +5,11 @@ ghost use mathlib.Core.List.{[]};
 ghost use Prim.Native.Nat.{_+_, _≤_, _<_};
 ghost use lib.ListN.{length, getD};
 ghost use Rattle.rules.specs.Family.{membersOf, columnsFrom, allNumbered};
-ghost use Rattle.rules.specs.Lists.{passingFrom};
+ghost use Rattle.rules.specs.Lists.{passingFrom, bitAt};
 ghost use Rattle.rules.specs.Sheet.{columnNames, header};
-ghost use Rattle.rules.specs.Names.{listed, withCommas, nameByInfimum, nameByColumn, equivalentColumn, nameOf, bytesOf, name-infimum};
+ghost use Rattle.rules.specs.Names.{withCommas, nameByInfimum, nameByColumn, equivalentColumn, nameOf, bytesOf, name-infimum};
 ghost use Rattle.decimal.specs.Writing.{written, placeAfter};
-ghost use Rattle.naming.specs.Columns.{Columns};
+ghost use Rattle.naming.specs.Columns.{Columns, listedBy};
 ghost use Rattle.naming.specs.Listing.{separated};
 ghost use Rattle.naming.specs.Members.{namesWritten, lengthsWritten, nameBy, Slots, extremeName};
 use crate::columns;
@@ -50,18 +50,18 @@ fn put_listed(
     columns: &[u8],
     n: usize,
     count: usize,
-    member: &[u8],
+    above: u32,
     out: &mut [u8],
     at: usize,
 ) -> usize
-    requires { ⌜ Columns n count (now columns) × (length (now member) ≡ n) ⌝ }
-    ensures { λ r. ⌜ r ≡ placeAfter (now (out .entry)) at (withCommas (columnNames mark (header (now (text .entry)))) (passingFrom (listed n (now (member .entry)) (membersOf n (now (columns .entry)) count)) 0 count)) ⌝ }
-    ensures { λ _. ⌜ now (out .exit) ≡ written (now (out .entry)) at (withCommas (columnNames mark (header (now (text .entry)))) (passingFrom (listed n (now (member .entry)) (membersOf n (now (columns .entry)) count)) 0 count)) ⌝ }
+    requires { ⌜ Columns n count (now columns) ⌝ }
+    ensures { λ r. ⌜ r ≡ placeAfter (now (out .entry)) at (withCommas (columnNames mark (header (now (text .entry)))) (passingFrom (listedBy (bitAt above) n (membersOf n (now (columns .entry)) count)) 0 count)) ⌝ }
+    ensures { λ _. ⌜ now (out .exit) ≡ written (now (out .entry)) at (withCommas (columnNames mark (header (now (text .entry)))) (passingFrom (listedBy (bitAt above) n (membersOf n (now (columns .entry)) count)) 0 count)) ⌝ }
 {
     let mut end = at;
     let mut first = true;
     for i in 0..count {
-        if columns::is_listed(columns, n, count, member, i) {
+        if columns::is_listed(columns, n, count, above, i) {
             end = put_next(text, mark, i, first, out, end);
             first = false;
         }
@@ -76,15 +76,15 @@ fn put_infimum(
     columns: &[u8],
     n: usize,
     count: usize,
-    member: &[u8],
+    above: u32,
     out: &mut [u8],
 ) -> usize
-    requires { ⌜ Columns n count (now columns) × (length (now member) ≡ n) ⌝ }
-    ensures { λ r. ⌜ r ≡ placeAfter (now (out .entry)) 0 (bytesOf (columnNames mark (header (now (text .entry)))) (name-infimum (passingFrom (listed n (now (member .entry)) (membersOf n (now (columns .entry)) count)) 0 count))) ⌝ }
-    ensures { λ _. ⌜ now (out .exit) ≡ written (now (out .entry)) 0 (bytesOf (columnNames mark (header (now (text .entry)))) (name-infimum (passingFrom (listed n (now (member .entry)) (membersOf n (now (columns .entry)) count)) 0 count))) ⌝ }
+    requires { ⌜ Columns n count (now columns) ⌝ }
+    ensures { λ r. ⌜ r ≡ placeAfter (now (out .entry)) 0 (bytesOf (columnNames mark (header (now (text .entry)))) (name-infimum (passingFrom (listedBy (bitAt above) n (membersOf n (now (columns .entry)) count)) 0 count))) ⌝ }
+    ensures { λ _. ⌜ now (out .exit) ≡ written (now (out .entry)) 0 (bytesOf (columnNames mark (header (now (text .entry)))) (name-infimum (passingFrom (listedBy (bitAt above) n (membersOf n (now (columns .entry)) count)) 0 count))) ⌝ }
 {
     let from = decimal::write_bytes(b"I(", out, 0);
-    let to = put_listed(text, mark, columns, n, count, member, out, from);
+    let to = put_listed(text, mark, columns, n, count, above, out, from);
     decimal::write_bytes(b")", out, to)
 }
 
@@ -103,9 +103,10 @@ fn by_infimum(
     ensures { λ r. ⌜ r ≡ placeAfter (now (out .entry)) 0 (bytesOf (columnNames mark (header (now (text .entry)))) (nameByInfimum n (membersOf n (now (columns .entry)) count) place (now (member .entry)))) ⌝ }
     ensures { λ _. ⌜ now (out .exit) ≡ written (now (out .entry)) 0 (bytesOf (columnNames mark (header (now (text .entry)))) (nameByInfimum n (membersOf n (now (columns .entry)) count) place (now (member .entry)))) ⌝ }
 {
-    let met = columns::infimum_above(columns, n, count, member);
+    let above = columns::above_word(columns, n, count, member);
+    let met = columns::infimum_above(columns, n, count, above);
     if factor::alike(&met[..n], member) {
-        return put_infimum(text, mark, columns, n, count, member, out);
+        return put_infimum(text, mark, columns, n, count, above, out);
     }
     let at = decimal::write_bytes(b"#", out, 0);
     decimal::write_decimal(place, out, at)
