@@ -6,8 +6,8 @@ use Prim.Native.Nat.{ℕ, zero, suc, _+_, _≤_, _<_, min}
 use native.Mathlib.Nat.{le-of-lt}
 use native.Mathlib.Numerals.{add-one}
 use native.Mathlib.Omega.{arith}
-use lib.ListN.{length, getD, take, drop, set, length-append, length-drop}
-use lib.Seq.{length-take-le, take-suc, drop-cons, set-at, append-snoc, take-nil}
+use lib.ListN.{length, getD, take, drop, set, length-append, length-drop, List·getD-append}
+use lib.Seq.{getD-take, length-take-le, take-suc, drop-cons, set-at, append-snoc, take-nil}
 use Rattle.rules.specs.Factor.{Column, number}
 use Rattle.rules.proofs.Numbering.{length-number, number-take}
 use Rattle.factor.specs.Lent.{plotsOf, overlay}
@@ -26,6 +26,10 @@ module _ {ℓ} {A : Type ℓ} where
 
   pub length-filled : (b s : List A) (i : ℕ) → i ≤ length s → i ≤ length b → length (filled b s i) ≡ length b
   length-filled b s i h k = simp (length-append, length-drop, length-take-le i s h) (omega arith)
+
+  -- an element that is replaced
+  pub getD-filled : (b s : List A) (n i : ℕ) (d : A) → i < n → n ≤ length s → getD (filled b s n) i d ≡ getD s i d
+  getD-filled b s n i d h k = List·getD-append (take n s) (drop n b) d i (rw (length-take-le n s k) h) ∙ getD-take n s i d h
 
   pub take-min : (m : ℕ) (l : List A) → take (min m (length l)) l ≡ take m l
   take-min zero l =

@@ -1,92 +1,75 @@
 -- Laws of how two factors stand to each other, and of the walk that tells it.
 -- Assumes nothing.
-use mathlib.Core.Path.{_≡_, refl, sym, ap, ap₂, _∙_, subst}
-use mathlib.Core.Bool.{Bool, true, false, true≢false, _&&_}
+use mathlib.Core.Path.{_≡_, refl, sym, ap, ap₂, _∙_}
+use mathlib.Core.Bool.{Bool, true, false, _&&_}
 use mathlib.Core.List.{List}
-use Prim.Native.Nat.{ℕ, _+_, _<_}
-use lib.ListN.{length, getD, set, replicate, length-set, length-replicate}
+use Prim.Native.Nat.{ℕ, suc, _+_, _<_}
+use native.Mathlib.Nat.{not-suc-le-zero, suc-inj}
+use native.Mathlib.Numerals.{add-one}
+use native.Mathlib.Omega.{arith}
+use lib.Dec.{eqb}
+use lib.ListN.{length, set, replicate}
+use lib.Seq.{getD-set-same, getD-set-other}
 use borrow.Author.Tests.{eqb-true, eqb-false}
-use Rattle.rules.specs.Factor.{Column, at, same, finer, orthogonal}
+use Rattle.rules.specs.Factor.{Column, at, finer, orthogonal}
 use Rattle.rules.proofs.Numbering.{by-cases}
+use Rattle.rules.proofs.Columns.{Earlier}
 use Rattle.rules.proofs.Classes.{finer-test}
 use Rattle.rules.proofs.Tests.{orthogonal-test, orthogonal-sym}
 use Rattle.rules.proofs.Bounds.{nested-orthogonal}
-use Rattle.rules.proofs.Walks.{Agree, agree-start, agree-new, agree-old, agree-finer, agree-not}
+use Rattle.rules.proofs.Walks.{bool-false}
 use Rattle.factor.specs.declared.standing.Order.{Order}
 use Rattle.factor.specs.declared.standing.Standing.{Standing}
-use Rattle.factor.specs.Standing.{follows, named, equivalent, orderOf, ordered, saysFiner, saysCoarser, standingOf, stands, saysOrthogonal}
+use Rattle.factor.specs.Standing.{equivalent, orderOf, ordered, saysFiner, saysCoarser, standingOf, stands, saysOrthogonal}
+use Rattle.factor.proofs.Table.{getD-zeros}
+use Rattle.factor.proofs.Joining.{one-more}
 
 -- ---- one direction, plot by plot
 
-module _ (F G : Column) (u : ℕ) (t : List ℕ) where
-  pub named-old : same F (getD t (at F u) 0) u ≡ true → t ≡ named F u t
-  unfolding named
-  named-old e = rw (e, named)
+-- the table has the G-label of each F-class with a plot before plot u, plus 1, and 0 for the other labels
+pub record Agrees (F G : Column) (u : ℕ) (t : List ℕ) : Type 0 where
+  known : (p : ℕ) → p < u → at t (at F p) ≡ suc (at G p)
+  only : (x : ℕ) → 0 < at t x → Earlier F u x
 
-  pub named-new : same F (getD t (at F u) 0) u ≡ false → set t (at F u) u ≡ named F u t
-  unfolding named
-  named-new e = rw (e, named)
+pub agrees-none : (F G : Column) → Agrees F G 0 (replicate 256 0)
+agrees-none F G = record {
+  known = λ p h. absurd (not-suc-le-zero h);
+  only = λ x h. absurd (not-suc-le-zero (rw (getD-zeros 256 x) at h));
+}
 
-  pub follows-old : same F (getD t (at F u) 0) u ≡ true → follows F G u t ≡ same G (getD t (at F u) 0) u
-  unfolding follows
-  follows-old e = rw e
+later : {F : Column} {u x : ℕ} → Earlier F u x → Earlier F (u + 1) x
+later e = record { plot = e .plot; less = omega (arith, e .less); label = e .label }
 
-  pub follows-new : same F (getD t (at F u) 0) u ≡ false → follows F G u t ≡ true
-  unfolding follows
-  follows-new e = rw e
+module _ (F G : Column) (u : ℕ) (t : List ℕ) (a : Agrees F G u t) where
+  -- no plot of its F-class was before plot u
+  pub agrees-new : at F u < length t → at t (at F u) ≡ 0 → Agrees F G (u + 1) (set t (at F u) (at G u + 1))
+  agrees-new h z = record {
+    known = one-more (λ (p : ℕ). at (set t (at F u) (at G u + 1)) (at F p) ≡ suc (at G p)) u
+        (λ p hp. let ne : at F p ≡ at F u → ⊥ = λ q. let s : at t (at F p) ≡ 0 = ap (at t) q ∙ z in omega (arith, a .known p hp) in
+        getD-set-other t (at F u) (at F p) (at G u + 1) 0 ne ∙ a .known p hp)
+        (getD-set-same t (at F u) (at G u + 1) 0 h ∙ add-one (at G u));
+    only = λ x hx. by-cases (eqb x (at F u))
+        (λ e. record { plot = u; less = omega arith; label = sym (eqb-true x (at F u) e) })
+        (λ e. later (a .only x (rw (getD-set-other t (at F u) x (at G u + 1) 0 (eqb-false x (at F u) e)) at hx)));
+  }
 
-  pub named-length : length (named F u t) ≡ length t
-  named-length =
-      by-cases (same F (getD t (at F u) 0) u)
-      (λ s. ap length (sym (named-old s)))
-      (λ s. ap length (sym (named-new s)) ∙ length-set t (at F u) u)
+  -- those that were share its G-class
+  pub agrees-old : at t (at F u) ≡ at G u + 1 → Agrees F G (u + 1) t
+  agrees-old e = record {
+    known = one-more (λ (p : ℕ). at t (at F p) ≡ suc (at G p)) u (a .known) (e ∙ add-one (at G u));
+    only = λ x hx. later (a .only x hx);
+  }
 
-  module _ (a : Agree F G u t) where
-    -- plot u passes
-    pub agree-on : at F u < length t → follows F G u t ≡ true → Agree F G (u + 1) (named F u t)
-    agree-on h e =
-        by-cases (same F (getD t (at F u) 0) u)
-        (λ s. subst (Agree F G (u + 1)) (named-old s) (agree-old a (eqb-true _ _ s) (eqb-true _ _ (sym (follows-old s) ∙ e))))
-        (λ s. subst (Agree F G (u + 1)) (named-new s) (agree-new a h (eqb-false _ _ s)))
+  -- one does not
+  pub agrees-not : (n : ℕ) → u < n → (at t (at F u) ≡ 0 → ⊥) → (at t (at F u) ≡ at G u + 1 → ⊥) → finer n F G ≡ false
+  agrees-not n h nz ne =
+      let e = a .only (at F u) (omega (arith, nz)) in
+      bool-false (finer n F G) (λ yes. ne (ap (at t) (sym (e .label)) ∙ a .known (e .plot) (e .less)
+      ∙ ap suc (finer-test n F G .0 yes (e .plot) u (omega (arith, e .less)) h (e .label)) ∙ sym (add-one (at G u))))
 
-    -- it fails
-    pub agree-off : (n : ℕ) → u < n → follows F G u t ≡ false → finer n F G ≡ false
-    agree-off n h e =
-        by-cases (same F (getD t (at F u) 0) u)
-        (λ s. agree-not a n h (eqb-true _ _ s) (eqb-false _ _ (sym (follows-old s) ∙ e)))
-        (λ s. absurd (true≢false (sym (follows-new s) ∙ e)))
-
--- what is told of n plots when u are passed: all these agree, or the test has failed
-abbrev pub Told : ℕ → Column → Column → ℕ → List ℕ → Bool → Type 0
-Told n F G u t true = (length t ≡ 256) × Agree F G u t
-Told n F G u t false = finer n F G ≡ false
-
-pub told-start : (n : ℕ) (F G : Column) → Told n F G 0 (replicate 256 0) true
-told-start n F G = (length-replicate {A = ℕ} 256 0, agree-start F G 256)
-
-module _ (n : ℕ) (F G : Column) (u : ℕ) (t : List ℕ) where
-  -- plot u is asked
-  pub told-step : {t′ : List ℕ} {b′ : Bool} → t′ ≡ named F u t → b′ ≡ follows F G u t → Told n F G u t true → u < n → at F u < 256 → Told n F G (u + 1) t′ b′
-  told-step p q a h k = rw (p, q) here
-    where
-      here : Told n F G (u + 1) (named F u t) (follows F G u t)
-      here =
-          by-cases (follows F G u t)
-          (λ e. subst (Told n F G (u + 1) (named F u t)) (sym e) (named-length F G u t ∙ a .0, agree-on F G u t (a .1) (rw (a .0) k) e))
-          (λ e. subst (Told n F G (u + 1) (named F u t)) (sym e) (agree-off F G u t (a .1) n h e))
-
-  -- a test that has failed
-  pub told-false : (b : Bool) → b ≡ false → Told n F G u t b → finer n F G ≡ false
-  told-false true e a = absurd (true≢false e)
-  told-false false e a = a
-
-  -- is not asked again
-  pub told-stay : (t′ : List ℕ) {b b′ : Bool} → b′ ≡ b → b ≡ false → Told n F G u t b → Told n F G (u + 1) t′ b′
-  told-stay t′ {b} {b′} p e a = subst (Told n F G (u + 1) t′) (sym (p ∙ e)) (told-false b e a)
-
-pub told-end : (n : ℕ) (F G : Column) (t : List ℕ) (b : Bool) → Told n F G n t b → b ≡ finer n F G
-told-end n F G t true a = sym (agree-finer (a .1))
-told-end n F G t false a = sym a
+-- all plots are passed
+pub agrees-all : (n : ℕ) (F G : Column) (t : List ℕ) → Agrees F G n t → finer n F G ≡ true
+agrees-all n F G t a = finer-test n F G .1 (λ u v hu hv s. suc-inj (sym (a .known u hu) ∙ ap (at t) s ∙ a .known v hv))
 
 -- ---- what an order and a standing say
 

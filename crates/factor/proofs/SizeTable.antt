@@ -16,6 +16,7 @@ use Rattle.rules.proofs.Numbering.{by-cases}
 use Rattle.rules.proofs.Tests.{count-yes, count-no, uniform-test}
 use Rattle.rules.proofs.Walks.{bool-false, count-le}
 use Rattle.rules.proofs.Sums.{Some, nowhere, somewhere, some}
+use Rattle.factor.specs.Joining.{Below}
 use Rattle.factor.specs.Sizes.{tabulate, labelled, sizes}
 
 -- ---- lists given by their elements
@@ -88,11 +89,11 @@ module _ (F : Column) {t : List ℕ} (e : t ≡ sizes F) (bytes : (u : ℕ) → 
   sizes-some u h z = count-some (length F) _ u h (eq-eqb (at F u) (at F u) refl) (sym (sizes-at F e u (bytes u)) ∙ z)
 
   -- each label has no plot, or as many as that of the first plot
-  pub one-size-yes : ((x : ℕ) → x < 256 → (getD t x 0 ≡ 0 → ⊥) → getD t x 0 ≡ getD t (at F 0) 0) → uniform (length F) F ≡ true
-  one-size-yes same = uniform-test (length F) F .1 (λ u v hu hv. each u hu ∙ sym (each v hv))
+  pub one-size-yes : (top : ℕ) → Below top F → ((x : ℕ) → x < top → (getD t x 0 ≡ 0 → ⊥) → getD t x 0 ≡ getD t (at F 0) 0) → uniform (length F) F ≡ true
+  one-size-yes top below same = uniform-test (length F) F .1 (λ u v hu hv. each u hu ∙ sym (each v hv))
     where
       each : (u : ℕ) → u < length F → classSize (length F) F u ≡ getD t (at F 0) 0
-      each u h = sym (sizes-at F e u (bytes u)) ∙ same (at F u) (bytes u) (sizes-some u h)
+      each u h = sym (sizes-at F e u (bytes u)) ∙ same (at F u) (below u h) (sizes-some u h)
 
   -- one has another number of plots
   pub one-size-no : 0 < length F → (x : ℕ) → x < 256 → (getD t x 0 ≡ 0 → ⊥) → (getD t x 0 ≡ getD t (at F 0) 0 → ⊥) → uniform (length F) F ≡ false

@@ -1,20 +1,43 @@
 -- Tables over labels for the supremum.
 -- Assumes nothing.
-use mathlib.Core.List.{List, [], _∷_, map}
-use Prim.Native.Nat.{ℕ}
-use lib.ListN.{set, replicate}
-use Rattle.rules.specs.Factor.{Column, at}
+use mathlib.Core.Path.{_≡_}
+use mathlib.Core.List.{List, map, _++_}
+use Prim.Native.Nat.{ℕ, _≤_, _<_}
+use lib.ListN.{length, take, drop}
+use Rattle.rules.specs.Factor.{Column, at, Same, relabel}
 
--- a table over labels with nothing entered
-unfoldable pub blank : List ℕ
-blank = replicate 256 0
+-- every label of F is below top, or none is below low
+abbrev pub Below : ℕ → Column → Type 0
+Below top F = (u : ℕ) → u < length F → at F u < top
 
--- the table t with the F-label of the first plot of each G-class, at the label of that class
-unfoldable pub firsts : Column → Column → List ℕ → List ℕ
-firsts [] G t = t
-firsts (x ∷ F) [] t = t
-firsts (x ∷ F) (y ∷ G) t = set (firsts F G t) y x
+abbrev pub NotBelow : ℕ → Column → Type 0
+NotBelow low F = (u : ℕ) → u < length F → low ≤ at F u
+
+-- each label from low on is its own entry, or each label of F
+abbrev pub OwnFrom : ℕ → List ℕ → Type 0
+OwnFrom low t = (x : ℕ) → low ≤ x → x < 256 → at t x ≡ x
+
+abbrev pub Own : Column → List ℕ → Type 0
+Own F t = (u : ℕ) → u < length F → at t (at F u) ≡ at F u
+
+-- the table t whose entries of the labels below top are relabelled: those that are a become b
+unfoldable pub relabelled : ℕ → ℕ → ℕ → List ℕ → List ℕ
+unfolding relabel
+relabelled top a b t = take top (relabel a b t) ++ drop top t
+
+-- the labels below top have one entry
+abbrev pub OneEntry : ℕ → List ℕ → Type 0
+OneEntry top t = (x y : ℕ) → x < top → y < top → at t x ≡ at t y
 
 -- the entry of each plot's label
 unfoldable pub spread : List ℕ → Column → Column
 spread t F = map (at t) F
+
+-- the values that h gives to labels of F are one where plots share a class of G
+abbrev pub Links : Column → Column → (ℕ → ℕ) → Type 0
+Links F G h = (u v : ℕ) → u < length F → v < length F → Same G u v → h (at F u) ≡ h (at F v)
+
+-- the entries in t are one where plots share a class of G, and for no other labels of F than this makes one
+pub record Joins (F G : Column) (t : List ℕ) : Type 0 where
+  pub links : Links F G (at t)
+  pub least : (h : ℕ → ℕ) → Links F G h → (u v : ℕ) → u < length F → v < length F → at t (at F u) ≡ at t (at F v) → h (at F u) ≡ h (at F v)

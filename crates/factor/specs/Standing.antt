@@ -1,11 +1,9 @@
 -- Tests of two lent columns, and how two factors stand to each other.
 -- Assumes nothing.
-use mathlib.Core.Bool.{Bool, true, false, not, _&&_, _||_}
-use mathlib.Core.List.{List}
+use mathlib.Core.Bool.{Bool, true, false, _&&_}
 use Prim.Native.Nat.{ℕ, _*_}
 use lib.Dec.{eqb}
-use lib.ListN.{getD, set}
-use Rattle.rules.specs.Factor.{Column, at, same, every, finer, classSize, orthogonal}
+use Rattle.rules.specs.Factor.{Column, every, finer, classSize, orthogonal}
 use Rattle.factor.specs.declared.standing.Order.{Order}
 use Rattle.factor.specs.declared.standing.Order.the-variants as order
 use Rattle.factor.specs.declared.standing.Standing.{Standing}
@@ -20,16 +18,6 @@ testCommon test F G = onCommon (test (common F G)) F G
 unfoldable pub balanced : ℕ → Column → Column → Column → Column → Bool
 unfolding every classSize
 balanced n A B F G = every n (λ u. eqb (classSize n A u * classSize n B u) (classSize n F u * classSize n G u))
-
--- ---- one plot of each class stands for it: the table t names it at the label of the class
-
--- plot u shares a G-class with the plot named for its F-class, if one is named
-unfoldable pub follows : Column → Column → ℕ → List ℕ → Bool
-follows F G u t = not (same F (getD t (at F u) 0) u) || same G (getD t (at F u) 0) u
-
--- the table with plot u named for its F-class, if none was
-unfoldable pub named : Column → ℕ → List ℕ → List ℕ
-named F u t = elim (same F (getD t (at F u) 0) u) [ true ↦ t | false ↦ set t (at F u) u ]
 
 -- ---- how two factors stand to each other
 

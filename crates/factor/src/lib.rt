@@ -1,6 +1,8 @@
 // Factors as columns, one label a plot. An input column is a slice, an output column an array; at most 240 plots are treated.
 
+mod cells;
 mod join;
+mod labels;
 mod meet;
 mod numbering;
 mod order;

@@ -1,10 +1,11 @@
 // Sizes of the classes of a column.
 ghost use mathlib.Core.Path.{_≡_};
-ghost use Prim.Native.Nat.{_≤_, _<_};
+ghost use Prim.Native.Nat.{_*_, _≤_, _<_};
 ghost use lib.ListN.{length};
 ghost use Rattle.rules.specs.Factor.{uniform};
 ghost use Rattle.factor.specs.Lent.{plotsOf};
 ghost use Rattle.factor.specs.Sizes.{sizes};
+use crate::labels::past_labels;
 use crate::plots::numbered_plots;
 
 // How many plots have each label, in one walk.
@@ -38,7 +39,8 @@ fn one_size(f: &[u8]) -> bool
 {
     let table = sizes(f);
     let first = table[f[0] as usize];
-    for x in 0..table.len() {
+    let top = past_labels(f);
+    for x in 0..top {
         let size = table[x];
         if size != 0 {
             if size != first {
@@ -47,4 +49,11 @@ fn one_size(f: &[u8]) -> bool
         }
     }
     true
+}
+
+// The product of two sizes.
+pub(crate) fn product(x: u8, y: u8) -> u16
+    ensures { λ r. ⌜ r ≡ x * y ⌝ }
+{
+    x as u16 * y as u16
 }

@@ -1,12 +1,16 @@
 // How two columns stand to each other.
 ghost use mathlib.Core.Path.{_≡_};
-ghost use Prim.Native.Nat.{ℕ, _*_, _≤_, _<_};
+ghost use Prim.Native.Nat.{ℕ, _≤_, _<_};
 ghost use lib.ListN.{length, getD};
 ghost use Rattle.rules.specs.Factor.{finer, orthogonal};
-ghost use Rattle.factor.specs.Standing.{testCommon, balanced, follows, named, equivalent, orderOf, ordered, stands};
+ghost use Rattle.factor.specs.Standing.{testCommon, balanced, equivalent, orderOf, ordered, stands};
+use crate::cells::CELLS;
+use crate::cells::orthogonal_cells;
 use crate::join::supremum;
+use crate::labels::past_labels;
 use crate::meet::infimum;
 use crate::plots::common_plots;
+use crate::sizes::product;
 use crate::sizes::sizes;
 use limits::PLOTS;
 
@@ -77,6 +81,19 @@ pub fn orthogonal(f: &[u8], g: &[u8]) -> bool
     ensures { λ r. ⌜ r ≡ testCommon orthogonal (now (f .entry)) (now (g .entry)) ⌝ }
 {
     let n = common_plots(f.len(), g.len());
+    let a = past_labels(&f[..n]);
+    let b = past_labels(&g[..n]);
+    if a * b <= CELLS {
+        return orthogonal_cells(&f[..n], &g[..n], a, b);
+    }
+    orthogonal_plots(f, g)
+}
+
+// The same for any labels: infimum and supremum are numbered.
+fn orthogonal_plots(f: &[u8], g: &[u8]) -> bool
+    ensures { λ r. ⌜ r ≡ testCommon orthogonal (now (f .entry)) (now (g .entry)) ⌝ }
+{
+    let n = common_plots(f.len(), g.len());
     let mut below = [0u8; PLOTS];
     infimum(f, g, &mut below);
     let mut above = [0u8; PLOTS];
@@ -84,57 +101,33 @@ pub fn orthogonal(f: &[u8], g: &[u8]) -> bool
     balanced(&below[..n], &above[..n], &f[..n], &g[..n])
 }
 
-// Whether plot `u` shares a class of `g` with the plot that `first` names for its class of `f`; if none is named, it is the one.
-fn follows(first: &mut [u8; 256], f: &[u8], g: &[u8], u: usize) -> bool
-    requires { ⌜ (u < length (now f)) × (length (now f) ≤ 240) × (length (now g) ≡ length (now f)) × (length (now first) ≡ 256) × ((x : ℕ) → getD (now first) x 0 ≤ u) ⌝ }
-    ensures answer { λ r. ⌜ r ≡ follows (now (f .entry)) (now (g .entry)) u (now (first .entry)) ⌝ }
-    ensures table { λ _. ⌜ now (first .exit) ≡ named (now (f .entry)) u (now (first .entry)) ⌝ }
-{
-    let x = f[u];
-    let v = first[x as usize] as usize;
-    if f[v] != x {
-        first[x as usize] = u as u8;
-        return true;
-    }
-    g[v] == g[u]
-}
-
-// `finer` for two columns of one length, in one walk.
+// `finer` for two columns of one length, in one walk: the table has the label in `g` of each class of `f` that was met, plus 1.
 fn agrees(f: &[u8], g: &[u8]) -> bool
-    requires { ⌜ (length (now f) ≤ 240) × (length (now g) ≡ length (now f)) ⌝ }
+    requires { ⌜ length (now g) ≡ length (now f) ⌝ }
     ensures { λ r. ⌜ r ≡ finer (length (now (f .entry))) (now (f .entry)) (now (g .entry)) ⌝ }
 {
-    let mut first = [0u8; 256];
+    let mut table = [0u16; 256];
     for u in 0..f.len() {
-        if !follows(&mut first, f, g, u) {
-            return false;
+        let x = f[u] as usize;
+        let y = g[u] as u16 + 1;
+        let z = table[x];
+        if z != y {
+            if z != 0 {
+                return false;
+            }
+            table[x] = y;
         }
     }
     true
 }
 
-// `order_of` for two columns of one length, in one walk: each test goes on as long as it holds.
+// `order_of` for two columns of one length. Each walk ends at the first plot that tells it.
 fn order_whole(f: &[u8], g: &[u8]) -> Order
-    requires { ⌜ (length (now f) ≤ 240) × (length (now g) ≡ length (now f)) ⌝ }
+    requires { ⌜ length (now g) ≡ length (now f) ⌝ }
     ensures { λ r. ⌜ r ≡ ordered (length (now (f .entry))) (now (f .entry)) (now (g .entry)) ⌝ }
 {
-    let mut by_f = [0u8; 256];
-    let mut by_g = [0u8; 256];
-    let mut finer = true;
-    let mut coarser = true;
-    for u in 0..f.len() {
-        if finer {
-            finer = follows(&mut by_f, f, g, u);
-        }
-        if coarser {
-            coarser = follows(&mut by_g, g, f, u);
-        }
-        if !finer {
-            if !coarser {
-                return Order::Neither;
-            }
-        }
-    }
+    let finer = agrees(f, g);
+    let coarser = agrees(g, f);
     order_from(finer, coarser)
 }
 
@@ -171,11 +164,4 @@ fn balanced(a: &[u8], b: &[u8], f: &[u8], g: &[u8]) -> bool
         }
     }
     true
-}
-
-// The product of two sizes.
-fn product(x: u8, y: u8) -> u16
-    ensures { λ r. ⌜ r ≡ x * y ⌝ }
-{
-    x as u16 * y as u16
 }

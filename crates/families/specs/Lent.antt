@@ -1,13 +1,13 @@
 -- A family in lent memory, and question 15 of it.
 -- Assumes nothing.
-use mathlib.Core.Bool.{Bool, _&&_}
+use mathlib.Core.Bool.{Bool, true, false, _&&_}
 use mathlib.Core.List.{List}
 use Prim.Native.Nat.{ℕ, _*_}
 use lib.Dec.{leb}
 use lib.ListN.{length, take, drop}
 use Rattle.rules.specs.Limits.{mostPlots, familyBytes}
-use Rattle.rules.specs.Factor.{Column}
-use Rattle.rules.specs.Family.{membersOf, wellFormed}
+use Rattle.rules.specs.Factor.{Column, number, classes}
+use Rattle.rules.specs.Family.{alike, membersOf, wellFormed}
 
 -- the member at place i, from 0, of a family buffer
 abbrev pub columnAt : ℕ → List ℕ → ℕ → Column
@@ -17,3 +17,8 @@ columnAt n buffer i = take n (drop (240 * i) buffer)
 unfoldable pub formedIn : ℕ → List ℕ → ℕ → Bool
 unfolding membersOf wellFormed
 formedIn n buffer size = leb n mostPlots && leb familyBytes (length buffer) && wellFormed (membersOf n buffer size)
+
+-- how many classes a column has that is numbered by first appearance; 241, more than any has, where it is not
+unfoldable pub numberedClasses : Column → ℕ
+unfolding alike number classes
+numberedClasses F = elim (alike (number F) F) [ true ↦ classes F | false ↦ 241 ]

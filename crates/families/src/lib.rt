@@ -4,13 +4,16 @@ ghost use mathlib.Core.Bool.{_&&_};
 ghost use Prim.Native.Nat.{_≤_, _<_};
 ghost use lib.Dec.{leb};
 ghost use lib.ListN.{length};
-ghost use Rattle.rules.specs.Factor.{number};
-ghost use Rattle.rules.specs.Family.{membersOf, alike, before, allNumbered, ordered, wellFormed};
+ghost use Rattle.rules.specs.Factor.{classes};
+ghost use Rattle.rules.specs.Family.{membersOf, before, allNumbered, ordered, wellFormed};
 ghost use Rattle.rules.specs.Design.{plotsWithin};
-ghost use Rattle.families.specs.Lent.{columnAt, formedIn};
+ghost use Rattle.families.specs.Lent.{columnAt, formedIn, numberedClasses};
 use limits::FAMILY;
 use limits::MEMBERS;
 use limits::PLOTS;
+
+// Stands for the number of classes of a column that is not numbered by first appearance.
+const UNNUMBERED: usize = PLOTS + 1;
 
 // 6, of one family.
 pub fn within(plots: usize, bytes: usize) -> bool
@@ -38,50 +41,69 @@ pub fn well_formed(family: &[u8], plots: usize, size: usize) -> bool
     formed(family, plots, size)
 }
 
-// Whether a member is numbered by first appearance.
-fn member_numbered(family: &[u8], i: usize, n: usize) -> bool
+// How many classes a column has that is numbered by first appearance: its largest number.
+fn numbered_classes(column: &[u8]) -> usize
+    ensures { λ r. ⌜ r ≡ numberedClasses (now (column .entry)) ⌝ }
+{
+    let mut k: usize = 0;
+    for u in 0..column.len() {
+        let x = column[u] as usize;
+        if x == 0 {
+            return UNNUMBERED;
+        }
+        if k + 1 < x {
+            return UNNUMBERED;
+        }
+        if k < x {
+            k = x;
+        }
+    }
+    k
+}
+
+// The same of a member.
+fn member_classes(family: &[u8], i: usize, n: usize) -> usize
     requires { ⌜ (n ≤ 240) × (7680 ≤ length (now family)) × (i < 32) ⌝ }
-    ensures { λ r. ⌜ r ≡ alike (number (columnAt n (now (family .entry)) i)) (columnAt n (now (family .entry)) i) ⌝ }
+    ensures { λ r. ⌜ r ≡ numberedClasses (columnAt n (now (family .entry)) i) ⌝ }
 {
     let a = PLOTS * i;
     let e = a + n;
-    factor::is_numbered(&family[a..e])
+    numbered_classes(&family[a..e])
 }
 
-// Whether member `i` stands before member `j` by the order of members.
-fn member_before(family: &[u8], i: usize, j: usize, n: usize) -> bool
-    requires { ⌜ (n ≤ 240) × (7680 ≤ length (now family)) × (i < 32) × (j < 32) ⌝ }
+// Whether member `i`, of `k` classes, stands before member `j`, of `m`: at a tie the columns decide.
+fn member_before(family: &[u8], i: usize, k: usize, j: usize, m: usize, n: usize) -> bool
+    requires { ⌜ (n ≤ 240) × (7680 ≤ length (now family)) × (i < 32) × (j < 32) × (k ≡ classes (columnAt n (now family) i)) × (m ≡ classes (columnAt n (now family) j)) ⌝ }
     ensures { λ r. ⌜ r ≡ before (columnAt n (now (family .entry)) i) (columnAt n (now (family .entry)) j) ⌝ }
 {
+    if k != m {
+        return k < m;
+    }
     let a = PLOTS * i;
     let b = PLOTS * j;
     let c = a + n;
     let d = b + n;
-    factor::before(&family[a..c], &family[b..d])
+    factor::smaller(&family[a..c], &family[b..d])
 }
 
-// Whether every member is numbered by first appearance.
-fn all_numbered(family: &[u8], n: usize, size: usize) -> bool
-    requires { ⌜ (n ≤ 240) × (7680 ≤ length (now family)) × (size ≤ 32) ⌝ }
-    ensures { λ r. ⌜ r ≡ allNumbered (membersOf n (now (family .entry)) size) ⌝ }
-{
-    for i in 0..size {
-        if !member_numbered(family, i, n) {
-            return false;
-        }
-    }
-    true
-}
-
-// Whether each member stands before the next.
-fn in_order(family: &[u8], n: usize, size: usize) -> bool
+// Whether every member is numbered by first appearance and stands before the next. Each is counted once.
+fn numbered_in_order(family: &[u8], n: usize, size: usize) -> bool
     requires { ⌜ (n ≤ 240) × (7680 ≤ length (now family)) × (1 ≤ size) × (size ≤ 32) ⌝ }
-    ensures { λ r. ⌜ r ≡ ordered (membersOf n (now (family .entry)) size) ⌝ }
+    ensures { λ r. ⌜ r ≡ allNumbered (membersOf n (now (family .entry)) size) && ordered (membersOf n (now (family .entry)) size) ⌝ }
 {
-    for i in 0..size - 1 {
-        if !member_before(family, i, i + 1, n) {
+    let mut k = member_classes(family, 0, n);
+    if k == UNNUMBERED {
+        return false;
+    }
+    for i in 1..size {
+        let m = member_classes(family, i, n);
+        if m == UNNUMBERED {
             return false;
         }
+        if !member_before(family, i - 1, k, i, m, n) {
+            return false;
+        }
+        k = m;
     }
     true
 }
@@ -97,8 +119,5 @@ fn formed(family: &[u8], n: usize, size: usize) -> bool
     if MEMBERS < size {
         return false;
     }
-    if !all_numbered(family, n, size) {
-        return false;
-    }
-    in_order(family, n, size)
+    numbered_in_order(family, n, size)
 }

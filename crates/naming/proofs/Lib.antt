@@ -4,3 +4,4 @@ pub mod Tables
 pub mod Listing
 pub mod Rules
 pub mod Entry
+pub mod Members

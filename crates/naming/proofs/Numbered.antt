@@ -6,12 +6,12 @@ use mathlib.Core.List.{List, [], _∷_, map}
 use Prim.Native.Nat.{ℕ, zero, suc, _+_, _≤_, _<_}
 use native.Mathlib.Nat.{zero-add}
 use native.Mathlib.Omega.{arith}
-use lib.Dec.{eqb, ltb}
+use lib.Dec.{ltb}
 use lib.ListN.{length, getD}
-use Rattle.rules.specs.Factor.{Column, Finer, Equivalent, every, finer, coarser, number, numbering, classes, infimum}
+use Rattle.rules.specs.Factor.{Column, Equivalent, every, finer, coarser, number, numbering, infimum}
 use Rattle.rules.specs.Family.{alike}
 use Rattle.rules.specs.Lists.{passingFrom}
-use Rattle.rules.specs.Names.{Name, name-U, name-E, name-infimum, equivalentColumn, infimumAbove, columnAbove, hides, listed, nameByInfimum, nameByColumn, nameOf}
+use Rattle.rules.specs.Names.{name-infimum, equivalentColumn, infimumAbove, columnAbove, hides, listed, nameByInfimum, nameByColumn}
 use Rattle.rules.proofs.Numbering.{by-cases, length-number, number-same, number-number, number-infimum}
 use Rattle.rules.proofs.Bounds.{numbered-equal, length-infimum′, infimum-same′}
 use Rattle.rules.proofs.Bits.{every-ext}
@@ -135,7 +135,7 @@ module _ (n : ℕ) (F : Column) where
         (λ j l. ap not (ap₂ _&&_ (column-numbered j l) (hides-numbered j i l h))))
 
 -- tests that agree pass the same numbers
-passing-same : (s t : ℕ → Bool) (i m : ℕ) → ((k : ℕ) → i ≤ k → k < i + m → s k ≡ t k) → passingFrom s i m ≡ passingFrom t i m
+pub passing-same : (s t : ℕ → Bool) (i m : ℕ) → ((k : ℕ) → i ≤ k → k < i + m → s k ≡ t k) → passingFrom s i m ≡ passingFrom t i m
 unfolding passingFrom
 passing-same s t i zero h = refl
 passing-same s t i (suc m) h =
@@ -160,3 +160,7 @@ module _ (n : ℕ) (F : Column) (Cs : List Column) (on : On n Cs) where
   unfolding nameByColumn
   column-name-numbered place zero = infimum-name-numbered place
   column-name-numbered place (suc c) = refl
+
+  -- the name by the lowest equivalent column, or by an infimum
+  pub by-column-numbered : (place : ℕ) → nameByColumn n (map number Cs) place F (equivalentColumn F 0 (map number Cs)) ≡ nameByColumn n Cs place F (equivalentColumn F 0 Cs)
+  by-column-numbered place = ap (nameByColumn n (map number Cs) place F) (equivalent-numbered F 0 Cs) ∙ column-name-numbered place (equivalentColumn F 0 Cs)

@@ -4,25 +4,26 @@ use mathlib.Core.Path.{_≡_, refl, sym, ap, ap₂, _∙_}
 use mathlib.Core.Bool.{Bool, true, false, not, _&&_}
 use mathlib.Core.List.{List, [], _∷_, _++_, map, map-append}
 use Prim.Native.Nat.{ℕ, zero, suc, _+_, _-_, _*_, _≤_, _<_, min}
-use native.Mathlib.Nat.{not-suc-le-zero, le-of-suc-le-suc, le-of-eq}
+use native.Mathlib.Nat.{add-zero, zero-add, not-suc-le-zero, le-of-suc-le-suc, le-of-eq}
 use native.Mathlib.Numerals.{add-one}
 use native.Mathlib.Omega.{arith}
 use lib.Dec.{ltb}
-use lib.ListN.{length, getD, take, drop, replicate, drop-of-length-le, length-append, length-take, length-drop}
+use lib.ListN.{length, getD, take, drop, replicate, drop-of-length-le, length-append, length-drop}
 use lib.Seq.{drop-cons, take-all, take-at, take-length, length-take-le}
-use Rattle.rules.specs.Factor.{Column, every, finer, coarser, number, infimum, universal}
+use Rattle.rules.specs.Factor.{Column, every, finer, number, infimum, universal}
 use Rattle.rules.specs.Family.{alike, columnsFrom, membersOf, allNumbered}
 use Rattle.rules.specs.Names.{equivalentColumn, infimumAbove, columnAbove, hides, listed}
-use Rattle.rules.proofs.Bits.{every-suc}
+use Rattle.rules.specs.Lists.{wordOf, bitAt, passingFrom}
+use Rattle.rules.proofs.Words.{bit-word}
+use Rattle.rules.proofs.Bits.{every-suc, every-ext}
 use Rattle.rules.proofs.Buffer.{put, members-add, columns-snoc, length-columns, length-members, column-at, member-is}
 use Rattle.rules.proofs.Members.{alike-self, clash}
 use Rattle.rules.proofs.Numbering.{by-cases, length-number, number-number}
 use Rattle.rules.proofs.Tests.{every-at}
 use Rattle.factor.specs.Lent.{common, onCommon, overlay, plotsOf}
 use Rattle.decimal.specs.Writing.{fits, written}
-use Rattle.families.specs.Lent.{columnAt}
-use Rattle.naming.specs.Columns.{outdone, numberedFrom}
-use Rattle.naming.proofs.Numbered.{On}
+use Rattle.naming.specs.Columns.{outdone, listedBy, infimumBy, numberedFrom}
+use Rattle.naming.proofs.Numbered.{On, passing-same}
 
 -- ---- lent parts and output arrays
 
@@ -123,48 +124,82 @@ module _ (F : Column) (Cs : List Column) (c : ℕ) where
   unfolding equivalentColumn
   equivalent-end h = ap (equivalentColumn F c) (drop-of-length-le Cs h)
 
--- ---- the infimum of the columns above, from c on
+-- ---- the infimum of the columns that pass, from c on
 
-module _ (n : ℕ) (F : Column) (Cs : List Column) where
-  pub above-none : (c : ℕ) → length Cs ≤ c → infimumAbove n F (drop c Cs) ≡ universal n
-  unfolding infimumAbove
-  above-none c h = ap (infimumAbove n F) (drop-of-length-le Cs h)
+module _ (t : ℕ → Bool) (n : ℕ) (Cs : List Column) where
+  pub by-none : (c : ℕ) → length Cs ≤ c → infimumBy t n c (drop c Cs) ≡ universal n
+  unfolding infimumBy
+  by-none c h = ap (infimumBy t n c) (drop-of-length-le Cs h)
 
-  pub above-here : (c : ℕ) → c < length Cs → finer n F (getD Cs c []) ≡ true → infimumAbove n F (drop c Cs) ≡ infimum (getD Cs c []) (infimumAbove n F (drop (suc c) Cs))
-  unfolding infimumAbove
-  above-here c h e = ap (infimumAbove n F) (drop-cons Cs c [] h) ∙ rw (e, infimumAbove)
+  pub by-here : (c : ℕ) → c < length Cs → t c ≡ true → infimumBy t n c (drop c Cs) ≡ infimum (getD Cs c []) (infimumBy t n (suc c) (drop (suc c) Cs))
+  unfolding infimumBy
+  by-here c h e = ap (infimumBy t n c) (drop-cons Cs c [] h) ∙ rw (e, infimumBy)
 
-  pub above-past : (c : ℕ) → c < length Cs → finer n F (getD Cs c []) ≡ false → infimumAbove n F (drop c Cs) ≡ infimumAbove n F (drop (suc c) Cs)
-  unfolding infimumAbove
-  above-past c h e = ap (infimumAbove n F) (drop-cons Cs c [] h) ∙ rw (e, infimumAbove)
+  pub by-past : (c : ℕ) → c < length Cs → t c ≡ false → infimumBy t n c (drop c Cs) ≡ infimumBy t n (suc c) (drop (suc c) Cs)
+  unfolding infimumBy
+  by-past c h e = ap (infimumBy t n c) (drop-cons Cs c [] h) ∙ rw (e, infimumBy)
+
+-- of the columns above a member
+pub infimum-by : (t : ℕ → Bool) (n : ℕ) (F : Column) (i : ℕ) (Cs : List Column) → ((j : ℕ) → j < length Cs → t (i + j) ≡ finer n F (getD Cs j [])) → infimumBy t n i Cs ≡ infimumAbove n F Cs
+unfolding infimumBy infimumAbove
+infimum-by t n F i [] h = refl
+infimum-by t n F i (C ∷ Cs) h =
+    let here : t i ≡ finer n F C = sym (ap t (add-zero i)) ∙ h 0 (omega arith) in
+    let more : infimumBy t n (suc i) Cs ≡ infimumAbove n F Cs = infimum-by t n F (suc i) Cs (λ j l. ap t (across i j) ∙ h (suc j) (omega arith)) in
+    by-cases (finer n F C) (λ e. rw (here, e, infimumBy, infimumAbove) (ap (infimum C) more)) (λ e. rw (here, e, infimumBy, infimumAbove) more)
+  where
+    across : (i j : ℕ) → suc i + j ≡ i + suc j
+    across i j = omega arith
 
 -- ---- the listed columns
 
 -- column j does not keep column i from the list
-abbrev pub allows : ℕ → Column → List Column → ℕ → ℕ → Bool
-allows n F Cs i j = not (columnAbove n F Cs j && hides n Cs j i)
+abbrev pub allows : (ℕ → Bool) → ℕ → List Column → ℕ → ℕ → Bool
+allows t n Cs i j = not (t j && hides n Cs j i)
 
-module _ (n : ℕ) (F : Column) (Cs : List Column) (i : ℕ) where
-  pub listed-not : finer n F (getD Cs i []) ≡ false → listed n F Cs i ≡ false
-  unfolding listed columnAbove
+-- of the columns above a member
+pub listed-by : (t : ℕ → Bool) (n : ℕ) (F : Column) (Cs : List Column) → ((j : ℕ) → j < length Cs → t j ≡ columnAbove n F Cs j) → (i : ℕ) → i < length Cs → listedBy t n Cs i ≡ listed n F Cs i
+unfolding listedBy listed
+listed-by t n F Cs h i l =
+    ap₂ _&&_ (h i l)
+    (every-ext (λ j. not (t j && hides n Cs j i)) (λ j. not (columnAbove n F Cs j && hides n Cs j i)) (length Cs) (λ j k. ap (λ (b : Bool). not (b && hides n Cs j i)) (h j k)))
+
+module _ (t : ℕ → Bool) (n : ℕ) (Cs : List Column) (i : ℕ) where
+  pub listed-not : t i ≡ false → listedBy t n Cs i ≡ false
+  unfolding listedBy
   listed-not e = rw e
 
-  pub listed-if : finer n F (getD Cs i []) ≡ true → listed n F Cs i ≡ every (length Cs) (allows n F Cs i)
-  unfolding listed columnAbove
+  pub listed-if : t i ≡ true → listedBy t n Cs i ≡ every (length Cs) (allows t n Cs i)
+  unfolding listedBy
   listed-if e = rw e
 
-  allows-is : (j : ℕ) → allows n F Cs i j ≡ not (outdone n F (getD Cs j []) (getD Cs i []) (ltb j i))
-  unfolding columnAbove hides outdone
+  allows-is : (j : ℕ) → allows t n Cs i j ≡ not (outdone (t j) n (getD Cs j []) (getD Cs i []) (ltb j i))
+  unfolding hides outdone
   allows-is j = refl
 
   -- column j keeps it from the list
-  pub outdone-here : (j : ℕ) → j < length Cs → outdone n F (getD Cs j []) (getD Cs i []) (ltb j i) ≡ true → every (length Cs) (allows n F Cs i) ≡ false
+  pub outdone-here : (j : ℕ) → j < length Cs → outdone (t j) n (getD Cs j []) (getD Cs i []) (ltb j i) ≡ true → every (length Cs) (allows t n Cs i) ≡ false
   outdone-here j h e =
-      by-cases (every (length Cs) (allows n F Cs i))
-      (λ b. clash (every-at (length Cs) (allows n F Cs i) b j h) (allows-is j ∙ ap not e))
+      by-cases (every (length Cs) (allows t n Cs i))
+      (λ b. clash (every-at (length Cs) (allows t n Cs i) b j h) (allows-is j ∙ ap not e))
       (λ b. b)
 
-  pub allowed-here : (j : ℕ) → every j (allows n F Cs i) ≡ true → outdone n F (getD Cs j []) (getD Cs i []) (ltb j i) ≡ false → every (j + 1) (allows n F Cs i) ≡ true
+  pub allowed-here : (j : ℕ) → every j (allows t n Cs i) ≡ true → outdone (t j) n (getD Cs j []) (getD Cs i []) (ltb j i) ≡ false → every (j + 1) (allows t n Cs i) ≡ true
   allowed-here j a e =
-      let p : allows n F Cs i j ≡ true = allows-is j ∙ ap not e in
-      rw add-one (every-suc j (allows n F Cs i) ∙ ap₂ _&&_ p a)
+      let p : allows t n Cs i j ≡ true = allows-is j ∙ ap not e in
+      rw add-one (every-suc j (allows t n Cs i) ∙ ap₂ _&&_ p a)
+
+-- ---- the word of the columns above a member
+
+module _ (w n : ℕ) (F : Column) (Cs : List Column) (count : ℕ) (size : length Cs ≡ count) (is : w ≡ wordOf (columnAbove n F Cs) count) where
+  above-bits : (j : ℕ) → j < length Cs → bitAt w j ≡ columnAbove n F Cs j
+  above-bits j h = ap (λ (x : ℕ). bitAt x j) is ∙ bit-word (columnAbove n F Cs) count j (omega arith)
+
+  -- the infimum of the columns in it
+  pub word-infimum : infimumBy (bitAt w) n 0 Cs ≡ infimumAbove n F Cs
+  unfolding columnAbove
+  word-infimum = infimum-by (bitAt w) n F 0 Cs (λ j h. ap (bitAt w) (zero-add j) ∙ above-bits j h)
+
+  -- the columns listed of those in it
+  pub word-listed : passingFrom (listedBy (bitAt w) n Cs) 0 count ≡ passingFrom (listed n F Cs) 0 count
+  word-listed = passing-same (listedBy (bitAt w) n Cs) (listed n F Cs) 0 count (λ k l r. listed-by (bitAt w) n F Cs above-bits k (omega arith))

@@ -6,9 +6,10 @@ ghost use lib.Dec.{ltb};
 ghost use lib.ListN.{length, take};
 ghost use Rattle.rules.specs.Factor.{finer};
 ghost use Rattle.rules.specs.Family.{membersOf, allNumbered};
-ghost use Rattle.rules.specs.Names.{equivalentColumn, infimumAbove, listed};
+ghost use Rattle.rules.specs.Lists.{wordOf, bitAt};
+ghost use Rattle.rules.specs.Names.{equivalentColumn, columnAbove};
 ghost use Rattle.families.specs.Lent.{columnAt};
-ghost use Rattle.naming.specs.Columns.{Columns, outdone, numberedFrom};
+ghost use Rattle.naming.specs.Columns.{Columns, outdone, listedBy, infimumBy, numberedFrom};
 use limits::Level;
 use limits::PLOTS;
 
@@ -48,12 +49,34 @@ fn is_above(columns: &[u8], n: usize, i: usize, member: &[u8]) -> bool
     factor::finer(member, &columns[a..e])
 }
 
-// Whether column `j` is above the member, and strictly finer than column `i` or equivalent to it and lower.
-fn outdoes(columns: &[u8], n: usize, member: &[u8], j: usize, i: usize) -> bool
-    requires { ⌜ (n ≤ 240) × (1440 ≤ length (now columns)) × (i < 6) × (j < 6) × (length (now member) ≡ n) ⌝ }
-    ensures { λ r. ⌜ r ≡ outdone n (now (member .entry)) (columnAt n (now (columns .entry)) j) (columnAt n (now (columns .entry)) i) (ltb j i) ⌝ }
+// Whether bit `j` of a word is set.
+fn has(word: u32, j: usize) -> bool
+    requires { ⌜ j < 32 ⌝ }
+    ensures { λ r. ⌜ r ≡ bitAt word j ⌝ }
 {
-    if !is_above(columns, n, j, member) {
+    (word >> j) & 1 == 1
+}
+
+// The columns that are coarser than or equivalent to the member: bit i is for column i.
+pub fn above_word(columns: &[u8], n: usize, count: usize, member: &[u8]) -> u32
+    requires { ⌜ Columns n count (now columns) × (length (now member) ≡ n) ⌝ }
+    ensures { λ r. ⌜ r ≡ wordOf (columnAbove n (now (member .entry)) (membersOf n (now (columns .entry)) count)) count ⌝ }
+{
+    let mut word: u32 = 0;
+    for i in 0..count {
+        if is_above(columns, n, i, member) {
+            word = word | (1u32 << i);
+        }
+    }
+    word
+}
+
+// Whether column `j` is in the word, and strictly finer than column `i` or equivalent to it and lower.
+fn outdoes(columns: &[u8], n: usize, above: u32, j: usize, i: usize) -> bool
+    requires { ⌜ (n ≤ 240) × (1440 ≤ length (now columns)) × (i < 6) × (j < 6) ⌝ }
+    ensures { λ r. ⌜ r ≡ outdone (bitAt above j) n (columnAt n (now (columns .entry)) j) (columnAt n (now (columns .entry)) i) (ltb j i) ⌝ }
+{
+    if !has(above, j) {
         return false;
     }
     if !column_finer(columns, n, j, i) {
@@ -65,16 +88,16 @@ fn outdoes(columns: &[u8], n: usize, member: &[u8], j: usize, i: usize) -> bool
     j < i
 }
 
-// Whether column `i` is listed in the name: above the member, with no other above it that is finer, or equivalent and lower.
-pub fn is_listed(columns: &[u8], n: usize, count: usize, member: &[u8], i: usize) -> bool
-    requires { ⌜ Columns n count (now columns) × (i < count) × (length (now member) ≡ n) ⌝ }
-    ensures { λ r. ⌜ r ≡ listed n (now (member .entry)) (membersOf n (now (columns .entry)) count) i ⌝ }
+// Whether column `i` is listed in the name: in the word, with no other in it that is finer, or equivalent and lower.
+pub fn is_listed(columns: &[u8], n: usize, count: usize, above: u32, i: usize) -> bool
+    requires { ⌜ Columns n count (now columns) × (i < count) ⌝ }
+    ensures { λ r. ⌜ r ≡ listedBy (bitAt above) n (membersOf n (now (columns .entry)) count) i ⌝ }
 {
-    if !is_above(columns, n, i, member) {
+    if !has(above, i) {
         return false;
     }
     for j in 0..count {
-        if outdoes(columns, n, member, j, i) {
+        if outdoes(columns, n, above, j, i) {
             return false;
         }
     }
@@ -96,16 +119,16 @@ pub fn equivalent_column(columns: &[u8], n: usize, count: usize, member: &[u8]) 
     0
 }
 
-// The infimum of all columns above the member, in the first `n` bytes. The last column is met first.
-pub fn infimum_above(columns: &[u8], n: usize, count: usize, member: &[u8]) -> [u8; PLOTS]
-    requires { ⌜ Columns n count (now columns) × (length (now member) ≡ n) ⌝ }
-    ensures { λ r. ⌜ take n r ≡ infimumAbove n (now (member .entry)) (membersOf n (now (columns .entry)) count) ⌝ }
+// The infimum of all columns in the word, in the first `n` bytes. The last column is met first.
+pub fn infimum_above(columns: &[u8], n: usize, count: usize, above: u32) -> [u8; PLOTS]
+    requires { ⌜ Columns n count (now columns) ⌝ }
+    ensures { λ r. ⌜ take n r ≡ infimumBy (bitAt above) n 0 (membersOf n (now (columns .entry)) count) ⌝ }
 {
     let mut met = [1u8; PLOTS];
     let mut c = count;
     while 0 < c {
         c -= 1;
-        if is_above(columns, n, c, member) {
+        if has(above, c) {
             let a = PLOTS * c;
             let e = a + n;
             let mut next = [0u8; PLOTS];

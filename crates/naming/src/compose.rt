@@ -5,14 +5,17 @@ ghost use mathlib.Core.List.{[]};
 ghost use Prim.Native.Nat.{_+_, _≤_, _<_};
 ghost use lib.ListN.{length, getD};
 ghost use Rattle.rules.specs.Family.{membersOf, columnsFrom, allNumbered};
-ghost use Rattle.rules.specs.Lists.{passingFrom};
+ghost use Rattle.rules.specs.Lists.{passingFrom, bitAt};
 ghost use Rattle.rules.specs.Sheet.{columnNames, header};
-ghost use Rattle.rules.specs.Names.{listed, withCommas, nameByInfimum, nameByColumn, equivalentColumn, nameOf, bytesOf, name-infimum};
+ghost use Rattle.rules.specs.Names.{withCommas, nameByInfimum, nameByColumn, equivalentColumn, nameOf, bytesOf, name-infimum};
 ghost use Rattle.decimal.specs.Writing.{written, placeAfter};
-ghost use Rattle.naming.specs.Columns.{Columns};
+ghost use Rattle.naming.specs.Columns.{Columns, listedBy};
 ghost use Rattle.naming.specs.Listing.{separated};
+ghost use Rattle.naming.specs.Members.{namesWritten, lengthsWritten, nameBy, Slots, extremeName};
 use crate::columns;
 use limits::Level;
+use limits::NAME;
+use limits::PLOTS;
 
 // bytes of the columns of one kind, once numbered
 const COLUMN_BYTES: usize = 1440;
@@ -47,18 +50,18 @@ fn put_listed(
     columns: &[u8],
     n: usize,
     count: usize,
-    member: &[u8],
+    above: u32,
     out: &mut [u8],
     at: usize,
 ) -> usize
-    requires { ⌜ Columns n count (now columns) × (length (now member) ≡ n) ⌝ }
-    ensures { λ r. ⌜ r ≡ placeAfter (now (out .entry)) at (withCommas (columnNames mark (header (now (text .entry)))) (passingFrom (listed n (now (member .entry)) (membersOf n (now (columns .entry)) count)) 0 count)) ⌝ }
-    ensures { λ _. ⌜ now (out .exit) ≡ written (now (out .entry)) at (withCommas (columnNames mark (header (now (text .entry)))) (passingFrom (listed n (now (member .entry)) (membersOf n (now (columns .entry)) count)) 0 count)) ⌝ }
+    requires { ⌜ Columns n count (now columns) ⌝ }
+    ensures { λ r. ⌜ r ≡ placeAfter (now (out .entry)) at (withCommas (columnNames mark (header (now (text .entry)))) (passingFrom (listedBy (bitAt above) n (membersOf n (now (columns .entry)) count)) 0 count)) ⌝ }
+    ensures { λ _. ⌜ now (out .exit) ≡ written (now (out .entry)) at (withCommas (columnNames mark (header (now (text .entry)))) (passingFrom (listedBy (bitAt above) n (membersOf n (now (columns .entry)) count)) 0 count)) ⌝ }
 {
     let mut end = at;
     let mut first = true;
     for i in 0..count {
-        if columns::is_listed(columns, n, count, member, i) {
+        if columns::is_listed(columns, n, count, above, i) {
             end = put_next(text, mark, i, first, out, end);
             first = false;
         }
@@ -73,15 +76,15 @@ fn put_infimum(
     columns: &[u8],
     n: usize,
     count: usize,
-    member: &[u8],
+    above: u32,
     out: &mut [u8],
 ) -> usize
-    requires { ⌜ Columns n count (now columns) × (length (now member) ≡ n) ⌝ }
-    ensures { λ r. ⌜ r ≡ placeAfter (now (out .entry)) 0 (bytesOf (columnNames mark (header (now (text .entry)))) (name-infimum (passingFrom (listed n (now (member .entry)) (membersOf n (now (columns .entry)) count)) 0 count))) ⌝ }
-    ensures { λ _. ⌜ now (out .exit) ≡ written (now (out .entry)) 0 (bytesOf (columnNames mark (header (now (text .entry)))) (name-infimum (passingFrom (listed n (now (member .entry)) (membersOf n (now (columns .entry)) count)) 0 count))) ⌝ }
+    requires { ⌜ Columns n count (now columns) ⌝ }
+    ensures { λ r. ⌜ r ≡ placeAfter (now (out .entry)) 0 (bytesOf (columnNames mark (header (now (text .entry)))) (name-infimum (passingFrom (listedBy (bitAt above) n (membersOf n (now (columns .entry)) count)) 0 count))) ⌝ }
+    ensures { λ _. ⌜ now (out .exit) ≡ written (now (out .entry)) 0 (bytesOf (columnNames mark (header (now (text .entry)))) (name-infimum (passingFrom (listedBy (bitAt above) n (membersOf n (now (columns .entry)) count)) 0 count))) ⌝ }
 {
     let from = decimal::write_bytes(b"I(", out, 0);
-    let to = put_listed(text, mark, columns, n, count, member, out, from);
+    let to = put_listed(text, mark, columns, n, count, above, out, from);
     decimal::write_bytes(b")", out, to)
 }
 
@@ -100,40 +103,54 @@ fn by_infimum(
     ensures { λ r. ⌜ r ≡ placeAfter (now (out .entry)) 0 (bytesOf (columnNames mark (header (now (text .entry)))) (nameByInfimum n (membersOf n (now (columns .entry)) count) place (now (member .entry)))) ⌝ }
     ensures { λ _. ⌜ now (out .exit) ≡ written (now (out .entry)) 0 (bytesOf (columnNames mark (header (now (text .entry)))) (nameByInfimum n (membersOf n (now (columns .entry)) count) place (now (member .entry)))) ⌝ }
 {
-    let met = columns::infimum_above(columns, n, count, member);
+    let above = columns::above_word(columns, n, count, member);
+    let met = columns::infimum_above(columns, n, count, above);
     if factor::alike(&met[..n], member) {
-        return put_infimum(text, mark, columns, n, count, member, out);
+        return put_infimum(text, mark, columns, n, count, above, out);
     }
     let at = decimal::write_bytes(b"#", out, 0);
     decimal::write_decimal(place, out, at)
 }
 
-// The name of a member with neither one class nor a class for each plot, by the columns from `first` on of the level table.
+// Writes `U` for one class and `E` for a class for each plot; nothing for another member.
+fn put_extreme(n: usize, member: &[u8], out: &mut [u8]) -> usize
+    ensures { λ r. ⌜ r ≡ placeAfter (now (out .entry)) 0 (extremeName n (now (member .entry))) ⌝ }
+    ensures { λ _. ⌜ now (out .exit) ≡ written (now (out .entry)) 0 (extremeName n (now (member .entry))) ⌝ }
+{
+    let k = factor::classes(member);
+    if k == 1 {
+        return decimal::write_bytes(b"U", out, 0);
+    }
+    if k == n {
+        return decimal::write_bytes(b"E", out, 0);
+    }
+    0
+}
+
+// The name of a member with neither one class nor a class for each plot, by the numbered columns.
 fn by_columns(
     text: &[u8],
     mark: u8,
-    levels: &[Level],
+    columns: &[u8],
     n: usize,
-    first: usize,
     count: usize,
     member: &[u8],
     place: usize,
     out: &mut [u8],
 ) -> usize
-    requires { ⌜ (n ≤ 240) × (count ≤ 6) × (first + count ≤ 12) × (2880 ≤ length (now levels)) × (length (now member) ≡ n) ⌝ }
-    ensures { λ r. ⌜ r ≡ placeAfter (now (out .entry)) 0 (bytesOf (columnNames mark (header (now (text .entry)))) (nameByColumn n (columnsFrom n (now (levels .entry)) first count) place (now (member .entry)) (equivalentColumn (now (member .entry)) 0 (columnsFrom n (now (levels .entry)) first count)))) ⌝ }
-    ensures { λ _. ⌜ now (out .exit) ≡ written (now (out .entry)) 0 (bytesOf (columnNames mark (header (now (text .entry)))) (nameByColumn n (columnsFrom n (now (levels .entry)) first count) place (now (member .entry)) (equivalentColumn (now (member .entry)) 0 (columnsFrom n (now (levels .entry)) first count)))) ⌝ }
+    requires { ⌜ Columns n count (now columns) × (allNumbered (membersOf n (now columns) count) ≡ true) × (length (now member) ≡ n) ⌝ }
+    ensures { λ r. ⌜ r ≡ placeAfter (now (out .entry)) 0 (bytesOf (columnNames mark (header (now (text .entry)))) (nameByColumn n (membersOf n (now (columns .entry)) count) place (now (member .entry)) (equivalentColumn (now (member .entry)) 0 (membersOf n (now (columns .entry)) count)))) ⌝ }
+    ensures { λ _. ⌜ now (out .exit) ≡ written (now (out .entry)) 0 (bytesOf (columnNames mark (header (now (text .entry)))) (nameByColumn n (membersOf n (now (columns .entry)) count) place (now (member .entry)) (equivalentColumn (now (member .entry)) 0 (membersOf n (now (columns .entry)) count)))) ⌝ }
 {
-    let mut columns = [0u8; COLUMN_BYTES];
-    columns::number_columns(levels, n, first, count, &mut columns);
-    let c = columns::equivalent_column(&columns, n, count, member);
+    let c = columns::equivalent_column(columns, n, count, member);
     if c != 0 {
         return put_column(text, mark, c - 1, out, 0);
     }
-    by_infimum(text, mark, &columns, n, count, member, place, out)
+    by_infimum(text, mark, columns, n, count, member, place, out)
 }
 
-// The name of a member by the first rule that fits.
+// The name of a member by the first rule that fits, and by the columns from `first` on of the level table. These are numbered
+// only where the member is neither U nor E.
 pub fn put_name(
     text: &[u8],
     mark: u8,
@@ -145,16 +162,93 @@ pub fn put_name(
     place: usize,
     out: &mut [u8],
 ) -> usize
-    requires { ⌜ (n ≤ 240) × (count ≤ 6) × (first + count ≤ 12) × (2880 ≤ length (now levels)) × (length (now member) ≡ n) ⌝ }
+    requires { ⌜ (n ≤ 240) × (count ≤ 6) × (first + count ≤ 12) × (2880 ≤ length (now levels)) × (length (now member) ≡ n) × (1 ≤ length (now out)) ⌝ }
     ensures { λ r. ⌜ r ≡ placeAfter (now (out .entry)) 0 (bytesOf (columnNames mark (header (now (text .entry)))) (nameOf n (columnsFrom n (now (levels .entry)) first count) place (now (member .entry)))) ⌝ }
     ensures { λ _. ⌜ now (out .exit) ≡ written (now (out .entry)) 0 (bytesOf (columnNames mark (header (now (text .entry)))) (nameOf n (columnsFrom n (now (levels .entry)) first count) place (now (member .entry)))) ⌝ }
 {
-    let k = factor::classes(member);
-    if k == 1 {
-        return decimal::write_bytes(b"U", out, 0);
+    let k = put_extreme(n, member, out);
+    if k != 0 {
+        return k;
     }
-    if k == n {
-        return decimal::write_bytes(b"E", out, 0);
+    let mut columns = [0u8; COLUMN_BYTES];
+    columns::number_columns(levels, n, first, count, &mut columns);
+    by_columns(text, mark, &columns, n, count, member, place, out)
+}
+
+// The same by columns that are numbered already.
+fn put_member(
+    text: &[u8],
+    mark: u8,
+    columns: &[u8],
+    n: usize,
+    count: usize,
+    member: &[u8],
+    place: usize,
+    out: &mut [u8],
+) -> usize
+    requires { ⌜ Columns n count (now columns) × (allNumbered (membersOf n (now columns) count) ≡ true) × (length (now member) ≡ n) × (1 ≤ length (now out)) ⌝ }
+    ensures { λ r. ⌜ r ≡ placeAfter (now (out .entry)) 0 (bytesOf (columnNames mark (header (now (text .entry)))) (nameOf n (membersOf n (now (columns .entry)) count) place (now (member .entry)))) ⌝ }
+    ensures { λ _. ⌜ now (out .exit) ≡ written (now (out .entry)) 0 (bytesOf (columnNames mark (header (now (text .entry)))) (nameOf n (membersOf n (now (columns .entry)) count) place (now (member .entry)))) ⌝ }
+{
+    let k = put_extreme(n, member, out);
+    if k != 0 {
+        return k;
     }
-    by_columns(text, mark, levels, n, first, count, member, place, out)
+    by_columns(text, mark, columns, n, count, member, place, out)
+}
+
+// Names each of the first `size` members in its 96 bytes, by the numbered columns.
+fn put_each(
+    text: &[u8],
+    mark: u8,
+    columns: &[u8],
+    n: usize,
+    count: usize,
+    family: &[u8],
+    size: usize,
+    names: &mut [u8],
+    lengths: &mut [usize],
+)
+    requires { ⌜ Columns n count (now columns) × (allNumbered (membersOf n (now columns) count) ≡ true) × Slots (columnNames mark (header (now text))) (now family) size (now names) (now lengths) ⌝ }
+    ensures { λ _. ⌜ now (names .exit) ≡ namesWritten (nameBy (columnNames mark (header (now (text .entry)))) (membersOf n (now (columns .entry)) count) n (now (family .entry))) (now (names .entry)) size ⌝ }
+    ensures { λ _. ⌜ now (lengths .exit) ≡ lengthsWritten (nameBy (columnNames mark (header (now (text .entry)))) (membersOf n (now (columns .entry)) count) n (now (family .entry))) (now (lengths .entry)) size ⌝ }
+{
+    for i in 0..size {
+        let a = PLOTS * i;
+        let e = a + n;
+        let b = NAME * i;
+        let f = b + NAME;
+        lengths[i] = put_member(
+            text,
+            mark,
+            columns,
+            n,
+            count,
+            &family[a..e],
+            i + 1,
+            &mut names[b..f],
+        );
+    }
+}
+
+// The same by the columns from `first` on of the level table, which are numbered once for all members.
+pub fn put_names(
+    text: &[u8],
+    mark: u8,
+    levels: &[Level],
+    n: usize,
+    first: usize,
+    count: usize,
+    family: &[u8],
+    size: usize,
+    names: &mut [u8],
+    lengths: &mut [usize],
+)
+    requires { ⌜ (n ≤ 240) × (count ≤ 6) × (first + count ≤ 12) × (2880 ≤ length (now levels)) × Slots (columnNames mark (header (now text))) (now family) size (now names) (now lengths) ⌝ }
+    ensures { λ _. ⌜ now (names .exit) ≡ namesWritten (nameBy (columnNames mark (header (now (text .entry)))) (columnsFrom n (now (levels .entry)) first count) n (now (family .entry))) (now (names .entry)) size ⌝ }
+    ensures { λ _. ⌜ now (lengths .exit) ≡ lengthsWritten (nameBy (columnNames mark (header (now (text .entry)))) (columnsFrom n (now (levels .entry)) first count) n (now (family .entry))) (now (lengths .entry)) size ⌝ }
+{
+    let mut columns = [0u8; COLUMN_BYTES];
+    columns::number_columns(levels, n, first, count, &mut columns);
+    put_each(text, mark, &columns, n, count, family, size, names, lengths)
 }

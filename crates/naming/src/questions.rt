@@ -6,11 +6,16 @@ ghost use Rattle.rules.specs.Family.{columnsFrom};
 ghost use Rattle.rules.specs.Design.{nonzero, allNonzero};
 ghost use Rattle.rules.specs.Naming.{namingWithin};
 ghost use Rattle.naming.specs.Answers.{memberFits};
+ghost use Rattle.naming.specs.Members.{membersFit};
 use limits::FAMILY;
 use limits::LEVELS;
 use limits::Level;
+use limits::MEMBERS;
 use limits::NAME;
 use limits::PLOTS;
+
+// Bytes for the names of a family's members.
+const NAMES: usize = NAME * MEMBERS;
 
 // Whether one member can be named: the plots and the lengths are in range, and it is on these plots.
 pub fn member_fits(plots: usize, levels: usize, name: usize, member: usize) -> bool
@@ -29,6 +34,38 @@ pub fn member_fits(plots: usize, levels: usize, name: usize, member: usize) -> b
         return false;
     }
     member == plots
+}
+
+// Whether the members of a family can be named: the plots, the size and the lengths are in range.
+pub fn members_fit(
+    plots: usize,
+    size: usize,
+    levels: usize,
+    family: usize,
+    names: usize,
+    lengths: usize,
+) -> bool
+    ensures { λ r. ⌜ r ≡ membersFit plots size levels family names lengths ⌝ }
+{
+    if plots < 1 {
+        return false;
+    }
+    if PLOTS < plots {
+        return false;
+    }
+    if MEMBERS < size {
+        return false;
+    }
+    if levels < LEVELS {
+        return false;
+    }
+    if family < FAMILY {
+        return false;
+    }
+    if names < NAMES {
+        return false;
+    }
+    MEMBERS <= lengths
 }
 
 // 6: are the plots, the place and the lengths in range?

@@ -5,3 +5,4 @@ pub mod Questions
 pub mod Sums
 pub mod DegreeTurns
 pub mod StratumLaws
+pub mod Implied

@@ -3,18 +3,21 @@
 use mathlib.Core.Path.{_≡_, refl, sym}
 use mathlib.Core.Bool.{Bool, true, false, _&&_}
 use mathlib.Core.List.{List, map}
-use Prim.Native.Nat.{ℕ}
-use lib.Dec.{leb}
+use Prim.Native.Nat.{ℕ, suc}
+use native.Mathlib.Omega.{arith}
+use lib.Dec.{eqb, leb}
 use lib.IntN.{ℤ, pos}
 use lib.ListN.{length}
+use borrow.Author.Tests.{ne-eqb}
 use Rattle.rules.specs.Family.{Family, membersOf, wellFormed}
 use Rattle.rules.specs.Lists.{forPlaces}
 use Rattle.rules.specs.Design.{plotsWithin}
 use Rattle.rules.specs.Relation.{familyWithin, relation, relationOf, relationRefused}
-use Rattle.rules.specs.Degrees.{degreesOfFreedom, degreesRefused}
+use Rattle.rules.specs.Degrees.{degrees, degreesOfFreedom, degreesRefused}
 use Rattle.rules.specs.Strata.{StrataAnswer, stratum, residuals, allHaveStratum, question15, question16, strata, strataRefused}
 use Rattle.rules.proofs.Members.{clash}
-use Rattle.strata.specs.Answers.{degreesFound}
+use Rattle.rules.proofs.Numbering.{by-cases}
+use Rattle.strata.specs.Answers.{degreesFound, Analysis, withDegrees, analysisRefused}
 
 module _ (n : ℕ) (b : List ℕ) (size : ℕ) where
   pub relation-6 : familyWithin n b ≡ false → relation n b size ≡ relationRefused 6
@@ -96,3 +99,22 @@ module _ (n : ℕ) (b : List ℕ) (size : ℕ) (r : List ℕ) (tsize : ℕ) wher
   pub strata-6-on : familyWithin n b ≡ true → familyWithin n r ≡ true → strata n b size r tsize ≡ question15 n (membersOf n b size) (membersOf n r tsize)
   unfolding strata
   strata-6-on e f = rw (e, long n r f, strata)
+
+-- ---- with the degrees of freedom
+
+module _ (n : ℕ) (P R : Family) where
+  pub with-strata : (a : StrataAnswer) → withDegrees n P R a .strata ≡ a
+  unfolding withDegrees
+  with-strata a = by-cases (eqb (a .refusal) 0) (λ e. rw (e, withDegrees)) (λ e. rw (e, withDegrees))
+
+  -- a refusal, by a question from 1 on
+  pub with-refused : (q : ℕ) → analysisRefused (suc q) ≡ withDegrees n P R (strataRefused (suc q))
+  unfolding analysisRefused withDegrees strataRefused
+  with-refused q = sym (rw (ne-eqb (suc q) 0 (λ z. omega arith), withDegrees))
+
+  -- an answer
+  pub with-found : (places : List ℕ) (left totals numbers : List ℤ) (a : StrataAnswer) → _≡_ {A = StrataAnswer} (record { refusal = 0; places = places; residuals = left }) a
+      → totals ≡ forPlaces (pos 0) (degrees n P) → numbers ≡ forPlaces (pos 0) (degrees n R)
+      → _≡_ {A = Analysis} (record { strata = record { refusal = 0; places = places; residuals = left }; totals = totals; degrees = numbers }) (withDegrees n P R a)
+  unfolding withDegrees
+  with-found places left totals numbers a e t d = rw (← e, t, d)

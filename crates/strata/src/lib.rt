@@ -1,9 +1,10 @@
 // Relation, degrees of freedom and strata of families already made. Each entry asks 6, then 15; strata then ask 16.
 ghost use mathlib.Core.Path.{_≡_};
+ghost use Rattle.rules.specs.Family.{membersOf};
 ghost use Rattle.rules.specs.Relation.{relation};
 ghost use Rattle.rules.specs.Degrees.{degreesOfFreedom};
 ghost use Rattle.rules.specs.Strata.{strata};
-ghost use Rattle.strata.specs.Answers.{relationIn, degreesIn, strataIn};
+ghost use Rattle.strata.specs.Answers.{relationIn, degreesIn, strataIn, analysisIn, withDegrees};
 use limits::MEMBERS;
 
 mod degrees;
@@ -36,6 +37,20 @@ pub struct DegreesReport {
 pub struct StrataReport {
     // the question that failed, or 0
     pub refusal: u8,
+    // for each treatment member the place of its stratum, from 1
+    pub places: [usize; MEMBERS],
+    // for each plot member its residual degrees of freedom
+    pub residuals: [i64; MEMBERS],
+}
+
+// Strata, and the degrees of freedom that their residuals are found by. All 0 past the sizes and after a refusal.
+pub struct AnalysisReport {
+    // the question that failed, or 0
+    pub refusal: u8,
+    // for each plot member its degrees of freedom
+    pub totals: [i64; MEMBERS],
+    // for each treatment member its degrees of freedom
+    pub degrees: [i64; MEMBERS],
     // for each treatment member the place of its stratum, from 1
     pub places: [usize; MEMBERS],
     // for each plot member its residual degrees of freedom
@@ -77,6 +92,33 @@ pub fn strata(
     plots: usize,
 ) -> StrataReport
     ensures { λ r. ⌜ strataIn r ≡ strata plots (now («plot_family» .entry)) «plot_size» (now («treatment_family» .entry)) «treatment_size» ⌝ }
+{
+    let found = analysis(
+        plot_family,
+        plot_size,
+        treatment_family,
+        treatment_size,
+        plots,
+    );
+    let refusal = found.refusal;
+    let places = found.places;
+    let residuals = found.residuals;
+    StrataReport {
+        refusal,
+        places,
+        residuals,
+    }
+}
+
+// The same with the degrees of freedom of both families.
+pub fn analysis(
+    plot_family: &[u8],
+    plot_size: usize,
+    treatment_family: &[u8],
+    treatment_size: usize,
+    plots: usize,
+) -> AnalysisReport
+    ensures { λ r. ⌜ analysisIn r ≡ withDegrees plots (membersOf plots (now («plot_family» .entry)) «plot_size») (membersOf plots (now («treatment_family» .entry)) «treatment_size») (strata plots (now («plot_family» .entry)) «plot_size» (now («treatment_family» .entry)) «treatment_size») ⌝ }
 {
     if !families::within(plots, plot_family.len()) {
         return stratum::refused(6);

@@ -6,16 +6,17 @@ ghost use Prim.Native.Nat.{_≤_, _<_};
 ghost use lib.Dec.{eqb};
 ghost use lib.IntN.{pos};
 ghost use lib.ListN.{length, getD};
-ghost use Rattle.rules.specs.Factor.{every};
+ghost use Rattle.rules.specs.Factor.{every, finer};
 ghost use Rattle.rules.specs.Family.{membersOf};
 ghost use Rattle.rules.specs.Lists.{tabulate, forPlaces, wordOf};
 ghost use Rattle.rules.specs.Relation.{coarserWords};
-ghost use Rattle.rules.specs.Strata.{stratum, strataRefused, question15, question16};
-ghost use Rattle.strata.specs.Answers.{strataIn};
+ghost use Rattle.rules.specs.Strata.{stratum, question15, question16};
+ghost use Rattle.families.specs.Lent.{columnAt};
+ghost use Rattle.strata.specs.Answers.{analysisIn, analysisRefused, withDegrees};
 ghost use Rattle.strata.specs.Lent.{Formed};
 ghost use Rattle.strata.specs.Sums.{AllSmall, residualAt};
-ghost use Rattle.strata.specs.Words.{candidateWord, below, coarsest, firstPassing};
-use crate::StrataReport;
+ghost use Rattle.strata.specs.Words.{finerWord, candidateWord, below, coarsest, firstPassing};
+use crate::AnalysisReport;
 use crate::degrees::degrees;
 use crate::degrees::less;
 use crate::family::member_finer;
@@ -25,34 +26,58 @@ use families::well_formed;
 use limits::MEMBERS;
 
 // The answer of question `q` where it fails.
-pub fn refused(q: u8) -> StrataReport
-    ensures { λ r. ⌜ strataIn r ≡ strataRefused q ⌝ }
+pub fn refused(q: u8) -> AnalysisReport
+    ensures { λ r. ⌜ analysisIn r ≡ analysisRefused q ⌝ }
 {
-    StrataReport {
+    AnalysisReport {
         refusal: q,
+        totals: [0i64; MEMBERS],
+        degrees: [0i64; MEMBERS],
         places: [0usize; MEMBERS],
         residuals: [0i64; MEMBERS],
     }
+}
+
+// Whether plot member `p` is finer than or equivalent to treatment member `t`. It is where one of the coarser members in its word
+// is, as `among` tells of those before it; else the columns decide.
+fn is_candidate(
+    plot_family: &[u8],
+    p: usize,
+    word: u32,
+    among: u32,
+    treatment_family: &[u8],
+    t: usize,
+    n: usize,
+) -> bool
+    requires { ⌜ (n ≤ 240) × (7680 ≤ length (now «plot_family»)) × (7680 ≤ length (now «treatment_family»)) × (p < 32) × (t < 32) × (word ≡ finerWord n (now «plot_family») p) × (among ≡ candidateWord n (now «plot_family») p (now «treatment_family») t) ⌝ }
+    ensures { λ r. ⌜ r ≡ finer n (columnAt n (now («plot_family» .entry)) p) (columnAt n (now («treatment_family» .entry)) t) ⌝ }
+{
+    if word & among != 0 {
+        return true;
+    }
+    member_finer(plot_family, p, treatment_family, t, n)
 }
 
 // The plot members that are finer than or equivalent to treatment member `t`.
 fn candidates(
     plot_family: &[u8],
     plot_size: usize,
+    words: [u32; MEMBERS],
     treatment_family: &[u8],
     t: usize,
     n: usize,
 ) -> u32
-    requires { ⌜ (n ≤ 240) × (7680 ≤ length (now «plot_family»)) × (7680 ≤ length (now «treatment_family»)) × («plot_size» ≤ 32) × (t < 32) ⌝ }
+    requires { ⌜ Formed n (now «plot_family») «plot_size» × (words ≡ forPlaces 0 (coarserWords n (membersOf n (now «plot_family») «plot_size»))) × (7680 ≤ length (now «treatment_family»)) × (t < 32) ⌝ }
     ensures { λ r. ⌜ r ≡ candidateWord n (now («plot_family» .entry)) «plot_size» (now («treatment_family» .entry)) t ⌝ }
 {
-    let mut word: u32 = 0;
+    let mut among: u32 = 0;
     for p in 0..plot_size {
-        if member_finer(plot_family, p, treatment_family, t, n) {
-            word = word | (1u32 << p);
+        let word = words[p];
+        if is_candidate(plot_family, p, word, among, treatment_family, t, n) {
+            among = among | (1u32 << p);
         }
     }
-    word
+    among
 }
 
 // Whether plot member `q`, with its word of coarser members, is no candidate, or `p` itself, or finer than `p`.
@@ -112,7 +137,7 @@ fn stratum_places(
 {
     let mut places = [0usize; MEMBERS];
     for t in 0..treatment_size {
-        let among = candidates(plot_family, plot_size, treatment_family, t, n);
+        let among = candidates(plot_family, plot_size, words, treatment_family, t, n);
         let place = coarsest_place(words, plot_size, among);
         places[t] = place;
     }
@@ -174,9 +199,9 @@ fn from_16(
     treatment_family: &[u8],
     treatment_size: usize,
     n: usize,
-) -> StrataReport
+) -> AnalysisReport
     requires { ⌜ Formed n (now «plot_family») «plot_size» × Formed n (now «treatment_family») «treatment_size» ⌝ }
-    ensures { λ r. ⌜ strataIn r ≡ question16 n (membersOf n (now («plot_family» .entry)) «plot_size») (membersOf n (now («treatment_family» .entry)) «treatment_size») ⌝ }
+    ensures { λ r. ⌜ analysisIn r ≡ withDegrees n (membersOf n (now («plot_family» .entry)) «plot_size») (membersOf n (now («treatment_family» .entry)) «treatment_size») (question16 n (membersOf n (now («plot_family» .entry)) «plot_size») (membersOf n (now («treatment_family» .entry)) «treatment_size»)) ⌝ }
 {
     let plot_words = coarser_words(plot_family, n, plot_size);
     let places = stratum_places(
@@ -194,8 +219,10 @@ fn from_16(
     let treatment_words = coarser_words(treatment_family, n, treatment_size);
     let numbers = degrees(treatment_family, n, treatment_size, treatment_words);
     let left = residuals(own, plot_size, numbers, places, treatment_size);
-    StrataReport {
+    AnalysisReport {
         refusal: 0,
+        totals: own,
+        degrees: numbers,
         places,
         residuals: left,
     }
@@ -208,9 +235,9 @@ pub fn from_15(
     treatment_family: &[u8],
     treatment_size: usize,
     n: usize,
-) -> StrataReport
+) -> AnalysisReport
     requires { ⌜ (n ≤ 240) × (7680 ≤ length (now «plot_family»)) × (7680 ≤ length (now «treatment_family»)) ⌝ }
-    ensures { λ r. ⌜ strataIn r ≡ question15 n (membersOf n (now («plot_family» .entry)) «plot_size») (membersOf n (now («treatment_family» .entry)) «treatment_size») ⌝ }
+    ensures { λ r. ⌜ analysisIn r ≡ withDegrees n (membersOf n (now («plot_family» .entry)) «plot_size») (membersOf n (now («treatment_family» .entry)) «treatment_size») (question15 n (membersOf n (now («plot_family» .entry)) «plot_size») (membersOf n (now («treatment_family» .entry)) «treatment_size»)) ⌝ }
 {
     if !well_formed(plot_family, n, plot_size) {
         return refused(15);

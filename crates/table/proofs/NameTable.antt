@@ -2,15 +2,14 @@
 -- Assumes nothing.
 use mathlib.Core.Path.{_≡_, refl, sym, ap, ap₂, _∙_}
 use mathlib.Core.Bool.{true, false}
-use mathlib.Core.List.{List, _∷_, append-assoc}
+use mathlib.Core.List.{List, _∷_, _++_}
 use Prim.Native.Nat.{ℕ, zero, suc, _+_, _-_, _*_, _<_, _≤_}
 use native.Mathlib.Nat.{not-suc-le-zero}
 use native.Mathlib.Omega.{arith}
 use lib.Dec.{eqb}
-use lib.ListN.{length, getD, take, drop, set, length-append, length-drop}
+use lib.ListN.{length, getD, take, drop, set, length-append, length-drop, length-set}
 use lib.Seq.{take-at, drop-at, take-take, take-add, length-take-le, set-split, getD-set-same, getD-set-other}
 use borrow.Author.Tests.{lt-ltb, le-leb, eq-eqb, eqb-true, eqb-false}
-use borrow.Rule.Slice.PartMut.{midOf, putMid, same-len-mid, take-put}
 use Rattle.rules.specs.Family.{Family, membersOf}
 use Rattle.rules.specs.Design.{plotsWithin}
 use Rattle.rules.specs.Relation.{memberAt}
@@ -23,6 +22,7 @@ use Rattle.rules.proofs.Numbering.{by-cases}
 use Rattle.families.specs.Lent.{columnAt}
 use Rattle.families.proofs.Lent.{part-of, length-column}
 use Rattle.naming.specs.Answers.{memberFits, nameFor, startingWith}
+use Rattle.naming.specs.Members.{namesWritten, lengthsWritten, membersFit, familyNameable, memberName}
 use Rattle.naming.proofs.Entry.{named-for}
 use Rattle.table.specs.Names.{Nameable, Named, nameIn, namesIn, placedName}
 
@@ -87,25 +87,22 @@ part-agrees k n m v w h hv hw e =
     ∙ sym (part-of-take k n w hw)
 
 -- a name written after the first i
-module _ (names lengths W : List ℕ) (i k : ℕ) (room : 96 * i + 96 ≤ length names) (count : i < length lengths) (short : length W ≤ 96) (whole : k ≡ 96) where
-  abbrev pub more : List ℕ
-  more = putMid (96 * i) k names (startingWith W (midOf (96 * i) k names))
+module _ (names lengths W : List ℕ) (i : ℕ) (room : 96 * i + 96 ≤ length names) (count : i < length lengths) (short : length W ≤ 96) where
+  abbrev more : List ℕ
+  more = take (96 * i) names ++ startingWith W (drop (96 * i) names)
 
-  mid-length : length (midOf (96 * i) k names) ≡ 96
-  mid-length = rw whole (length-take-le 96 (drop (96 * i) names) (rw (length-drop (96 * i) names) (omega arith)))
-
-  pub length-more : length more ≡ length names
-  length-more = same-len-mid (96 * i) k names (startingWith W (midOf (96 * i) k names)) (simp (length-append, length-drop) (omega (arith, mid-length)))
+  length-more : length more ≡ length names
+  length-more = simp (length-append, length-drop, length-take-le (96 * i) names (omega arith)) (omega arith)
 
   before : take (96 * i) more ≡ take (96 * i) names
-  before = take-put (96 * i) k names (startingWith W (midOf (96 * i) k names)) (omega arith)
+  before = take-at (take (96 * i) names) _ (96 * i) (length-take-le (96 * i) names (omega arith))
 
   here : take (length W) (drop (96 * i) more) ≡ W
   here =
-      ap (λ (x : List ℕ). take (length W) x) (drop-at (take (96 * i) names) _ (96 * i) (length-take-le (96 * i) names (omega arith)) ∙ append-assoc W _ _)
+      ap (λ (x : List ℕ). take (length W) x) (drop-at (take (96 * i) names) _ (96 * i) (length-take-le (96 * i) names (omega arith)))
       ∙ take-at W _ (length W) refl
 
-  pub filled-more : (name : ℕ → List ℕ) → W ≡ name i → Filled name names lengths i → Filled name more (set lengths i (length W)) (i + 1)
+  filled-more : (name : ℕ → List ℕ) → W ≡ name i → Filled name names lengths i → Filled name more (set lengths i (length W)) (suc i)
   unfolding nameIn
   filled-more name e f j h = by-cases (eqb j i) same other
     where
@@ -127,11 +124,19 @@ module _ (names lengths W : List ℕ) (i k : ℕ) (room : 96 * i + 96 ≤ length
           rw g
           (was .0, part-agrees (96 * j) (getD lengths j 0) (96 * i) more names (omega (arith, was .0)) (omega (arith, length-more)) (omega arith) before ∙ was .1)
 
--- the same where the bytes and the length come back from a call
-pub filled-turn : (name : ℕ → List ℕ) (names lengths back : List ℕ) (m i k : ℕ) → 96 * i + 96 ≤ length names → i < length lengths → length (name i) ≤ 96 → k ≡ 96 → back ≡ startingWith (name i) (midOf (96 * i) k names) → m ≡ length (name i) → Filled name names lengths i
-    → (length (putMid (96 * i) k names back) ≡ length names) × Filled name (putMid (96 * i) k names back) (set lengths i m) (i + 1)
-filled-turn name names lengths back m i k room count short whole e l f =
-    rw (e, l) (length-more names lengths (name i) i k room count short whole, filled-more names lengths (name i) i k room count short whole name refl f)
+-- what naming the members writes: their names
+pub filled-written : (name : ℕ → List ℕ) (names lengths : List ℕ) (m : ℕ) → ((j : ℕ) → j < m → length (name j) ≤ 96) → 96 * m ≤ length names → m ≤ length lengths
+    → (length (namesWritten name names m) ≡ length names) × (length (lengthsWritten name lengths m) ≡ length lengths) × Filled name (namesWritten name names m) (lengthsWritten name lengths m) m
+unfolding namesWritten lengthsWritten
+filled-written name names lengths zero short h l = (refl, refl, filled-none name names lengths)
+filled-written name names lengths (suc m) short h l =
+    let w = filled-written name names lengths m (λ j k. short j (omega arith)) (omega arith) (omega arith) in
+    let N = namesWritten name names m in
+    let L = lengthsWritten name lengths m in
+    let room : 96 * m + 96 ≤ length N = omega (arith, w .0) in
+    let count : m < length L = omega (arith, w .1) in
+    let s = short m (omega arith) in
+    (length-more N L (name m) m room count s ∙ w .0, length-set L m (length (name m)) ∙ w .1, filled-more N L (name m) m room count s name refl (w .2))
 
 -- all members are named
 names-from : (kind : Kind) (text : List ℕ) (n : ℕ) (levels : List ℕ) (S : Family) (f : ℕ → List ℕ) (i m : ℕ) → ((j : ℕ) → j < m → f j ≡ nameAt kind text n levels S (i + j)) → tabulate f m ≡ namesFrom kind text n levels S i m
@@ -144,6 +149,17 @@ names-from kind text n levels S f i (suc m) h =
   where
     across : (i j : ℕ) → i + suc j ≡ suc i + j
     across i j = omega arith
+
+-- a family that fits is named
+pub family-nameable : (text levels buffer : List ℕ) (n size room counted : ℕ) → Nameable text levels buffer n → size ≤ 32 → 3072 ≤ room → 32 ≤ counted → familyNameable text n size (length levels) (length buffer) room counted ≡ true
+unfolding familyNameable membersFit plotsWithin
+family-nameable text levels buffer n size room counted w h r c =
+    rw (w .form, lt-ltb 0 n (w .some), le-leb n 240 (w .few), le-leb size 32 h, le-leb 2880 (length levels) (w .table), le-leb 7680 (length buffer) (w .long), le-leb 3072 room r, le-leb 32 counted c)
+
+-- member i's name is the name at place i + 1
+pub member-placed : (kind : Kind) (text levels buffer : List ℕ) (n i : ℕ) → memberName kind text n levels buffer i ≡ placedName kind text n levels buffer (suc i)
+unfolding memberName placedName
+member-placed kind text levels buffer n i = refl
 
 pub filled-names : (kind : Kind) (text : List ℕ) (n : ℕ) (levels buffer : List ℕ) (size : ℕ) (names lengths : List ℕ) → n ≤ 240
     → Filled (λ j. placedName kind text n levels buffer (suc j)) names lengths size → namesIn names lengths size ≡ namesFrom kind text n levels (membersOf n buffer size) 1 size

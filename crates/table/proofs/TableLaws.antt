@@ -6,9 +6,8 @@ use mathlib.Core.Logic.{inl}
 use mathlib.Core.List.{List, [], _∷_, map}
 use Prim.Native.Nat.{ℕ, zero, suc, _+_, _-_, _≤_, _<_}
 use native.Mathlib.Omega.{arith}
-use lib.Dec.{eqb, leb}
 use lib.IntN.{pos}
-use lib.ListN.{length, getD, take, drop, length-append, length-map, length-replicate}
+use lib.ListN.{length, take, drop, length-append, length-map, length-replicate}
 use lib.Seq.{ext-getD, getD-take, length-take-le, take-append-le, take-length}
 use borrow.Author.Tests.{le-leb, lt-leb, eqb-true, eqb-false, eq-eqb, ne-eqb}
 use Rattle.rules.specs.Lists.{forPlaces}
@@ -18,17 +17,18 @@ use Rattle.rules.specs.Design.{Answer, fullDesign, plotBuffer, treatmentBuffer}
 use Rattle.rules.specs.Sheet.{Outcome, read, refused, question3, reading, levelsAfter}
 use Rattle.rules.specs.Naming.{Kind, plot, treatment, nameAt, nameOn}
 use Rattle.rules.specs.Table.{Row, acceptedRows, designRefusedRow, designRows, outcomeRows, tableRows, tableText, skeletonTable, emptyTable, rowsBytes, dash, placeName, strataRows, firstKind, secondKind, familyOf, refusedRow, namesFrom}
-use Rattle.rules.specs.Degrees.{DegreesAnswer, degrees, degreesOfFreedom}
-use Rattle.rules.specs.Strata.{StrataAnswer, stratum, residuals, strata}
+use Rattle.rules.specs.Degrees.{degrees}
+use Rattle.rules.specs.Strata.{stratum, residuals, strata}
 use Rattle.rules.proofs.Buffer.{member-is, length-members}
 use Rattle.rules.proofs.Places.{length-places, at-places}
 use Rattle.rules.proofs.Sheet.{length-after}
 use Rattle.rules.proofs.DegreesLaws.{length-degrees}
-use Rattle.rules.proofs.Printing.{degrees-answered, strata-answered}
+use Rattle.rules.proofs.Printing.{strata-answered}
 use Rattle.rules.proofs.Made.{Tells, Placed, plot-back, plot-buffer-length, treatment-back, treatment-buffer-length}
 use Rattle.design.specs.Answers.{FullNumbers, fullNumbersOf}
 use Rattle.naming.specs.Answers.{startingWith}
 use Rattle.strata.proofs.StratumLaws.{length-residuals}
+use Rattle.strata.specs.Answers.{Analysis, withDegrees}
 use Rattle.table.specs.Names.{Nameable, placedName, tableOf}
 use Rattle.table.specs.Designs.{Accepted, bufferFor, placedRow, namedRows}
 
@@ -74,34 +74,29 @@ module _ (n : ℕ) (b : List ℕ) (p : ℕ) (c : List ℕ) (r : ℕ) (h : Accept
   members-r : length R ≡ r
   members-r = length-members n (h .few) c r
 
-  totals-are : (x : DegreesAnswer) → x ≡ degreesOfFreedom n b p → take p (x .degrees) ≡ degrees n P
-  totals-are x e =
-      ap (λ (y : DegreesAnswer). take p (y .degrees)) (e ∙ degrees-answered n (h .some) (h .few) b (h .plot-room) p P refl (h .plot-formed))
-      ∙ take-places (pos 0) (degrees n P) p (length-degrees n P ∙ members-p) (h .plot-few)
-
-  sources-are : (x : DegreesAnswer) → x ≡ degreesOfFreedom n c r → take r (x .degrees) ≡ degrees n R
-  sources-are x e =
-      ap (λ (y : DegreesAnswer). take r (y .degrees)) (e ∙ degrees-answered n (h .some) (h .few) c (h .treatment-room) r R refl (h .treatment-formed))
-      ∙ take-places (pos 0) (degrees n R) r (length-degrees n R ∙ members-r) (h .treatment-few)
-
   answered : strata n b p c r ≡ record { refusal = 0; places = forPlaces 0 (map (stratum n P) R); residuals = forPlaces (pos 0) (residuals n P R) }
   answered = strata-answered n (h .some) (h .few) b c (h .plot-room) (h .treatment-room) p r P R refl refl (h .plot-formed) (h .treatment-formed) (h .strata)
 
-  places-are : (x : StrataAnswer) → x ≡ strata n b p c r → take r (x .places) ≡ map (stratum n P) R
-  places-are x e =
-      ap (λ (y : StrataAnswer). take r (y .places)) (e ∙ answered) ∙ take-places 0 (map (stratum n P) R) r (length-map R (stratum n P) ∙ members-r) (h .treatment-few)
+  analysed : withDegrees n P R (strata n b p c r) ≡ record {
+    strata = record { refusal = 0; places = forPlaces 0 (map (stratum n P) R); residuals = forPlaces (pos 0) (residuals n P R) };
+    totals = forPlaces (pos 0) (degrees n P);
+    degrees = forPlaces (pos 0) (degrees n R);
+  }
+  unfolding withDegrees
+  analysed = ap (withDegrees n P R) answered
 
-  residuals-are : (x : StrataAnswer) → x ≡ strata n b p c r → take p (x .residuals) ≡ residuals n P R
-  unfolding residuals
-  residuals-are x e =
-      ap (λ (y : StrataAnswer). take p (y .residuals)) (e ∙ answered)
-      ∙ take-places (pos 0) (residuals n P R) p (length-residuals 1 (degrees n P) (map (stratum n P) R) (degrees n R) ∙ length-degrees n P ∙ members-p) (h .plot-few)
-
-  -- the lines from what the entries answer
-  pub answered-rows : (x y : DegreesAnswer) (z : StrataAnswer) → x ≡ degreesOfFreedom n b p → y ≡ degreesOfFreedom n c r → z ≡ strata n b p c r → (ps ts : List (List ℕ))
-      → tableOf n (strataRows 1 ps (take p (x .degrees)) (take p (z .residuals)) ts (take r (z .places)) (take r (y .degrees))) ≡ namedRows n P R ps ts
-  unfolding namedRows
-  answered-rows x y z ex ey ez ps ts = rw (totals-are x ex, residuals-are z ez, places-are z ez, sources-are y ey)
+  -- the lines from what is answered
+  pub answered-rows : (x : Analysis) → x ≡ withDegrees n P R (strata n b p c r) → (ps ts : List (List ℕ))
+      → tableOf n (strataRows 1 ps (take p (x .totals)) (take p (x .strata .residuals)) ts (take r (x .strata .places)) (take r (x .degrees))) ≡ namedRows n P R ps ts
+  unfolding namedRows residuals
+  answered-rows x e ps ts =
+      ap (λ (y : Analysis). tableOf n (strataRows 1 ps (take p (y .totals)) (take p (y .strata .residuals)) ts (take r (y .strata .places)) (take r (y .degrees)))) (e ∙ analysed)
+      ∙ rw (
+        take-places (pos 0) (degrees n P) p (length-degrees n P ∙ members-p) (h .plot-few),
+        take-places (pos 0) (residuals n P R) p (length-residuals 1 (degrees n P) (map (stratum n P) R) (degrees n R) ∙ length-degrees n P ∙ members-p) (h .plot-few),
+        take-places 0 (map (stratum n P) R) r (length-map R (stratum n P) ∙ members-r) (h .treatment-few),
+        take-places (pos 0) (degrees n R) r (length-degrees n R ∙ members-r) (h .treatment-few),
+      )
 
 -- ---- a refused design
 

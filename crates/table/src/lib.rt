@@ -324,11 +324,9 @@ fn print_degrees(
     ensures answer { λ r. ⌜ r ≡ placeAfter (now (out .entry)) 0 (rowsBytes (namedRows plots (membersOf plots (now («plot_family» .entry)) «plot_size») (membersOf plots (now (family .entry)) size) (namesIn (now (strata .entry)) (now («strata_lengths» .entry)) «plot_size») (namesIn (now (names .entry)) (now (lengths .entry)) size))) ⌝ }
     ensures bytes { λ _. ⌜ now (out .exit) ≡ written (now (out .entry)) 0 (rowsBytes (namedRows plots (membersOf plots (now («plot_family» .entry)) «plot_size») (membersOf plots (now (family .entry)) size) (namesIn (now (strata .entry)) (now («strata_lengths» .entry)) «plot_size») (namesIn (now (names .entry)) (now (lengths .entry)) size))) ⌝ }
 {
-    let total = strata::degrees_of_freedom(plot_family, plots, plot_size);
-    let source = strata::degrees_of_freedom(family, plots, size);
-    let report = strata::strata(plot_family, plot_size, family, size, plots);
-    let totals = total.degrees;
-    let degrees = source.degrees;
+    let report = strata::analysis(plot_family, plot_size, family, size, plots);
+    let totals = report.totals;
+    let degrees = report.degrees;
     let places = report.places;
     let residuals = report.residuals;
     rows::put_table(

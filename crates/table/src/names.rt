@@ -7,7 +7,6 @@ ghost use Rattle.rules.specs.Table.{namesFrom};
 ghost use Rattle.naming.specs.Answers.{kindOf, startingWith};
 ghost use Rattle.table.specs.Names.{Nameable, Named, namesIn, placedName};
 use limits::Level;
-use limits::NAME;
 use limits::PLOTS;
 use naming::Kind;
 
@@ -26,11 +25,7 @@ pub fn fill_names(
     ensures names { λ _. ⌜ namesIn (now (names .exit)) (now (lengths .exit)) size ≡ namesFrom (kindOf kind) (now (text .entry)) plots (now (levels .entry)) (membersOf plots (now (family .entry)) size) 1 size ⌝ }
     ensures named { λ _. ⌜ Named (now (names .exit)) (now (lengths .exit)) size ⌝ }
 {
-    for i in 0..size {
-        let a = NAME * i;
-        let e = a + NAME;
-        lengths[i] = name_at(text, levels, plots, kind, family, i + 1, &mut names[a..e]);
-    }
+    naming::name_members(text, levels, plots, kind, family, size, names, lengths);
 }
 
 // Names the member at a place, from 1; `-` at place 0.

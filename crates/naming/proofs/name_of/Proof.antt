@@ -77,7 +77,7 @@ put-name-requires c κs =
     let count : c .before .count .result ≡ countKind (markOf k) (header text) = c .before .count .ensures ∙ count-is (a .kind) text q (h .result) (h .ensures) in
     let first : c .before .before .first .result ≡ firstColumn k = c .before .before .first .ensures in
     let low = first-column (a .kind) in
-    (f .few-plots, omega arith, omega arith, f .long, f .on)
+    (f .few-plots, omega arith, omega arith, f .long, f .on, omega (arith, f .room))
 
 same-length : tie.Need-same-length
 same-length c = search needs

@@ -5,20 +5,14 @@ use denote.Ref.{now}
 use borrow.Author.Needs.{needs}
 use Rattle.rules.specs.Table.{rowsBytes}
 use Rattle.decimal.proofs.Writing.{wrote-as}
-use Rattle.strata.specs.Answers.{degreesIn, strataIn}
+use Rattle.strata.specs.Answers.{analysisIn}
 use Rattle.table.specs.Names.{namesIn}
 use Rattle.table.proofs.TableLaws.{answered-rows}
 use Rattle.table.proofs.print_degrees.Statement.{statement}
 use Rattle.table.proofs.print_degrees.Tie as tie
 
-degrees-of-freedom-requires : tie.Need-degrees-of-freedom-requires
-degrees-of-freedom-requires c κs = search needs
-
-degrees-of-freedom-requires-2 : tie.Need-degrees-of-freedom-requires-2
-degrees-of-freedom-requires-2 c κs = search needs
-
-strata-requires : tie.Need-strata-requires
-strata-requires c κs = search needs
+analysis-requires : tie.Need-analysis-requires
+analysis-requires c κs = search needs
 
 put-table-requires : tie.Need-put-table-requires
 put-table-requires c κs = search needs
@@ -28,24 +22,15 @@ same-length c = search needs
 
 returns : tie.Need-returns
 returns c =
-    let s = c .before .before .before .before .before .before .before .before .before .before .before .before .before .before .before .before .before .before in
+    let s = c .before .before .before .before .before .before .before .before .before .before .before .before .before .before .before .before in
     let a = s .args in
-    let x = c .before .before .before .before .before .before .before .before .before .before .degrees-of-freedom in
-    let y = c .before .before .before .before .before .before .before .before .before .degrees-of-freedom2 in
-    let z = c .before .before .before .before .before .before .before .before .strata in
+    let z = c .before .before .before .before .before .before .before .before .analysis in
     wrote-as (now (a .out)) 0
     (ap rowsBytes
-    (answered-rows (a .plots) (now (a .plot-family)) (a .plot-size) (now (a .family)) (a .size) (s .pre .0) (degreesIn (x .result)) (degreesIn (y .result)) (strataIn (z .result)) (x .ensures) (y .ensures) (z .ensures)
+    (answered-rows (a .plots) (now (a .plot-family)) (a .plot-size) (now (a .family)) (a .size) (s .pre .0) (analysisIn (z .result)) (z .ensures)
     (namesIn (now (a .strata)) (now (a .strata-lengths)) (a .plot-size)) (namesIn (now (a .names)) (now (a .lengths)) (a .size))))
     (c .before .before .put-table .ensures)
 
 pub print-degrees-spec : {M : Type 1} → statement M
 print-degrees-spec =
-    tie.close
-    (tie.spec
-    degrees-of-freedom-requires
-    degrees-of-freedom-requires-2
-    strata-requires
-    put-table-requires
-    same-length
-    returns)
+    tie.close (tie.spec analysis-requires put-table-requires same-length returns)

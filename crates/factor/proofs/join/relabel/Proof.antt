@@ -1,34 +1,36 @@
--- `relabel` meets its contract: the entries before `x` are relabelled.
+-- `relabel` meets its contract: the entries before `x` are relabelled, and if `one` still says so, all of them are `b`.
 -- Assumes nothing.
-use mathlib.Core.Path.{_≡_, refl, ap₂, _∙_}
+use mathlib.Core.Path.{_≡_, refl, sym, ap₂, _∙_}
 use mathlib.Core.Logic.{⊎-elim}
-use mathlib.Core.List.{List, append-nil}
-use Prim.Native.Nat.{ℕ, _-_, _<_, _≤_}
+use mathlib.Core.Bool.{true, false, true≢false}
+use mathlib.Core.List.{List}
+use Prim.Native.Nat.{ℕ, _+_, _-_, _<_, _≤_}
 use native.Mathlib.Omega.{arith}
 use denote.Ref.{now}
-use lib.ListN.{length, set, length-set, drop-of-length-le}
-use lib.Seq.{take-all}
+use lib.ListN.{length, set, length-set}
 use Rattle.rules.specs.Factor.{at, relabel}
 use Rattle.rules.proofs.Supremum.{length-relabel}
-use Rattle.factor.proofs.Fill.{filled, filled-step}
-use Rattle.factor.proofs.Joining.{next-renamed, next-kept}
+use Rattle.factor.specs.Joining.{relabelled}
+use Rattle.factor.proofs.Fill.{filled, filled-step, getD-filled}
+use Rattle.factor.proofs.Joining.{one-more, next-renamed, next-kept}
 use Rattle.factor.proofs.join.relabel.Statement.{statement}
 use Rattle.factor.proofs.join.relabel.Tie as tie
 
 abbrev Inv-loop : tie.InvT-loop
-Inv-loop table₀ a b x₀ x-end table x = (x ≤ length table₀) × (x-end ≡ length table₀) × (length table ≡ length table₀) × (table ≡ filled table₀ (relabel a b table₀) x)
+Inv-loop table₀ top a b one₀ x₀ table one x =
+    (x ≤ top) × (length table ≡ 256) × (table ≡ filled table₀ (relabel a b table₀) x) × (one ≡ true → (z : ℕ) → z < x → at (relabel a b table₀) z ≡ b)
 
 abbrev μ-loop : tie.MeasureT-loop
-μ-loop table₀ a b x₀ x-end table x = length table₀ - x
+μ-loop table₀ top a b one₀ x₀ table one x = top - x
 
 loop-holds : tie.Need-loop-holds Inv-loop μ-loop
-loop-holds c = (omega arith, refl, refl, refl)
+loop-holds c = (omega arith, c .pre .0, refl, λ e z h. absurd (omega arith))
 
-slice-read-y : tie.Need-slice-read-y Inv-loop μ-loop
-slice-read-y c = omega arith
+element-copy-out-y : tie.Need-element-copy-out-y Inv-loop μ-loop
+element-copy-out-y c = omega arith
 
-slice-write-table : tie.Need-slice-write-table Inv-loop μ-loop
-slice-write-table c = omega arith
+element-write-table : tie.Need-element-write-table Inv-loop μ-loop
+element-write-table c = omega arith
 
 add-x : tie.Need-add-x Inv-loop μ-loop
 add-x c = omega arith
@@ -38,31 +40,41 @@ loop-less c = omega arith
 
 loop-again : tie.Need-loop-again Inv-loop μ-loop
 loop-again c =
-    let b = c .before .before .before in
+    let b = c .before .before .before .before in
     let s = b .before .args in
     let t = now (s .table) in
     let x = b .loop .x in
     let r = relabel (s .a) (s .b) t in
     let l : length r ≡ length t = length-relabel (s .a) (s .b) t in
     let h : x < length t = omega arith in
-    let y : c .if1 .y ≡ at r x =
+    let y : c .before .if1 .y ≡ at r x =
     ⊎-elim
-    (λ w. w .1 ∙ next-renamed (s .a) (s .b) t (b .loop .table) x h (b .loop .inv .3) (w .0 .taken))
-    (λ w. w .1 ∙ next-kept (s .a) (s .b) t (b .loop .table) x h (b .loop .inv .3) (w .0 .left))
-    (c .if1 .came) in
-    (omega arith, refl, simp length-set (b .loop .inv .2), ap₂ (λ (l : List ℕ) (y : ℕ). set l x y) (b .loop .inv .3) y ∙ filled-step t r x 0 (omega arith) h)
-
-same-length : tie.Need-same-length Inv-loop μ-loop
-same-length c = c .before .loop .inv .2
+    (λ w. w .1 ∙ next-renamed (s .a) (s .b) t (b .loop .table) x h (b .loop .inv .2) (w .0 .taken))
+    (λ w. w .1 ∙ next-kept (s .a) (s .b) t (b .loop .table) x h (b .loop .inv .2) (w .0 .left))
+    (c .before .if1 .came) in (
+      omega arith,
+      simp length-set (b .loop .inv .1),
+      ap₂ (λ (l : List ℕ) (y : ℕ). set l x y) (b .loop .inv .2) y ∙ filled-step t r x 0 (omega arith) h,
+      λ e. ⊎-elim
+          (λ w. absurd (true≢false (sym e ∙ w .1)))
+          (λ w. one-more (λ (z : ℕ). at r z ≡ s .b) x (b .loop .inv .3 (sym (w .1) ∙ e)) (sym y ∙ w .0 .left))
+          (c .if2 .came),
+    )
 
 returns : tie.Need-returns Inv-loop μ-loop
+unfolding relabelled
 returns c =
-    let s = c .before .before .args in
+    let b = c .before in
+    let s = b .before .args in
     let t = now (s .table) in
     let r = relabel (s .a) (s .b) t in
     let l : length r ≡ length t = length-relabel (s .a) (s .b) t in
-    let e : c .before .loop .x ≡ length t = omega arith in
-    c .before .loop .inv .3 ∙ rw e (rw (take-all (length t) r (omega arith), drop-of-length-le t {i = length t} (omega arith), append-nil))
+    let e : b .loop .x ≡ s .top = omega arith in
+    let whole : b .loop .table ≡ filled t r (s .top) = rw (← e) (b .loop .inv .2) in (
+      λ one x y hx hy. rw whole (getD-filled t r (s .top) x 0 hx (omega arith) ∙ b .loop .inv .3 one x (omega arith)
+          ∙ sym (getD-filled t r (s .top) y 0 hy (omega arith) ∙ b .loop .inv .3 one y (omega arith))),
+      whole,
+    )
 
 pub relabel-spec : {M : Type 1} → statement M
 relabel-spec =
@@ -71,10 +83,9 @@ relabel-spec =
     Inv-loop
     μ-loop
     loop-holds
-    slice-read-y
-    slice-write-table
+    element-copy-out-y
+    element-write-table
     add-x
     loop-less
     loop-again
-    same-length
     returns)

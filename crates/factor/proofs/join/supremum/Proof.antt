@@ -1,81 +1,110 @@
--- `supremum` meets its contract.
+-- `supremum` meets its contract: it is the same for the columns exchanged.
 -- Assumes nothing.
-use mathlib.Core.Path.{_≡_, ap, _∙_}
-use mathlib.Core.List.{List}
-use Prim.Native.Nat.{ℕ}
+use mathlib.Core.Path.{_≡_, sym, ap, _∙_, subst}
+use Prim.Native.Nat.{ℕ, _≤_}
 use native.Mathlib.Omega.{arith}
 use denote.Ref.{now}
-use lib.ListN.{length, take, replicate, length-take}
-use Rattle.rules.specs.Factor.{Column, number, classes, joined, supremum}
-use Rattle.factor.specs.Lent.{common, onCommon, plotsOf, overlay}
-use Rattle.factor.specs.Joining.{spread}
-use Rattle.factor.proofs.Joining.{length-spread, number-joined, classes-joined, read-back}
+use lib.ListN.{length, take, length-take}
 use borrow.Author.Needs.{needs}
+use Rattle.rules.specs.Factor.{Column, classes, supremum}
+use Rattle.rules.proofs.Bounds.{supremum-comm}
+use Rattle.factor.specs.Lent.{onCommon, overlay}
 use Rattle.factor.proofs.join.supremum.Statement.{statement}
 use Rattle.factor.proofs.join.supremum.Tie as tie
 
 common-plots-requires : tie.Need-common-plots-requires
 common-plots-requires c κs = search needs
 
-slice-aggregate-joined : tie.Need-slice-aggregate-joined
-slice-aggregate-joined c = simp length-take (omega arith)
+-- the plots that are treated
+module _ (c : tie.After-common-plots) where
+  abbrev F : Column
+  F = now (c .before .before .before .args .f)
 
-slice-aggregate-joined-2 : tie.Need-slice-aggregate-joined-2
-slice-aggregate-joined-2 c = simp length-take (omega arith)
+  abbrev G : Column
+  G = now (c .before .before .before .args .g)
 
-joined-requires : tie.Need-joined-requires
-joined-requires c κs = simp length-take (omega arith)
+  abbrev n : ℕ
+  n = c .common-plots .result
 
-slice-aggregate-spread : tie.Need-slice-aggregate-spread
-slice-aggregate-spread c = simp length-take (omega arith)
+  abbrev f : Column
+  f = take n F
 
-slice-aggregate-spread-2 : tie.Need-slice-aggregate-spread-2
-slice-aggregate-spread-2 c = search needs
+  abbrev g : Column
+  g = take n G
 
-spread-requires : tie.Need-spread-requires
-spread-requires c κs = simp length-take (omega arith)
+  few : n ≤ 240
+  few = omega arith
 
-array-share-prefix-column : tie.Need-array-share-prefix-column
-array-share-prefix-column c = search needs
+  long-f : n ≡ length f
+  long-f = sym (length-take n F ∙ omega arith)
 
-slice-aggregate-number : tie.Need-slice-aggregate-number
-slice-aggregate-number c = simp length-take (omega (arith, c .before .before .spread .kept .1 .1 .0))
+  long-g : n ≡ length g
+  long-g = sym (length-take n G ∙ omega arith)
 
-number-requires : tie.Need-number-requires
-number-requires c κs = search needs
+  whole : supremum f g ≡ onCommon supremum F G
+  whole = ap (λ (m : ℕ). supremum (take m F) (take m G)) (c .common-plots .ensures)
+
+slice-aggregate-past-labels : tie.Need-slice-aggregate-past-labels
+slice-aggregate-past-labels c = long-f (c .before)
+
+past-labels-requires : tie.Need-past-labels-requires
+past-labels-requires c κs = search needs
+
+slice-aggregate-past-labels-2 : tie.Need-slice-aggregate-past-labels-2
+slice-aggregate-past-labels-2 c = long-g (c .before .before .before)
+
+past-labels-requires-2 : tie.Need-past-labels-requires-2
+past-labels-requires-2 c κs = search needs
+
+slice-aggregate-number-joined : tie.Need-slice-aggregate-number-joined
+slice-aggregate-number-joined c = long-g (c .before .before .before .before .before .before)
+
+slice-aggregate-number-joined-2 : tie.Need-slice-aggregate-number-joined-2
+slice-aggregate-number-joined-2 c = long-f (c .before .before .before .before .before .before .before)
+
+number-joined-requires : tie.Need-number-joined-requires
+number-joined-requires c κs =
+    let k = c .before .before .before .before .before .before .before .before in
+    let p = c .before .before .before .before .past-labels2 .ensures in
+    (subst (λ (m : ℕ). m ≤ 240) (long-g k) (few k), sym (long-f k) ∙ long-g k, p .1, p .2)
 
 returns : tie.Need-returns
 returns c =
-    let k = c .before .before .before .before .before .before .before .before .before .before in
-    let s = k .before .before .before .args in
-    let n = k .common-plots .result in
-    let f = take n (now (s .f)) in
-    let g = take n (now (s .g)) in
-    let j = c .before .before .before .before .before .before .before in
-    let p = c .before .before .before .before in
-    let l = spread (j .joined .result) f in
-    let zeros : List ℕ = replicate 240 0 in
-    let long : length l ≡ n = length-spread (j .joined .result) f ∙ simp length-take (omega arith) in
-    let back : plotsOf (take n (p .spread .last .1 .1 .0)) ≡ l = ap (λ (x : Column). plotsOf (take n x)) (p .spread .ensures) ∙ read-back zeros l n long (omega arith) in
-    let out = now (s .out) in
-    let e : n ≡ common (now (s .f)) (now (s .g)) = k .common-plots .ensures in
-    let whole : supremum f g ≡ onCommon supremum (now (s .f)) (now (s .g)) = ap (λ (m : ℕ). supremum (take m (now (s .f))) (take m (now (s .g)))) e in (
-      c .number .ensures .0 ∙ ap classes back ∙ classes-joined f g l (j .joined .ensures) ∙ ap classes whole,
-      c .number .ensures .1 ∙ ap (λ (x : Column). overlay out (number x)) back ∙ ap (overlay out) (number-joined f g l (j .joined .ensures) ∙ whole),
-    )
+    let k = c .before .before .before .before .before .before .before .before .before in
+    let e = supremum-comm (n k) (g k) (f k) (sym (long-g k)) (sym (long-f k)) ∙ whole k in
+    (c .number-joined .ensures .0 ∙ ap classes e, c .number-joined .ensures .1 ∙ ap (overlay (now (k .before .before .before .args .out))) e)
+
+slice-aggregate-number-joined-3 : tie.Need-slice-aggregate-number-joined-3
+slice-aggregate-number-joined-3 c = long-f (c .before .before .before .before .before .before)
+
+slice-aggregate-number-joined-4 : tie.Need-slice-aggregate-number-joined-4
+slice-aggregate-number-joined-4 c = long-g (c .before .before .before .before .before .before .before)
+
+number-joined-requires-2 : tie.Need-number-joined-requires-2
+number-joined-requires-2 c κs =
+    let k = c .before .before .before .before .before .before .before .before in
+    let p = c .before .before .before .before .before .before .past-labels .ensures in
+    (subst (λ (m : ℕ). m ≤ 240) (long-f k) (few k), sym (long-g k) ∙ long-f k, p .1, p .2)
+
+returns-2 : tie.Need-returns-2
+returns-2 c =
+    let k = c .before .before .before .before .before .before .before .before .before in
+    (c .number-joined2 .ensures .0 ∙ ap classes (whole k), c .number-joined2 .ensures .1 ∙ ap (overlay (now (k .before .before .before .args .out))) (whole k))
 
 pub supremum-spec : {M : Type 1} → statement M
 supremum-spec =
     tie.close
     (tie.spec
     common-plots-requires
-    slice-aggregate-joined
-    slice-aggregate-joined-2
-    joined-requires
-    slice-aggregate-spread
-    slice-aggregate-spread-2
-    spread-requires
-    array-share-prefix-column
-    slice-aggregate-number
-    number-requires
-    returns)
+    slice-aggregate-past-labels
+    past-labels-requires
+    slice-aggregate-past-labels-2
+    past-labels-requires-2
+    slice-aggregate-number-joined
+    slice-aggregate-number-joined-2
+    number-joined-requires
+    returns
+    slice-aggregate-number-joined-3
+    slice-aggregate-number-joined-4
+    number-joined-requires-2
+    returns-2)

@@ -1,42 +1,30 @@
--- `orthogonal` meets its contract: infimum and supremum lie at the start of the two local columns, and the test goes by plots.
+-- `orthogonal` meets its contract.
 -- Assumes nothing.
-use mathlib.Core.Path.{_≡_, sym, ap, ap₂, _∙_}
-use Prim.Native.Nat.{ℕ}
+use mathlib.Core.Path.{_≡_, sym, ap, _∙_, subst}
+use Prim.Native.Nat.{ℕ, _*_, _≤_}
+use native.Mathlib.Nat.{mul-le-mul}
 use native.Mathlib.Omega.{arith}
 use denote.Ref.{now}
-use lib.ListN.{length, take, replicate, length-take}
+use lib.ListN.{length, take, length-take}
 use borrow.Author.Needs.{needs}
-use Rattle.rules.specs.Factor.{Column, infimum, supremum, orthogonal}
-use Rattle.rules.proofs.Bounds.{length-infimum′, length-supremum′}
-use Rattle.rules.proofs.Orthogonality.{orthogonal-test-plots}
-use Rattle.factor.specs.Lent.{onCommon, overlay}
-use Rattle.factor.specs.Standing.{testCommon, balanced}
-use Rattle.factor.proofs.Lent.{take-overlay}
+use Rattle.rules.specs.Factor.{Column, orthogonal}
+use Rattle.factor.specs.Standing.{testCommon}
 use Rattle.factor.proofs.standing.orthogonal.Statement.{statement}
 use Rattle.factor.proofs.standing.orthogonal.Tie as tie
 
 common-plots-requires : tie.Need-common-plots-requires
 common-plots-requires c κs = search needs
 
-infimum-requires : tie.Need-infimum-requires
-infimum-requires c κs = search needs
-
-supremum-requires : tie.Need-supremum-requires
-supremum-requires c κs = search needs
-
--- what the two local columns hold
-module _ (c : tie.After-supremum) where
-  abbrev plots : tie.After-common-plots
-  plots = c .before .before .before .before
-
+-- the plots that are treated
+module _ (c : tie.After-common-plots) where
   abbrev F : Column
-  F = now (plots .before .before .before .args .f)
+  F = now (c .before .before .before .args .f)
 
   abbrev G : Column
-  G = now (plots .before .before .before .args .g)
+  G = now (c .before .before .before .args .g)
 
   abbrev n : ℕ
-  n = plots .common-plots .result
+  n = c .common-plots .result
 
   abbrev f : Column
   f = take n F
@@ -44,88 +32,69 @@ module _ (c : tie.After-supremum) where
   abbrev g : Column
   g = take n G
 
-  abbrev below : Column
-  below = c .before .before .infimum .last .1 .1 .0
+  few : n ≤ 240
+  few = omega arith
 
-  abbrev above : Column
-  above = c .supremum .last .1 .1 .0
+  long-f : n ≡ length f
+  long-f = sym (length-take n F ∙ omega arith)
 
-  long-f : length f ≡ n
-  long-f = simp length-take (omega arith)
+  long-g : n ≡ length g
+  long-g = sym (length-take n G ∙ omega arith)
 
-  long-g : length g ≡ n
-  long-g = simp length-take (omega arith)
+  whole : orthogonal (length f) f g ≡ testCommon orthogonal F G
+  whole = ap (λ (m : ℕ). orthogonal m f g) (sym long-f) ∙ ap (λ (m : ℕ). orthogonal m (take m F) (take m G)) (c .common-plots .ensures)
 
-  -- a column that an operation of n plots has written
-  start-of : (op : Column → Column → Column) (out : Column) → out ≡ overlay (replicate 240 0) (onCommon op F G) → length (op f g) ≡ n → take n out ≡ op f g
-  start-of op out e l =
-      ap (take n) (e ∙ ap (λ (m : ℕ). overlay (replicate 240 0) (op (take m F) (take m G))) (sym (plots .common-plots .ensures)))
-      ∙ take-overlay (replicate 240 0) (op f g) n l
+slice-aggregate-past-labels : tie.Need-slice-aggregate-past-labels
+slice-aggregate-past-labels c = long-f (c .before)
 
-  long-infimum : length (infimum f g) ≡ n
-  long-infimum = length-infimum′ n f g long-f long-g
+past-labels-requires : tie.Need-past-labels-requires
+past-labels-requires c κs = search needs
 
-  long-supremum : length (supremum f g) ≡ n
-  long-supremum = length-supremum′ n f g long-f long-g
+slice-aggregate-past-labels-2 : tie.Need-slice-aggregate-past-labels-2
+slice-aggregate-past-labels-2 c = long-g (c .before .before .before)
 
-  lower : take n below ≡ infimum f g
-  lower = start-of infimum below (c .before .before .infimum .ensures .1) long-infimum
+past-labels-requires-2 : tie.Need-past-labels-requires-2
+past-labels-requires-2 c κs = search needs
 
-  upper : take n above ≡ supremum f g
-  upper = start-of supremum above (c .supremum .ensures .1) long-supremum
+mul-if1 : tie.Need-mul-if1
+mul-if1 c = omega (arith, mul-le-mul (c .before .before .past-labels .ensures .1) (c .past-labels2 .ensures .1))
 
-  long-below : length (take n below) ≡ n
-  long-below = ap length lower ∙ long-infimum
+slice-aggregate-orthogonal-cells : tie.Need-slice-aggregate-orthogonal-cells
+slice-aggregate-orthogonal-cells c = long-f (c .before .before .before .before .before .before)
 
-  long-above : length (take n above) ≡ n
-  long-above = ap length upper ∙ long-supremum
+slice-aggregate-orthogonal-cells-2 : tie.Need-slice-aggregate-orthogonal-cells-2
+slice-aggregate-orthogonal-cells-2 c = long-g (c .before .before .before .before .before .before .before)
 
-  by-plots : balanced (length (take n below)) (take n below) (take n above) f g ≡ testCommon orthogonal F G
-  unfolding balanced
-  by-plots =
-      ap (λ (m : ℕ). balanced m (take n below) (take n above) f g) long-below
-      ∙ ap₂ (λ (A B : Column). balanced n A B f g) lower upper
-      ∙ sym (orthogonal-test-plots n f g long-f long-g)
-      ∙ ap (λ (m : ℕ). orthogonal m (take m F) (take m G)) (plots .common-plots .ensures)
-
-array-share-prefix-below : tie.Need-array-share-prefix-below
-array-share-prefix-below c = omega (arith, long-below c, length-take (n c) (below c))
-
-slice-aggregate-balanced : tie.Need-slice-aggregate-balanced
-slice-aggregate-balanced c = sym (long-below (c .before))
-
-array-share-prefix-above : tie.Need-array-share-prefix-above
-array-share-prefix-above c = omega (arith, long-above (c .before), length-take (n (c .before)) (above (c .before)))
-
-slice-aggregate-balanced-2 : tie.Need-slice-aggregate-balanced-2
-slice-aggregate-balanced-2 c = sym (long-above (c .before .before))
-
-slice-aggregate-balanced-3 : tie.Need-slice-aggregate-balanced-3
-slice-aggregate-balanced-3 c = sym (long-f (c .before .before .before))
-
-slice-aggregate-balanced-4 : tie.Need-slice-aggregate-balanced-4
-slice-aggregate-balanced-4 c = sym (long-g (c .before .before .before .before))
-
-balanced-requires : tie.Need-balanced-requires
-balanced-requires c κs =
-    let k = c .before .before .before .before in
-    (omega (arith, long-below k), long-above k ∙ sym (long-below k), long-f k ∙ sym (long-below k), long-g k ∙ sym (long-below k))
+orthogonal-cells-requires : tie.Need-orthogonal-cells-requires
+orthogonal-cells-requires c κs =
+    let t = c .before .before in
+    let k = t .before .before .before .before .before in
+    let a = t .before .before .before .past-labels .ensures in
+    let b = t .before .past-labels2 .ensures in
+    (subst (λ (m : ℕ). m ≤ 240) (long-f k) (few k), sym (long-g k) ∙ long-f k, a .1, b .1, a .2, b .2, t .if1 .taken)
 
 returns : tie.Need-returns
-returns c = c .balanced .ensures ∙ by-plots (c .before .before .before .before .before)
+returns c = c .orthogonal-cells .ensures ∙ whole (c .before .before .before .before .before .before .before .before)
+
+orthogonal-plots-requires : tie.Need-orthogonal-plots-requires
+orthogonal-plots-requires c κs = search needs
+
+returns-2 : tie.Need-returns-2
+returns-2 c = search needs
 
 pub orthogonal-spec : {M : Type 1} → statement M
 orthogonal-spec =
     tie.close
     (tie.spec
     common-plots-requires
-    infimum-requires
-    supremum-requires
-    array-share-prefix-below
-    slice-aggregate-balanced
-    array-share-prefix-above
-    slice-aggregate-balanced-2
-    slice-aggregate-balanced-3
-    slice-aggregate-balanced-4
-    balanced-requires
-    returns)
+    slice-aggregate-past-labels
+    past-labels-requires
+    slice-aggregate-past-labels-2
+    past-labels-requires-2
+    mul-if1
+    slice-aggregate-orthogonal-cells
+    slice-aggregate-orthogonal-cells-2
+    orthogonal-cells-requires
+    returns
+    orthogonal-plots-requires
+    returns-2)

@@ -5,20 +5,21 @@ use mathlib.Core.Bool.{true, false}
 use denote.Ref.{now}
 use borrow.Author.Tests.{not-true, not-false}
 use Rattle.rules.specs.Factor.{finer, coarser}
+use Rattle.rules.specs.Lists.{bitAt}
 use Rattle.families.specs.Lent.{columnAt}
 use Rattle.naming.specs.Columns.{outdone}
 use borrow.Author.Needs.{needs}
 use Rattle.naming.proofs.columns.outdoes.Statement.{statement}
 use Rattle.naming.proofs.columns.outdoes.Tie as tie
 
-is-above-requires : tie.Need-is-above-requires
-is-above-requires c κs = search needs
+has-requires : tie.Need-has-requires
+has-requires c κs = search needs
 
 returns : tie.Need-returns
 unfolding outdone coarser
 returns c =
-    let s = c .before .before .before .before .args in
-    let e : finer (s .n) (now (s .member)) (columnAt (s .n) (now (s .columns)) (s .j)) ≡ false = sym (c .before .is-above .ensures) ∙ not-true _ (c .if1 .taken) in
+    let s = c .before .before .before .args in
+    let e : bitAt (s .above) (s .j) ≡ false = sym (c .before .has .ensures) ∙ not-true _ (c .if1 .taken) in
     rw e
 
 column-finer-requires : tie.Need-column-finer-requires
@@ -28,9 +29,9 @@ returns-2 : tie.Need-returns-2
 unfolding outdone coarser
 returns-2 c =
     let p = c .before .before in
-    let s = p .before .before .before .before .args in
+    let s = p .before .before .before .args in
     let b = now (s .columns) in
-    let e : finer (s .n) (now (s .member)) (columnAt (s .n) b (s .j)) ≡ true = sym (p .before .is-above .ensures) ∙ not-false _ (p .if1 .left) in
+    let e : bitAt (s .above) (s .j) ≡ true = sym (p .before .has .ensures) ∙ not-false _ (p .if1 .left) in
     let f : finer (s .n) (columnAt (s .n) b (s .j)) (columnAt (s .n) b (s .i)) ≡ false = sym (c .before .column-finer .ensures) ∙ not-true _ (c .if2 .taken) in
     rw (e, f)
 
@@ -42,9 +43,9 @@ unfolding outdone coarser
 returns-3 c =
     let q = c .before .before in
     let p = q .before .before in
-    let s = p .before .before .before .before .args in
+    let s = p .before .before .before .args in
     let b = now (s .columns) in
-    let e : finer (s .n) (now (s .member)) (columnAt (s .n) b (s .j)) ≡ true = sym (p .before .is-above .ensures) ∙ not-false _ (p .if1 .left) in
+    let e : bitAt (s .above) (s .j) ≡ true = sym (p .before .has .ensures) ∙ not-false _ (p .if1 .left) in
     let f : finer (s .n) (columnAt (s .n) b (s .j)) (columnAt (s .n) b (s .i)) ≡ true = sym (q .before .column-finer .ensures) ∙ not-false _ (q .if2 .left) in
     let g : finer (s .n) (columnAt (s .n) b (s .i)) (columnAt (s .n) b (s .j)) ≡ false = sym (c .before .column-finer2 .ensures) ∙ not-true _ (c .if3 .taken) in
     rw (e, f, g)
@@ -54,9 +55,9 @@ unfolding outdone coarser
 returns-4 c =
     let q = c .before .before in
     let p = q .before .before in
-    let s = p .before .before .before .before .args in
+    let s = p .before .before .before .args in
     let b = now (s .columns) in
-    let e : finer (s .n) (now (s .member)) (columnAt (s .n) b (s .j)) ≡ true = sym (p .before .is-above .ensures) ∙ not-false _ (p .if1 .left) in
+    let e : bitAt (s .above) (s .j) ≡ true = sym (p .before .has .ensures) ∙ not-false _ (p .if1 .left) in
     let f : finer (s .n) (columnAt (s .n) b (s .j)) (columnAt (s .n) b (s .i)) ≡ true = sym (q .before .column-finer .ensures) ∙ not-false _ (q .if2 .left) in
     let g : finer (s .n) (columnAt (s .n) b (s .i)) (columnAt (s .n) b (s .j)) ≡ true = sym (c .before .column-finer2 .ensures) ∙ not-false _ (c .if3 .left) in
     rw (e, f, g)
@@ -65,7 +66,7 @@ pub outdoes-spec : {M : Type 1} → statement M
 outdoes-spec =
     tie.close
     (tie.spec
-    is-above-requires
+    has-requires
     returns
     column-finer-requires
     returns-2

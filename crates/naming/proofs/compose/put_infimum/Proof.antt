@@ -6,10 +6,11 @@ use denote.Ref.{now}
 use borrow.Author.Needs.{needs}
 use Prim.Native.Nat.{ℕ}
 use Rattle.rules.specs.Family.{membersOf}
-use Rattle.rules.specs.Lists.{passingFrom}
+use Rattle.rules.specs.Lists.{passingFrom, bitAt}
 use Rattle.rules.specs.Sheet.{columnNames, header}
-use Rattle.rules.specs.Names.{listed, withCommas, bytesOf}
+use Rattle.rules.specs.Names.{withCommas, bytesOf}
 use Rattle.decimal.specs.Writing.{written, placeAfter}
+use Rattle.naming.specs.Columns.{listedBy}
 use Rattle.naming.proofs.Listing.{then-place, then-bytes}
 use Rattle.naming.proofs.compose.put_infimum.Statement.{statement}
 use Rattle.naming.proofs.compose.put_infimum.Tie as tie
@@ -35,11 +36,11 @@ same-length c = search needs
 returns : tie.Need-returns
 unfolding bytesOf
 returns c =
-    let a = c .before .before .before .before .before .before .before .before .before .before .before .before .before .before .before .before .before .before .args in
+    let a = c .before .before .before .before .before .before .before .before .before .before .before .before .before .before .before .before .before .args in
     let out = now (a .out) in
     let opened : List ℕ = 73 ∷ 40 ∷ [] in
     let closed : List ℕ = 41 ∷ [] in
-    let names = withCommas (columnNames (a .mark) (header (now (a .text)))) (passingFrom (listed (a .n) (now (a .member)) (membersOf (a .n) (now (a .columns)) (a .count))) 0 (a .count)) in
+    let names = withCommas (columnNames (a .mark) (header (now (a .text)))) (passingFrom (listedBy (bitAt (a .above)) (a .n) (membersOf (a .n) (now (a .columns)) (a .count))) 0 (a .count)) in
     let k = c .before .before .before .before .before .before .before .before .before .before .before .write-bytes in
     let l = c .before .before .before .before .before .before .before .put-listed in
     let w = c .before .before .write-bytes2 in

@@ -11,30 +11,31 @@ use lib.ListN.{length, getD}
 use borrow.Author.Needs.{needs}
 use Rattle.rules.specs.Family.{membersOf}
 use Rattle.rules.specs.Sheet.{columnNames, header}
-use Rattle.rules.specs.Names.{listed}
+use Rattle.rules.specs.Lists.{bitAt}
 use Rattle.decimal.specs.Writing.{written, placeAfter}
 use Rattle.decimal.proofs.Writing.{length-written}
+use Rattle.naming.specs.Columns.{listedBy}
 use Rattle.naming.specs.Listing.{separated}
 use Rattle.naming.proofs.Listing.{Lists, lists-start, lists-past, lists-next, lists-end}
 use Rattle.naming.proofs.compose.put_listed.Statement.{statement}
 use Rattle.naming.proofs.compose.put_listed.Tie as tie
 
 abbrev Inv-loop : tie.InvT-loop
-Inv-loop text mark columns n count member out₀ at end₀ first₀ i₀ out end first i =
-    (i ≤ count) × (length out ≡ length out₀) × Lists (columnNames mark (header text)) (listed n member (membersOf n columns count)) count out₀ at out end first i
+Inv-loop text mark columns n count above out₀ at end₀ first₀ i₀ out end first i =
+    (i ≤ count) × (length out ≡ length out₀) × Lists (columnNames mark (header text)) (listedBy (bitAt above) n (membersOf n columns count)) count out₀ at out end first i
 
 abbrev μ-loop : tie.MeasureT-loop
-μ-loop text mark columns n count member out₀ at end₀ first₀ i₀ out end first i = count - i
+μ-loop text mark columns n count above out₀ at end₀ first₀ i₀ out end first i = count - i
 
 loop-holds : tie.Need-loop-holds Inv-loop μ-loop
 loop-holds c =
-    let a = c .before .before .before .before .args in
-    (omega arith, refl, lists-start (columnNames (a .mark) (header (now (a .text)))) (listed (a .n) (now (a .member)) (membersOf (a .n) (now (a .columns)) (a .count))) (a .count) (now (a .out)) (a .at))
+    let a = c .before .before .before .args in
+    (omega arith, refl, lists-start (columnNames (a .mark) (header (now (a .text)))) (listedBy (bitAt (a .above)) (a .n) (membersOf (a .n) (now (a .columns)) (a .count))) (a .count) (now (a .out)) (a .at))
 
 is-listed-requires : tie.Need-is-listed-requires Inv-loop μ-loop
 is-listed-requires c κs =
-    let s = c .before .before .before .before .before .before in
-    (s .pre .0, omega arith, s .pre .1)
+    let s = c .before .before .before .before .before in
+    (s .pre, omega arith)
 
 put-next-requires : tie.Need-put-next-requires Inv-loop μ-loop
 put-next-requires c κs = search needs
@@ -49,9 +50,9 @@ loop-again : tie.Need-loop-again Inv-loop μ-loop
 loop-again c =
     let k = c .before in
     let b = k .before .before in
-    let a = b .before .before .before .before .before .args in
+    let a = b .before .before .before .before .args in
     let names = columnNames (a .mark) (header (now (a .text))) in
-    let t = listed (a .n) (now (a .member)) (membersOf (a .n) (now (a .columns)) (a .count)) in
+    let t = listedBy (bitAt (a .above)) (a .n) (membersOf (a .n) (now (a .columns)) (a .count)) in
     let out = b .loop .out in
     let end = b .loop .end in
     let i = b .loop .i in
@@ -74,8 +75,8 @@ same-length c = c .before .loop .inv .1
 returns : tie.Need-returns Inv-loop μ-loop
 returns c =
     let b = c .before in
-    let a = b .before .before .before .before .before .args in
-    let r = lists-end (columnNames (a .mark) (header (now (a .text)))) (listed (a .n) (now (a .member)) (membersOf (a .n) (now (a .columns)) (a .count))) (a .count) (now (a .out)) (a .at) (b .loop .out) (b .loop .end) (b .loop .first) (b .loop .i) (b .loop .inv .2) (omega arith) in
+    let a = b .before .before .before .before .args in
+    let r = lists-end (columnNames (a .mark) (header (now (a .text)))) (listedBy (bitAt (a .above)) (a .n) (membersOf (a .n) (now (a .columns)) (a .count))) (a .count) (now (a .out)) (a .at) (b .loop .out) (b .loop .end) (b .loop .first) (b .loop .i) (b .loop .inv .2) (omega arith) in
     (r .1, r .0)
 
 pub put-listed-spec : {M : Type 1} → statement M

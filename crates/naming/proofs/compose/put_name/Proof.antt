@@ -1,103 +1,97 @@
--- `put_name` meets its contract: the first rule that fits.
+-- `put_name` meets its contract: the member is U or E, or the columns are numbered, which changes no name.
 -- Assumes nothing.
-use mathlib.Core.Path.{_≡_, sym, ap, _∙_}
-use mathlib.Core.List.{List, [], _∷_}
-use Prim.Native.Nat.{ℕ}
+use mathlib.Core.Path.{_≡_, sym, ap, ap₂, _∙_}
+use mathlib.Core.List.{List}
+use Prim.Native.Nat.{ℕ, _≤_}
+use native.Mathlib.Omega.{arith}
 use denote.Ref.{now}
-use Rattle.rules.specs.Family.{columnsFrom}
+use lib.ListN.{length}
+use Rattle.rules.specs.Family.{columnsFrom, membersOf, allNumbered}
 use Rattle.rules.specs.Sheet.{columnNames, header}
-use Rattle.rules.specs.Names.{equivalentColumn, nameByColumn, nameOf, bytesOf}
+use Rattle.rules.specs.Factor.{Column}
+use Rattle.rules.specs.Names.{equivalentColumn, nameByColumn, bytesOf}
 use Rattle.decimal.specs.Writing.{written, placeAfter}
-use Rattle.naming.proofs.Rules.{one-class, all-classes, between}
+use Rattle.naming.specs.Columns.{numberedFrom}
+use Rattle.naming.proofs.Members.{extreme-some, extreme-none}
+use Rattle.naming.proofs.Numbered.{by-column-numbered}
+use Rattle.naming.proofs.Tables.{columns-on, all-numbered}
 use borrow.Author.Needs.{needs}
 use Rattle.naming.proofs.compose.put_name.Statement.{statement}
 use Rattle.naming.proofs.compose.put_name.Tie as tie
 
-classes-requires : tie.Need-classes-requires
-classes-requires c κs = search needs
-
-slice-aggregate-write-bytes : tie.Need-slice-aggregate-write-bytes
-slice-aggregate-write-bytes c = search needs
-
-write-bytes-requires : tie.Need-write-bytes-requires
-write-bytes-requires c κs = search needs
+put-extreme-requires : tie.Need-put-extreme-requires
+put-extreme-requires c κs = search needs
 
 same-length : tie.Need-same-length
 same-length c = search needs
 
 returns : tie.Need-returns
-unfolding bytesOf
 returns c =
-    let a = c .before .before .before .before .before .before .before .before .before .before .before .args in
+    let p = c .before .before .before in
+    let a = p .before .before .before .before .before .before .args in
     let n = a .n in
     let F = now (a .member) in
     let Cs = columnsFrom n (now (a .levels)) (a .first) (a .count) in
     let names = columnNames (a .mark) (header (now (a .text))) in
     let out = now (a .out) in
-    let k = c .before .before .before .before .before .before .classes in
-    let one : List ℕ = 85 ∷ [] in
-    let q : one ≡ bytesOf names (nameOf n Cs (a .place) F) = sym (ap (bytesOf names) (one-class n Cs (a .place) F (sym (k .ensures) ∙ c .before .before .before .before .before .if1 .taken))) in
-    let w = c .before .before .write-bytes .ensures in
-    (w .0 ∙ ap (placeAfter out 0) q, w .1 ∙ ap (written out 0) q)
+    let room : 1 ≤ length out = omega arith in
+    let q = extreme-some names n Cs (a .place) F out room (λ z. c .if1 .taken (p .put-extreme .ensures .0 ∙ z)) in
+    (p .put-extreme .ensures .0 ∙ ap (placeAfter out 0) q, p .put-extreme .ensures .1 ∙ ap (written out 0) q)
 
-slice-aggregate-write-bytes-2 : tie.Need-slice-aggregate-write-bytes-2
-slice-aggregate-write-bytes-2 c = search needs
+slice-aggregate-number-columns : tie.Need-slice-aggregate-number-columns
+slice-aggregate-number-columns c = search needs
 
-write-bytes-requires-2 : tie.Need-write-bytes-requires-2
-write-bytes-requires-2 c κs = search needs
+number-columns-requires : tie.Need-number-columns-requires
+number-columns-requires c κs = search needs
+
+slice-aggregate-by-columns : tie.Need-slice-aggregate-by-columns
+slice-aggregate-by-columns c = search needs
+
+by-columns-requires : tie.Need-by-columns-requires
+unfolding numberedFrom
+by-columns-requires c κs =
+    let a = c .before .before .before .before .before .before .before .before .before .before .before .before .before .before .args in
+    let m = c .before .before .before .number-columns in
+    let long : length (m .last .1 .1 .1 .1 .0) ≡ 1440 = search needs in (
+      record { few-plots = omega arith; few = omega arith; long = omega arith },
+      ap allNumbered (m .ensures) ∙ all-numbered (columnsFrom (a .n) (now (a .levels)) (a .first) (a .count)),
+      omega arith,
+    )
 
 same-length-2 : tie.Need-same-length-2
 same-length-2 c = search needs
 
 returns-2 : tie.Need-returns-2
-unfolding bytesOf
+unfolding numberedFrom
 returns-2 c =
-    let a = c .before .before .before .before .before .before .before .before .before .before .before .before .args in
+    let p = c .before .before .before .before .before .before .before .before .before .before .before in
+    let a = p .before .before .before .before .before .before .args in
     let n = a .n in
     let F = now (a .member) in
     let Cs = columnsFrom n (now (a .levels)) (a .first) (a .count) in
     let names = columnNames (a .mark) (header (now (a .text))) in
     let out = now (a .out) in
-    let k = c .before .before .before .before .before .before .before .classes in
-    let all : List ℕ = 69 ∷ [] in
-    let q : all ≡ bytesOf names (nameOf n Cs (a .place) F) =
-    sym (ap (bytesOf names) (all-classes n Cs (a .place) F (λ z. c .before .before .before .before .before .before .if1 .left (k .ensures ∙ z)) (sym (k .ensures) ∙ c .before .before .before .before .before .if2 .taken))) in
-    let w = c .before .before .write-bytes2 .ensures in
-    (w .0 ∙ ap (placeAfter out 0) q, w .1 ∙ ap (written out 0) q)
-
-by-columns-requires : tie.Need-by-columns-requires
-by-columns-requires c κs = search needs
-
-same-length-3 : tie.Need-same-length-3
-same-length-3 c = search needs
-
-returns-3 : tie.Need-returns-3
-returns-3 c =
-    let a = c .before .before .before .before .before .before .before .before .before .before .before .args in
-    let n = a .n in
-    let F = now (a .member) in
-    let Cs = columnsFrom n (now (a .levels)) (a .first) (a .count) in
-    let names = columnNames (a .mark) (header (now (a .text))) in
-    let out = now (a .out) in
-    let k = c .before .before .before .before .before .before .classes in
-    let q : bytesOf names (nameByColumn n Cs (a .place) F (equivalentColumn F 0 Cs)) ≡ bytesOf names (nameOf n Cs (a .place) F) =
-    sym (ap (bytesOf names) (between n Cs (a .place) F (λ z. c .before .before .before .before .before .if1 .left (k .ensures ∙ z)) (λ z. c .before .before .before .before .if2 .left (k .ensures ∙ z)))) in
+    let room : 1 ≤ length out = omega arith in
+    let r = extreme-none names n Cs (a .place) F out room (sym (p .put-extreme .ensures .0) ∙ c .before .before .before .before .before .before .before .before .if1 .left) in
+    let kept : p .put-extreme .last .1 .1 .0 ≡ out = p .put-extreme .ensures .1 ∙ r .0 in
+    let m = c .before .before .before .before .before .before .number-columns in
+    let on = columns-on n (now (a .levels)) (a .first) (a .count) (omega arith) (omega arith) in
+    let q : bytesOf names (nameByColumn n (membersOf n (m .last .1 .1 .1 .1 .0) (a .count)) (a .place) F (equivalentColumn F 0 (membersOf n (m .last .1 .1 .1 .1 .0) (a .count)))) ≡ bytesOf names (nameByColumn n Cs (a .place) F (equivalentColumn F 0 Cs)) =
+    ap (λ (D : List Column). bytesOf names (nameByColumn n D (a .place) F (equivalentColumn F 0 D))) (m .ensures)
+    ∙ ap (bytesOf names) (by-column-numbered n F Cs on (a .place)) in
     let w = c .before .before .by-columns .ensures in
-    (w .0 ∙ ap (placeAfter out 0) q, w .1 ∙ ap (written out 0) q)
+    (w .0 ∙ ap₂ (λ (o W : List ℕ). placeAfter o 0 W) kept (q ∙ r .1), w .1 ∙ ap₂ (λ (o W : List ℕ). written o 0 W) kept (q ∙ r .1))
 
 pub put-name-spec : {M : Type 1} → statement M
 put-name-spec =
     tie.close
     (tie.spec
-    classes-requires
-    slice-aggregate-write-bytes
-    write-bytes-requires
+    put-extreme-requires
     same-length
     returns
-    slice-aggregate-write-bytes-2
-    write-bytes-requires-2
-    same-length-2
-    returns-2
+    slice-aggregate-number-columns
+    number-columns-requires
+    slice-aggregate-by-columns
     by-columns-requires
-    same-length-3
-    returns-3)
+    same-length-2
+    returns-2)

@@ -1,14 +1,15 @@
 -- `from_15` meets its contract: question 15 is asked of both families.
 -- Assumes nothing.
-use mathlib.Core.Path.{sym, _∙_}
+use mathlib.Core.Path.{sym, ap, _∙_}
 use native.Mathlib.Omega.{arith}
 use denote.Ref.{now}
 use borrow.Author.Needs.{needs}
 use borrow.Author.Tests.{not-true, not-false}
 use Rattle.rules.specs.Family.{membersOf}
 use Rattle.families.proofs.Lent.{formed-in}
+use Rattle.strata.specs.Answers.{withDegrees}
 use Rattle.strata.proofs.Lent.{formed-family}
-use Rattle.strata.proofs.Questions.{strata-15-plot, strata-15-treatment, strata-15-on}
+use Rattle.strata.proofs.Questions.{strata-15-plot, strata-15-treatment, strata-15-on, with-refused}
 use Rattle.strata.proofs.stratum.from_15.Statement.{statement}
 use Rattle.strata.proofs.stratum.from_15.Tie as tie
 
@@ -23,7 +24,7 @@ returns c =
     let a = c .before .before .before .before .before .args in
     let P = membersOf (a .n) (now (a .plot-family)) (a .plot-size) in
     let R = membersOf (a .n) (now (a .treatment-family)) (a .treatment-size) in
-    c .refused .ensures ∙ sym (strata-15-plot (a .n) P R (sym (c .before .before .well-formed .ensures ∙ formed-in (a .n) (now (a .plot-family)) (a .plot-size) (omega arith) (omega arith)) ∙ not-true _ (c .before .if1 .taken)))
+    c .refused .ensures ∙ with-refused (a .n) P R 14 ∙ ap (withDegrees (a .n) P R) (sym (strata-15-plot (a .n) P R (sym (c .before .before .well-formed .ensures ∙ formed-in (a .n) (now (a .plot-family)) (a .plot-size) (omega arith) (omega arith)) ∙ not-true _ (c .before .if1 .taken))))
 
 well-formed-requires-2 : tie.Need-well-formed-requires-2
 well-formed-requires-2 c κs = search needs
@@ -36,8 +37,8 @@ returns-2 c =
     let a = c .before .before .before .before .before .before .before .args in
     let P = membersOf (a .n) (now (a .plot-family)) (a .plot-size) in
     let R = membersOf (a .n) (now (a .treatment-family)) (a .treatment-size) in
-    c .refused2 .ensures
-    ∙ sym (strata-15-treatment (a .n) P R (sym (c .before .before .before .before .well-formed .ensures ∙ formed-in (a .n) (now (a .plot-family)) (a .plot-size) (omega arith) (omega arith)) ∙ not-false _ (c .before .before .before .if1 .left)) (sym (c .before .before .well-formed2 .ensures ∙ formed-in (a .n) (now (a .treatment-family)) (a .treatment-size) (omega arith) (omega arith)) ∙ not-true _ (c .before .if2 .taken)))
+    c .refused2 .ensures ∙ with-refused (a .n) P R 14
+    ∙ ap (withDegrees (a .n) P R) (sym (strata-15-treatment (a .n) P R (sym (c .before .before .before .before .well-formed .ensures ∙ formed-in (a .n) (now (a .plot-family)) (a .plot-size) (omega arith) (omega arith)) ∙ not-false _ (c .before .before .before .if1 .left)) (sym (c .before .before .well-formed2 .ensures ∙ formed-in (a .n) (now (a .treatment-family)) (a .treatment-size) (omega arith) (omega arith)) ∙ not-true _ (c .before .if2 .taken))))
 
 from-16-requires : tie.Need-from-16-requires
 from-16-requires c κs =
@@ -53,7 +54,7 @@ returns-3 c =
     let P = membersOf (a .n) (now (a .plot-family)) (a .plot-size) in
     let R = membersOf (a .n) (now (a .treatment-family)) (a .treatment-size) in
     c .from-16 .ensures
-    ∙ sym (strata-15-on (a .n) P R (sym (c .before .before .before .before .well-formed .ensures ∙ formed-in (a .n) (now (a .plot-family)) (a .plot-size) (omega arith) (omega arith)) ∙ not-false _ (c .before .before .before .if1 .left)) (sym (c .before .before .well-formed2 .ensures ∙ formed-in (a .n) (now (a .treatment-family)) (a .treatment-size) (omega arith) (omega arith)) ∙ not-false _ (c .before .if2 .left)))
+    ∙ ap (withDegrees (a .n) P R) (sym (strata-15-on (a .n) P R (sym (c .before .before .before .before .well-formed .ensures ∙ formed-in (a .n) (now (a .plot-family)) (a .plot-size) (omega arith) (omega arith)) ∙ not-false _ (c .before .before .before .if1 .left)) (sym (c .before .before .well-formed2 .ensures ∙ formed-in (a .n) (now (a .treatment-family)) (a .treatment-size) (omega arith) (omega arith)) ∙ not-false _ (c .before .if2 .left))))
 
 pub from-15-spec : {M : Type 1} → statement M
 from-15-spec =

@@ -17,8 +17,9 @@ use Rattle.rules.specs.Lists.{tabulate, forPlaces}
 use Rattle.rules.specs.Degrees.{degrees}
 use Rattle.rules.specs.Strata.{stratum, allHaveStratum}
 use Rattle.strata.specs.Sums.{AllSmall, residualAt}
+use Rattle.strata.specs.Answers.{withDegrees}
 use Rattle.strata.proofs.Lent.{size-members}
-use Rattle.strata.proofs.Questions.{strata-16, strata-found}
+use Rattle.strata.proofs.Questions.{strata-16, strata-found, with-refused, with-found}
 use Rattle.strata.proofs.Sums.{small-places}
 use Rattle.strata.proofs.DegreeTurns.{small-degrees}
 use Rattle.strata.proofs.StratumLaws.{placed-is, residuals-are}
@@ -47,7 +48,7 @@ returns c =
     sym (placed-is (a .n) P R (a .treatment-size) (size-members (s .pre .1)) (s .pre .1 .few))
     ∙ sym (ap (λ (ps : List ℕ). every (a .treatment-size) (λ t. not (eqb (getD ps t 0) 0))) (c .before .before .before .stratum-places .ensures))
     ∙ sym (c .before .before .all-placed .ensures) ∙ not-true _ (c .before .if1 .taken) in
-    c .refused .ensures ∙ sym (strata-16 (a .n) P R e)
+    c .refused .ensures ∙ with-refused (a .n) P R 15 ∙ ap (withDegrees (a .n) P R) (sym (strata-16 (a .n) P R e))
 
 degrees-requires : tie.Need-degrees-requires
 degrees-requires c κs = search needs
@@ -82,8 +83,9 @@ returns-2 c =
     ∙ sym (c .before .before .before .before .before .all-placed .ensures) ∙ not-false _ (c .before .before .before .before .if1 .left) in
     let q : c .residuals .result ≡ forPlaces (pos 0) (tabulate (residualAt (forPlaces (pos 0) (degrees (a .n) P)) (forPlaces (pos 0) (degrees (a .n) R)) (forPlaces 0 (map (stratum (a .n) P) R)) (a .treatment-size)) (a .plot-size)) =
     c .residuals .ensures ∙ rw (c .before .before .before .degrees .ensures, c .before .degrees2 .ensures, c .before .before .before .before .before .before .stratum-places .ensures) in
-    strata-found (a .n) P R _ _ e (c .before .before .before .before .before .before .stratum-places .ensures)
-    (q ∙ ap (forPlaces (pos 0)) (residuals-are (a .n) P R (a .plot-size) (a .treatment-size) (size-members (s .pre .0)) (size-members (s .pre .1)) (s .pre .0 .few) (s .pre .1 .few)))
+    let found = strata-found (a .n) P R _ _ e (c .before .before .before .before .before .before .stratum-places .ensures)
+    (q ∙ ap (forPlaces (pos 0)) (residuals-are (a .n) P R (a .plot-size) (a .treatment-size) (size-members (s .pre .0)) (size-members (s .pre .1)) (s .pre .0 .few) (s .pre .1 .few))) in
+    with-found (a .n) P R _ _ _ _ _ found (c .before .before .before .degrees .ensures) (c .before .degrees2 .ensures)
 
 pub from-16-spec : {M : Type 1} → statement M
 from-16-spec =

@@ -28,7 +28,9 @@ loop-holds c =
     (omega arith, refl, places-start 0 (map (stratum (a .n) (membersOf (a .n) (now (a .plot-family)) (a .plot-size))) (membersOf (a .n) (now (a .treatment-family)) (a .treatment-size))))
 
 candidates-requires : tie.Need-candidates-requires Inv-loop μ-loop
-candidates-requires c κs = omega arith
+candidates-requires c κs =
+    let s = c .before .before .before .before in
+    (s .pre .0, s .pre .3, omega arith, omega arith)
 
 coarsest-place-requires : tie.Need-coarsest-place-requires Inv-loop μ-loop
 coarsest-place-requires c κs = omega arith

@@ -1,0 +1,168 @@
+-- `put_each` meets its contract: the names of the members before the present one are written.
+-- Assumes nothing.
+use mathlib.Core.Path.{_≡_, refl, sym, ap, ap₂, _∙_}
+use mathlib.Core.List.{List, _++_}
+use Prim.Native.Nat.{ℕ, _+_, _-_, _*_, _≤_}
+use native.Mathlib.Numerals.{add-one}
+use native.Mathlib.Omega.{arith}
+use denote.Ref.{now}
+use lib.ListN.{length, take, drop, length-take, length-drop, set, length-set}
+use borrow.Rule.Slice.PartMut.{midOf, putMid, same-len-mid}
+use Rattle.rules.specs.Factor.{Column}
+use Rattle.rules.specs.Family.{membersOf}
+use Rattle.rules.specs.Sheet.{columnNames, header}
+use Rattle.rules.specs.Names.{nameOf, bytesOf}
+use Rattle.rules.proofs.Buffer.{length-members}
+use Rattle.families.proofs.Lent.{part-of}
+use Rattle.decimal.specs.Writing.{written, placeAfter}
+use Rattle.decimal.proofs.Writing.{written-all, place-all, length-written}
+use Rattle.naming.specs.Answers.{startingWith}
+use Rattle.naming.specs.Members.{namesWritten, lengthsWritten, nameBy}
+use Rattle.naming.proofs.Members.{names-turn, lengths-turn, slot-put, name-by-short}
+use Rattle.naming.proofs.compose.put_each.Statement.{statement}
+use Rattle.naming.proofs.compose.put_each.Tie as tie
+
+abbrev Inv-loop : tie.InvT-loop
+Inv-loop text mark columns n count family size names₀ lengths₀ i₀ names lengths i =
+    (i ≤ size) × (size ≤ 32) × (n ≤ 240) × (7680 ≤ length family) × (length names ≡ length names₀) × (3072 ≤ length names₀) × (length lengths ≡ length lengths₀) × (32 ≤ length lengths₀) × (names ≡ namesWritten (nameBy (columnNames mark (header text)) (membersOf n columns count) n family) names₀ i) × (lengths ≡ lengthsWritten (nameBy (columnNames mark (header text)) (membersOf n columns count) n family) lengths₀ i)
+
+abbrev μ-loop : tie.MeasureT-loop
+μ-loop text mark columns n count family size names₀ lengths₀ i₀ names lengths i = size - i
+
+loop-holds : tie.Need-loop-holds Inv-loop μ-loop
+unfolding namesWritten lengthsWritten
+loop-holds c =
+    let s = c .before .before .before .before .before in
+    (omega arith, s .pre .2 .few, s .pre .0 .few-plots, s .pre .2 .long, refl, s .pre .2 .room, refl, s .pre .2 .counted, refl, refl)
+
+mul-a : tie.Need-mul-a Inv-loop μ-loop
+mul-a c = omega arith
+
+add-e : tie.Need-add-e Inv-loop μ-loop
+add-e c = omega arith
+
+mul-b : tie.Need-mul-b Inv-loop μ-loop
+mul-b c = omega arith
+
+add-f : tie.Need-add-f Inv-loop μ-loop
+add-f c = omega arith
+
+sub-put-member : tie.Need-sub-put-member Inv-loop μ-loop
+sub-put-member c = omega arith
+
+part-put-member-start : tie.Need-part-put-member-start Inv-loop μ-loop
+part-put-member-start c = omega arith
+
+part-put-member-end : tie.Need-part-put-member-end Inv-loop μ-loop
+part-put-member-end c = omega arith
+
+add-put-member : tie.Need-add-put-member Inv-loop μ-loop
+add-put-member c = omega arith
+
+sub-put-member-2 : tie.Need-sub-put-member-2 Inv-loop μ-loop
+sub-put-member-2 c = omega arith
+
+part-put-member-start-2 : tie.Need-part-put-member-start-2 Inv-loop μ-loop
+part-put-member-start-2 c = omega arith
+
+part-put-member-end-2 : tie.Need-part-put-member-end-2 Inv-loop μ-loop
+part-put-member-end-2 c = omega arith
+
+put-member-requires : tie.Need-put-member-requires Inv-loop μ-loop
+put-member-requires c κs =
+    let s = c .before .before .before .before .before .before .before .before .before in
+    (s .pre .0, s .pre .1, simp (length-take, length-drop) (omega arith), simp (length-take, length-drop) (omega arith))
+
+mul-lengths : tie.Need-mul-lengths Inv-loop μ-loop
+mul-lengths c = omega arith
+
+slice-write-lengths : tie.Need-slice-write-lengths Inv-loop μ-loop
+slice-write-lengths c = omega arith
+
+add-i : tie.Need-add-i Inv-loop μ-loop
+add-i c = omega arith
+
+loop-less : tie.Need-loop-less Inv-loop μ-loop
+loop-less c = omega arith
+
+loop-again : tie.Need-loop-again Inv-loop μ-loop
+unfolding nameBy
+loop-again c =
+    let b = c .before .before .before .before .before .before in
+    let s = b .before .before .before .before .before .before in
+    let a = s .args in
+    let n = a .n in
+    let family = now (a .family) in
+    let S = membersOf n (now (a .columns)) (a .count) in
+    let columns = columnNames (a .mark) (header (now (a .text))) in
+    let f = nameBy columns S n family in
+    let i = b .loop .i in
+    let k = 96 * i + 96 - 96 * i in
+    let mid = midOf (96 * i) k (b .loop .names) in
+    let w = c .before .before .put-member in
+    let same : bytesOf columns (nameOf n S (i + 1) (take (240 * i + n - 240 * i) (drop (240 * i) family))) ≡ f i =
+    ap₂ (λ (p : ℕ) (F : Column). bytesOf columns (nameOf n S p F)) (add-one i) (part-of n i family) in
+    let sized : length S ≡ a .count = length-members n (s .pre .0 .few-plots) (now (a .columns)) (a .count) in
+    let short : length (f i) ≤ 96 = name-by-short columns S n family i (s .pre .2 .short) (omega (arith, s .pre .0 .few)) (omega arith) in
+    let part : length mid ≡ 96 = simp (length-take, length-drop) (omega arith) in
+    let fits : length (f i) ≤ length mid = omega arith in
+    let back : w .last .1 .1 .1 .1 .1 .1 .1 .0 ≡ startingWith (f i) mid = w .ensures .1 ∙ ap (written mid 0) same ∙ written-all mid (f i) fits in
+    let long : w .result ≡ length (f i) = w .ensures .0 ∙ ap (placeAfter mid 0) same ∙ place-all mid (f i) fits in
+    let names-are : putMid (96 * i) k (b .loop .names) (w .last .1 .1 .1 .1 .1 .1 .1 .0) ≡ namesWritten f (now (a .names)) (i + 1) =
+    ap (putMid (96 * i) k (b .loop .names)) back ∙ slot-put i k (b .loop .names) (f i) (omega arith) (omega arith) short
+    ∙ ap (λ (x : List ℕ). take (96 * i) x ++ startingWith (f i) (drop (96 * i) x)) (b .loop .inv .8) ∙ sym (names-turn f (now (a .names)) (now (a .lengths)) i) in
+    let lengths-are : set (b .loop .lengths) i (w .result) ≡ lengthsWritten f (now (a .lengths)) (i + 1) =
+    ap₂ (λ (x : List ℕ) (m : ℕ). set x i m) (b .loop .inv .9) long ∙ sym (lengths-turn f (now (a .names)) (now (a .lengths)) i) in (
+      omega arith,
+      b .loop .inv .1,
+      b .loop .inv .2,
+      b .loop .inv .3,
+      same-len-mid (96 * i) k (b .loop .names) (w .last .1 .1 .1 .1 .1 .1 .1 .0) (ap length (w .ensures .1) ∙ length-written mid 0 (bytesOf columns (nameOf n S (i + 1) (take (240 * i + n - 240 * i) (drop (240 * i) family))))) ∙ b .loop .inv .4,
+      b .loop .inv .5,
+      length-set (b .loop .lengths) i (w .result) ∙ b .loop .inv .6,
+      b .loop .inv .7,
+      names-are,
+      lengths-are,
+    )
+
+same-length : tie.Need-same-length Inv-loop μ-loop
+same-length c = c .before .loop .inv .4
+
+same-length-2 : tie.Need-same-length-2 Inv-loop μ-loop
+same-length-2 c = c .before .loop .inv .6
+
+returns : tie.Need-returns Inv-loop μ-loop
+returns c =
+    let b = c .before in
+    let a = b .before .before .before .before .before .before .args in
+    let f = nameBy (columnNames (a .mark) (header (now (a .text)))) (membersOf (a .n) (now (a .columns)) (a .count)) (a .n) (now (a .family)) in
+    let e : b .loop .i ≡ a .size = omega arith in
+    (b .loop .inv .8 ∙ ap (namesWritten f (now (a .names))) e, b .loop .inv .9 ∙ ap (lengthsWritten f (now (a .lengths))) e)
+
+pub put-each-spec : {M : Type 1} → statement M
+put-each-spec =
+    tie.close
+    (tie.spec
+    Inv-loop
+    μ-loop
+    loop-holds
+    mul-a
+    add-e
+    mul-b
+    add-f
+    sub-put-member
+    part-put-member-start
+    part-put-member-end
+    add-put-member
+    sub-put-member-2
+    part-put-member-start-2
+    part-put-member-end-2
+    put-member-requires
+    mul-lengths
+    slice-write-lengths
+    add-i
+    loop-less
+    loop-again
+    same-length
+    same-length-2
+    returns)

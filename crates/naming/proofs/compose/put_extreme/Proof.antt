@@ -1,0 +1,72 @@
+-- `put_extreme` meets its contract: the number of classes tells U and E.
+-- Assumes nothing.
+use mathlib.Core.Path.{sym, ap, _∙_}
+use denote.Ref.{now}
+use Rattle.decimal.specs.Writing.{written, placeAfter}
+use Rattle.decimal.proofs.Writing.{written-nil, place-nil}
+use Rattle.naming.proofs.Members.{extreme-one, extreme-all, extreme-no}
+use borrow.Author.Needs.{needs}
+use Rattle.naming.proofs.compose.put_extreme.Statement.{statement}
+use Rattle.naming.proofs.compose.put_extreme.Tie as tie
+
+classes-requires : tie.Need-classes-requires
+classes-requires c κs = search needs
+
+slice-aggregate-write-bytes : tie.Need-slice-aggregate-write-bytes
+slice-aggregate-write-bytes c = search needs
+
+write-bytes-requires : tie.Need-write-bytes-requires
+write-bytes-requires c κs = search needs
+
+same-length : tie.Need-same-length
+same-length c = search needs
+
+returns : tie.Need-returns
+returns c =
+    let a = c .before .before .before .before .before .before .before .before .before .args in
+    let out = now (a .out) in
+    let k = c .before .before .before .before .before .before .classes in
+    let q = sym (extreme-one (a .n) (now (a .member)) (sym (k .ensures) ∙ c .before .before .before .before .before .if1 .taken)) in
+    let w = c .before .before .write-bytes .ensures in
+    (w .0 ∙ ap (placeAfter out 0) q, w .1 ∙ ap (written out 0) q)
+
+slice-aggregate-write-bytes-2 : tie.Need-slice-aggregate-write-bytes-2
+slice-aggregate-write-bytes-2 c = search needs
+
+write-bytes-requires-2 : tie.Need-write-bytes-requires-2
+write-bytes-requires-2 c κs = search needs
+
+same-length-2 : tie.Need-same-length-2
+same-length-2 c = search needs
+
+returns-2 : tie.Need-returns-2
+returns-2 c =
+    let a = c .before .before .before .before .before .before .before .before .before .before .args in
+    let out = now (a .out) in
+    let k = c .before .before .before .before .before .before .before .classes in
+    let q = sym (extreme-all (a .n) (now (a .member)) (λ z. c .before .before .before .before .before .before .if1 .left (k .ensures ∙ z)) (sym (k .ensures) ∙ c .before .before .before .before .before .if2 .taken)) in
+    let w = c .before .before .write-bytes2 .ensures in
+    (w .0 ∙ ap (placeAfter out 0) q, w .1 ∙ ap (written out 0) q)
+
+returns-3 : tie.Need-returns-3
+returns-3 c =
+    let a = c .before .before .before .before .before .args in
+    let out = now (a .out) in
+    let k = c .before .before .classes in
+    let q = extreme-no (a .n) (now (a .member)) (λ z. c .before .if1 .left (k .ensures ∙ z)) (λ z. c .if2 .left (k .ensures ∙ z)) in
+    (sym (ap (placeAfter out 0) q ∙ place-nil out 0), sym (ap (written out 0) q ∙ written-nil out 0))
+
+pub put-extreme-spec : {M : Type 1} → statement M
+put-extreme-spec =
+    tie.close
+    (tie.spec
+    classes-requires
+    slice-aggregate-write-bytes
+    write-bytes-requires
+    same-length
+    returns
+    slice-aggregate-write-bytes-2
+    write-bytes-requires-2
+    same-length-2
+    returns-2
+    returns-3)
