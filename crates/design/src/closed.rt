@@ -1,10 +1,10 @@
-// The closing step: the plot family and the first treatment family, each closed in memory of its own.
+// The closing step: the plot family, closed in memory of its own. (The first treatment family: `first_family` in treatments.rt.)
 ghost use mathlib.Core.Path.{_≡_};
 ghost use mathlib.Core.Bool.{true};
 ghost use Prim.Native.Nat.{_≤_};
 ghost use lib.ListN.{length};
 ghost use Rattle.rules.specs.Family.{columnsFrom};
-ghost use Rattle.rules.specs.Closing.{plotGenerators, plotFamily, firstTreatmentFamily};
+ghost use Rattle.rules.specs.Closing.{plotGenerators, plotFamily};
 ghost use Rattle.design.specs.State.{Closed};
 ghost use Rattle.design.specs.Closings.{closedIn, Ready};
 use crate::closing::PAIRS;
@@ -13,7 +13,6 @@ use crate::closing::close;
 use crate::columns::place_plot_columns;
 use crate::sorting::sort;
 use crate::sorting::write;
-use crate::treatments::first_family;
 use limits::FAMILY;
 use limits::Level;
 use limits::MEMBERS;
@@ -26,12 +25,6 @@ pub struct PlotClosing {
     pub counts: [u8; MEMBERS],
     pub meets: [u8; PAIRS],
     pub joins: [u8; PAIRS],
-}
-
-// A closed plot family, and the size of the first treatment family, or TOO_MANY.
-pub struct Closings {
-    pub plot: PlotClosing,
-    pub treatment: usize,
 }
 
 // Closes the plot family in a store; answers its size, or TOO_MANY.
@@ -52,7 +45,7 @@ fn close_plots(
 }
 
 // Closes the plot family and leaves it in its order, with the tables that question 10 is decided by.
-pub fn plot_family(levels: &[Level], n: usize, columns: usize, plot: &mut [u8]) -> PlotClosing
+pub fn close_plot_family(levels: &[Level], n: usize, columns: usize, plot: &mut [u8]) -> PlotClosing
     requires { ⌜ (1 ≤ n) × (n ≤ 240) × (columns ≤ 6) × (2880 ≤ length (now levels)) × (7680 ≤ length (now plot)) ⌝ }
     ensures family { λ r. ⌜ closedIn n (now (plot .exit)) (r .size) ≡ plotFamily n (columnsFrom n (now (levels .entry)) 0 columns) ⌝ }
     ensures tables { λ r. ⌜ Ready n (r .size) (now (plot .exit)) (r .order) (r .counts) (r .meets) (r .joins) ⌝ }
@@ -88,29 +81,5 @@ pub fn plot_family(levels: &[Level], n: usize, columns: usize, plot: &mut [u8]) 
         counts,
         meets,
         joins,
-    }
-}
-
-// Closes both families and leaves each in its order.
-pub fn close_families(
-    levels: &[Level],
-    n: usize,
-    c: usize,
-    d: usize,
-    k: usize,
-    plot: &mut [u8],
-    first: &mut [u8],
-) -> Closings
-    requires { ⌜ (1 ≤ n) × (n ≤ 240) × (c ≤ 6) × (d ≤ 6) × (1 ≤ k) × (k ≤ 6) × (2880 ≤ length (now levels)) × (7680 ≤ length (now plot)) × (7680 ≤ length (now first)) ⌝ }
-    ensures plots { λ r. ⌜ closedIn n (now (plot .exit)) (r .plot .size) ≡ plotFamily n (columnsFrom n (now (levels .entry)) 0 c) ⌝ }
-    ensures tables { λ r. ⌜ Ready n (r .plot .size) (now (plot .exit)) (r .plot .order) (r .plot .counts) (r .plot .meets) (r .plot .joins) ⌝ }
-    ensures treatments { λ r. ⌜ closedIn n (now (first .exit)) (r .treatment) ≡ firstTreatmentFamily n k (columnsFrom n (now (levels .entry)) 6 d) ⌝ }
-    ensures room { λ r. ⌜ (r .treatment ≤ 33) × (7680 ≤ length (now (first .exit))) ⌝ }
-{
-    let closing = plot_family(levels, n, c, plot);
-    let treatment = first_family(levels, n, d, k, first);
-    Closings {
-        plot: closing,
-        treatment,
     }
 }

@@ -1,17 +1,18 @@
-// After questions 6 and 7: families are closed in memory of their own, then judged.
+// After questions 6 and 7: a family is closed in memory of its own, then judged; the plot family first, then the treatments.
 ghost use mathlib.Core.Path.{_≡_};
 ghost use Prim.Native.Nat.{_≤_};
 ghost use lib.ListN.{length};
-ghost use Rattle.rules.specs.Family.{columnsFrom};
-ghost use Rattle.rules.specs.Closing.{plotFamily};
-ghost use Rattle.rules.specs.Design.{question8, plotBuffer, withTreatments, treatmentBuffer};
+ghost use Rattle.rules.specs.Family.{columnsFrom, membersOf};
+ghost use Rattle.rules.specs.Closing.{plotFamily, firstTreatmentFamily};
+ghost use Rattle.rules.specs.Design.{question8, plotBuffer, question11, withTreatments, treatmentBuffer};
 ghost use Rattle.design.specs.Answers.{plotNumbers, plotNumbersOf, fullNumbers, fullNumbersOf};
 use crate::FullDesign;
+use crate::FullRefusal;
 use crate::PlotDesign;
-use crate::closed::close_families;
-use crate::closed::plot_family;
-use crate::verdict::judge;
+use crate::closed::close_plot_family;
+use crate::treatments::first_family;
 use crate::verdict::judge_plots;
+use crate::verdict::judge_treatments;
 use limits::FAMILY;
 use limits::Level;
 
@@ -22,11 +23,11 @@ pub fn plot_from_8(levels: &[Level], n: usize, columns: usize, family: &mut [u8]
     ensures buffer { λ _. ⌜ now (family .exit) ≡ plotBuffer (now (family .entry)) (question8 n (plotFamily n (columnsFrom n (now (levels .entry)) 0 columns))) ⌝ }
 {
     let mut plot = [0u8; FAMILY];
-    let closing = plot_family(levels, n, columns, &mut plot);
+    let closing = close_plot_family(levels, n, columns, &mut plot);
     judge_plots(&plot, closing, n, family)
 }
 
-// Questions 8 to 14.
+// Questions 8 to 14. The treatments are closed only for a plot family that is accepted.
 pub fn full_from_8(
     levels: &[Level],
     n: usize,
@@ -42,17 +43,37 @@ pub fn full_from_8(
     ensures treatments { λ _. ⌜ now («treatment_family» .exit) ≡ treatmentBuffer (now («treatment_family» .entry)) (withTreatments n k (columnsFrom n (now (levels .entry)) 6 d) (question8 n (plotFamily n (columnsFrom n (now (levels .entry)) 0 c)))) ⌝ }
 {
     let mut plot = [0u8; FAMILY];
+    let closing = close_plot_family(levels, n, c, &mut plot);
+    let answer = judge_plots(&plot, closing, n, plot_family);
+    match answer {
+        PlotDesign::Refused(r) => FullDesign::Refused(FullRefusal {
+            number: r.number,
+            first: r.first,
+            second: r.second,
+            plot: r.size,
+            treatment: 0,
+        }),
+        PlotDesign::Accepted(held) => {
+            full_from_11(levels, n, d, k, &plot, held, treatment_family)
+        }
+    }
+}
+
+// Questions 11 to 14, with the plot family accepted.
+fn full_from_11(
+    levels: &[Level],
+    n: usize,
+    d: usize,
+    k: usize,
+    plot: &[u8],
+    held: usize,
+    treatment_family: &mut [u8],
+) -> FullDesign
+    requires { ⌜ (1 ≤ n) × (n ≤ 240) × (d ≤ 6) × (1 ≤ k) × (k ≤ 6) × (2880 ≤ length (now levels)) × (7680 ≤ length (now plot)) × (held ≤ 32) × (7680 ≤ length (now «treatment_family»)) ⌝ }
+    ensures answer { λ r. ⌜ fullNumbers r ≡ fullNumbersOf (question11 n (membersOf n (now (plot .entry)) held) (firstTreatmentFamily n k (columnsFrom n (now (levels .entry)) 6 d))) ⌝ }
+    ensures buffer { λ _. ⌜ now («treatment_family» .exit) ≡ treatmentBuffer (now («treatment_family» .entry)) (question11 n (membersOf n (now (plot .entry)) held) (firstTreatmentFamily n k (columnsFrom n (now (levels .entry)) 6 d))) ⌝ }
+{
     let mut first = [0u8; FAMILY];
-    let closings = close_families(levels, n, c, d, k, &mut plot, &mut first);
-    let closing = closings.plot;
-    let size = closings.treatment;
-    judge(
-        &plot,
-        closing,
-        &first,
-        size,
-        n,
-        plot_family,
-        treatment_family,
-    )
+    let size = first_family(levels, n, d, k, &mut first);
+    judge_treatments(plot, held, &first, size, n, treatment_family)
 }

@@ -7,7 +7,7 @@ ghost use Rattle.rules.specs.Family.{membersOf, written};
 ghost use Rattle.rules.specs.Closing.{finalTreatmentFamily};
 ghost use Rattle.rules.specs.Design.{refused, question8, question9, firstFailing, plotBuffer, question11, question12, question13, question14, firstPair, firstCross, treatmentBuffer};
 ghost use Rattle.design.specs.Judging.{Judging};
-ghost use Rattle.design.specs.Closings.{closedIn, Ready, goesOn};
+ghost use Rattle.design.specs.Closings.{closedIn, Ready};
 ghost use Rattle.design.specs.Answers.{plotNumbers, plotNumbersOf, fullNumbers, fullNumbersOf, fullRefusing};
 use crate::FullDesign;
 use crate::FullRefusal;
@@ -105,34 +105,6 @@ fn from_9(
     PlotDesign::Accepted(size)
 }
 
-// Questions 8 to 14 of a closed plot family and a closed first treatment family.
-pub fn judge(
-    plot: &[u8],
-    closing: PlotClosing,
-    first: &[u8],
-    size: usize,
-    n: usize,
-    plot_family: &mut [u8],
-    treatment_family: &mut [u8],
-) -> FullDesign
-    requires { ⌜ (1 ≤ n) × Ready n (closing .size) (now plot) (closing .order) (closing .counts) (closing .meets) (closing .joins) × (7680 ≤ length (now first)) × (size ≤ 33) × (7680 ≤ length (now «plot_family»)) × (7680 ≤ length (now «treatment_family»)) ⌝ }
-    ensures answer { λ r. ⌜ fullNumbers r ≡ fullNumbersOf (goesOn n (closedIn n (now (first .entry)) size) (question8 n (closedIn n (now (plot .entry)) (closing .size)))) ⌝ }
-    ensures plots { λ _. ⌜ now («plot_family» .exit) ≡ plotBuffer (now («plot_family» .entry)) (goesOn n (closedIn n (now (first .entry)) size) (question8 n (closedIn n (now (plot .entry)) (closing .size)))) ⌝ }
-    ensures treatments { λ _. ⌜ now («treatment_family» .exit) ≡ treatmentBuffer (now («treatment_family» .entry)) (goesOn n (closedIn n (now (first .entry)) size) (question8 n (closedIn n (now (plot .entry)) (closing .size)))) ⌝ }
-{
-    let answer = judge_plots(plot, closing, n, plot_family);
-    match answer {
-        PlotDesign::Refused(r) => FullDesign::Refused(FullRefusal {
-            number: r.number,
-            first: r.first,
-            second: r.second,
-            plot: r.size,
-            treatment: 0,
-        }),
-        PlotDesign::Accepted(held) => from_11(plot, held, first, size, n, treatment_family),
-    }
-}
-
 // A refusal by 11 to 14, which leaves `size` members of the first treatment family.
 fn treatments_refused(
     number: u32,
@@ -159,7 +131,7 @@ fn treatments_refused(
 }
 
 // Questions 11 to 14 of the first treatment family, with the plot family accepted.
-fn from_11(
+pub fn judge_treatments(
     plot_family: &[u8],
     plot: usize,
     first: &[u8],

@@ -1,4 +1,4 @@
--- `verdict::from_11` meets its contract: a first treatment family that is too large, or question 12.
+-- `verdict::judge_treatments` meets its contract: a first treatment family that is too large, or question 12.
 -- Assumes nothing.
 use mathlib.Core.Path.{refl, sym, ap, _∙_}
 use denote.Ref.{now}
@@ -10,8 +10,8 @@ use Rattle.design.specs.Answers.{fullNumbersOf}
 use Rattle.design.specs.Closings.{closedIn}
 use Rattle.design.proofs.Answered.{held-over, held-on}
 use Rattle.design.proofs.FullAnswered.{full-refusing-is, told-11, passed-11, told-buffer}
-use Rattle.design.proofs.verdict.from_11.Statement.{statement}
-use Rattle.design.proofs.verdict.from_11.Tie as tie
+use Rattle.design.proofs.verdict.judge_treatments.Statement.{statement}
+use Rattle.design.proofs.verdict.judge_treatments.Tie as tie
 
 treatments-refused-requires : tie.Need-treatments-refused-requires
 treatments-refused-requires c κs = search needs
@@ -50,8 +50,8 @@ returns-2 c =
     let q = passed-11 n P (closedIn n first (s .args .size)) (membersOf n first (s .args .size)) (held-on n first (s .args .size) (i .if1 .left)) in
     (k .from-12 .ensures .0 ∙ ap fullNumbersOf (sym q), k .from-12 .ensures .1 ∙ ap (treatmentBuffer (now (s .args .treatment-family))) (sym q))
 
-pub from-11-spec : {M : Type 1} → statement M
-from-11-spec =
+pub judge-treatments-spec : {M : Type 1} → statement M
+judge-treatments-spec =
     tie.close
     (tie.spec
     treatments-refused-requires

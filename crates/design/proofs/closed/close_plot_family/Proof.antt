@@ -1,4 +1,4 @@
--- `closed::plot_family` meets its contract: the plot family is closed, put in order and written, or it is too large.
+-- `closed::close_plot_family` meets its contract: the plot family is closed, put in order and written, or it is too large.
 -- Assumes nothing.
 use mathlib.Core.Path.{sym, ap, _∙_}
 use mathlib.Core.List.{List}
@@ -12,8 +12,8 @@ use Rattle.rules.specs.Closing.{family}
 use Rattle.rules.proofs.Demand3.{column-length}
 use Rattle.design.proofs.Answered.{held-over, held-on, closed-over, closed-work, closed-family}
 use Rattle.design.proofs.Judge.{PutInOrder, put-in-order, judging-as}
-use Rattle.design.proofs.closed.plot_family.Statement.{statement}
-use Rattle.design.proofs.closed.plot_family.Tie as tie
+use Rattle.design.proofs.closed.close_plot_family.Statement.{statement}
+use Rattle.design.proofs.closed.close_plot_family.Tie as tie
 
 slice-aggregate-close-plots : tie.Need-slice-aggregate-close-plots
 slice-aggregate-close-plots c = search needs
@@ -93,8 +93,8 @@ returns-2 c =
       record { most = j .most; room = j .room; judging = λ ne. j },
     )
 
-pub plot-family-spec : {M : Type 1} → statement M
-plot-family-spec =
+pub close-plot-family-spec : {M : Type 1} → statement M
+close-plot-family-spec =
     tie.close
     (tie.spec
     slice-aggregate-close-plots
