@@ -8,6 +8,7 @@ ghost use Rattle.factor.specs.Joining.{Below};
 ghost use Rattle.factor.specs.Cells.{Inside, Tables, Cover, OneClass, EntrySizes, evenCells};
 use crate::join::join;
 use crate::join::own_labels;
+use crate::join::rounded;
 use crate::labels::least_label;
 use crate::sizes::product;
 use limits::PLOTS;
@@ -36,8 +37,8 @@ pub(crate) fn orthogonal_cells(f: &[u8], g: &[u8], a: usize, w: usize) -> bool
         &mut cell_f,
         &mut cell_g,
     );
-    let mut table = own_labels(least_label(&cell_f[..m]));
-    let one = join(&mut table, &cell_f[..m], &cell_g[..m], a);
+    let mut table = own_labels(least_label(&cell_f[..m]), a);
+    let one = join(&mut table, &cell_f[..m], &cell_g[..m], rounded(a));
     let in_k = entry_sizes(&table, f, one);
     even_cells(
         w,
