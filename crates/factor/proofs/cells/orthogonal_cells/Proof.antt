@@ -121,37 +121,37 @@ slice-aggregate-entry-sizes c = search needs
 
 entry-sizes-requires : tie.Need-entry-sizes-requires
 entry-sizes-requires c κs =
-    let j = c .before in
+    let j = c .before .before in
     let k = j .before .before .before .before .before .before .before .before in
     let t = j .join .last .0 in
     let wide = j .before .rounded in
-    (j .join .ensures .1 .0, start k .pre .0, λ e. one-entry (F k) (G k) (start k .pre .1) (wide .result) t (λ u h. omega (arith, start k .pre .4 u h, wide .ensures .0)) (j .join .ensures .0 e .1))
+    (j .join .ensures .1 .0, start k .pre .0, start k .pre .2, start k .pre .4, k .count-cells .ensures .0 .size-f, λ e. one-entry (F k) (G k) (start k .pre .1) (wide .result) t (λ u h. omega (arith, start k .pre .4 u h, wide .ensures .0)) (j .join .ensures .0 e .1))
 
 slice-aggregate-even-cells : tie.Need-slice-aggregate-even-cells
 slice-aggregate-even-cells c = search needs
 
 array-share-prefix-cell-f-3 : tie.Need-array-share-prefix-cell-f-3
-array-share-prefix-cell-f-3 c = few-x (c .before .before .before .before .before .before .before .before .before .before .before .before .before .before .before)
+array-share-prefix-cell-f-3 c = few-x (c .before .before .before .before .before .before .before .before .before .before .before .before .before .before .before .before)
 
 slice-aggregate-even-cells-2 : tie.Need-slice-aggregate-even-cells-2
-slice-aggregate-even-cells-2 c = sym (long-x (c .before .before .before .before .before .before .before .before .before .before .before .before .before .before .before .before))
+slice-aggregate-even-cells-2 c = sym (long-x (c .before .before .before .before .before .before .before .before .before .before .before .before .before .before .before .before .before))
 
 array-share-prefix-cell-g-2 : tie.Need-array-share-prefix-cell-g-2
-array-share-prefix-cell-g-2 c = few-y (c .before .before .before .before .before .before .before .before .before .before .before .before .before .before .before .before)
+array-share-prefix-cell-g-2 c = few-y (c .before .before .before .before .before .before .before .before .before .before .before .before .before .before .before .before .before)
 
 slice-aggregate-even-cells-3 : tie.Need-slice-aggregate-even-cells-3
-slice-aggregate-even-cells-3 c = sym (long-y (c .before .before .before .before .before .before .before .before .before .before .before .before .before .before .before .before .before))
+slice-aggregate-even-cells-3 c = sym (long-y (c .before .before .before .before .before .before .before .before .before .before .before .before .before .before .before .before .before .before))
 
 even-cells-requires : tie.Need-even-cells-requires
 even-cells-requires c κs =
-    let j = c .before .before .before .before .before .before .before .before .before in
+    let j = c .before .before .before .before .before .before .before .before .before .before in
     let k = j .before .before .before .before .before .before .before .before in
     (j .join .ensures .1 .0, omega (arith, few k, long-x k), long-y k ∙ sym (long-x k), start k .pre .3, listed-inside (F k) (G k) (X k) (Y k) (listed k) (w k) (inside k))
 
 returns : tie.Need-returns
 returns c =
     let sizes = c .before .before .before .before .before .before .before .before in
-    let j = sizes .before .before in
+    let j = sizes .before .before .before in
     let k = j .before .before .before .before .before .before .before .before in
     let last = k .count-cells .last in
     c .even-cells .ensures
