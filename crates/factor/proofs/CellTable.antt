@@ -12,7 +12,7 @@ use lib.ListN.{length, take, set, replicate, length-set}
 use lib.Seq.{getD-set-same, getD-set-other, getD-take, length-take-le}
 use borrow.Author.Tests.{eqb-true, eqb-false, eq-eqb, ne-eqb, ltb-true, ltb-false, lt-ltb, le-ltb}
 use Rattle.rules.specs.Factor.{Column, at, every, count, classSize, overlap, infimum, supremum, orthogonal}
-use Rattle.rules.proofs.Numbering.{by-cases, eqb-self}
+use Rattle.rules.proofs.Numbering.{by-cases}
 use Rattle.rules.proofs.Tests.{every-at, every-all, count-yes, count-no, count-same, size-equivalent}
 use Rattle.rules.proofs.Walks.{bool-false, count-le}
 use Rattle.rules.proofs.Sums.{Some, nowhere, somewhere, some}

@@ -1,7 +1,7 @@
 // Orthogonality by cells: a cell is what a class of one factor and a class of the other have in common.
 ghost use mathlib.Core.Path.{_≡_};
 ghost use mathlib.Core.Bool.{true};
-ghost use Prim.Native.Nat.{_*_, _≤_, _<_};
+ghost use Prim.Native.Nat.{_*_, _≤_};
 ghost use lib.ListN.{length, replicate};
 ghost use Rattle.rules.specs.Factor.{orthogonal};
 ghost use Rattle.factor.specs.Joining.{Below};
@@ -14,6 +14,7 @@ use crate::sizes::product;
 use limits::PLOTS;
 
 // The cells that are counted without numbering them: labels x of the one factor and y of the other, below w, make cell w × x + y.
+// Clearing a larger table costs more than it saves.
 pub(crate) const CELLS: usize = 2048;
 
 // Whether two columns of one length are orthogonal; the labels of `f` are below `a`, those of `g` below `w`.

@@ -1,6 +1,6 @@
 -- `number_joined` meets its contract: the entries of the joined labels make the classes of the supremum.
 -- Assumes nothing.
-use mathlib.Core.Path.{_≡_, sym, ap, _∙_}
+use mathlib.Core.Path.{sym, ap, _∙_}
 use native.Mathlib.Omega.{arith}
 use denote.Ref.{now}
 use lib.ListN.{length}
