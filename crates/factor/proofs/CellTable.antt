@@ -3,17 +3,17 @@
 use mathlib.Core.Path.{_≡_, refl, sym, ap, ap₂, _∙_, subst}
 use mathlib.Core.Bool.{Bool, true, false, _&&_, true≢false}
 use mathlib.Core.List.{List}
-use Prim.Native.Nat.{ℕ, zero, suc, _+_, _*_, _≤_, _<_}
+use Prim.Native.Nat.{ℕ, zero, suc, _+_, _*_, _≤_, _<_, zero-le}
 use native.Mathlib.Nat.{not-suc-le-zero, le-refl, mul-le-mul-left, mul-suc, mul-comm}
 use native.Mathlib.Numerals.{add-one}
 use native.Mathlib.Omega.{arith}
 use lib.Dec.{eqb, ltb}
 use lib.ListN.{length, take, set, replicate, length-set}
 use lib.Seq.{getD-set-same, getD-set-other, getD-take, length-take-le}
-use borrow.Author.Tests.{eqb-true, eqb-false, eq-eqb, ltb-true, ltb-false}
+use borrow.Author.Tests.{eqb-true, eqb-false, eq-eqb, ne-eqb, ltb-true, ltb-false, lt-ltb, le-ltb}
 use Rattle.rules.specs.Factor.{Column, at, every, count, classSize, overlap, infimum, supremum, orthogonal}
-use Rattle.rules.proofs.Numbering.{by-cases, eqb-self}
-use Rattle.rules.proofs.Tests.{every-at, every-all, count-yes, count-no, size-equivalent}
+use Rattle.rules.proofs.Numbering.{by-cases}
+use Rattle.rules.proofs.Tests.{every-at, every-all, count-yes, count-no, count-same, size-equivalent}
 use Rattle.rules.proofs.Walks.{bool-false, count-le}
 use Rattle.rules.proofs.Sums.{Some, nowhere, somewhere, some}
 use Rattle.rules.proofs.Orthogonality.{same-test, overlap-infimum, orthogonal-test-plots}
@@ -220,6 +220,40 @@ unfolding count
 count-all zero p h = refl
 count-all (suc k) p h = count-yes k p (h k (le-refl _)) ∙ ap suc (count-all k p (λ v hv. h v (omega arith)))
 
+-- a test that no plot passes
+count-none : (n : ℕ) (p : ℕ → Bool) → ((v : ℕ) → v < n → p v ≡ false) → count n p ≡ 0
+unfolding count
+count-none zero p h = refl
+count-none (suc k) p h = count-no k p (h k (le-refl _)) ∙ count-none k p (λ v hv. h v (omega arith))
+
+-- of three tests the third passes where one of the others does, and they never do both
+data Split (a b c : Bool) : Type 0 where
+  stays : b ≡ false → c ≡ a → Split a b c
+  added : a ≡ false → b ≡ true → c ≡ true → Split a b c
+
+count-split : (n : ℕ) (p q r : ℕ → Bool) → ((v : ℕ) → v < n → Split (p v) (q v) (r v)) → count n r ≡ count n p + count n q
+unfolding count
+count-split zero p q r h = refl
+count-split (suc k) p q r h = go (count-split k p q r (λ v hv. h v (omega arith))) (h k (le-refl _))
+  where
+    go : count k r ≡ count k p + count k q → Split (p k) (q k) (r k) → count (suc k) r ≡ count (suc k) p + count (suc k) q
+    go below (stays b c) =
+        by-cases (p k)
+        (λ e. let x = count-yes k p e in let y = count-no k q b in let z = count-yes k r (c ∙ e) in omega arith)
+        (λ e. let x = count-no k p e in let y = count-no k q b in let z = count-no k r (c ∙ e) in omega arith)
+    go below (added a b c) = let x = count-no k p a in let y = count-yes k q b in let z = count-yes k r c in omega arith
+
+and-false : (a : Bool) → a && false ≡ false
+and-false true = refl
+and-false false = refl
+
+-- a number that is not x is below x + 1 where it is below x
+next-below : (x y : ℕ) → (x ≡ y → ⊥) → ltb y (x + 1) ≡ ltb y x
+next-below x y ne =
+    by-cases (ltb y x)
+    (λ e. lt-ltb y (x + 1) (omega (arith, ltb-true y x e)) ∙ sym e)
+    (λ e. le-ltb y (x + 1) (omega (arith, ltb-false y x e, ne)) ∙ sym e)
+
 module _ (t : List ℕ) (F : Column) where
   -- all plots have one entry
   pub entry-sizes-one : OneClass t F → (r : List ℕ) → ((u : ℕ) → u < length F → at r (at t (at F u)) ≡ length F) → EntrySizes t F r
@@ -227,9 +261,58 @@ module _ (t : List ℕ) (F : Column) where
   entry-sizes-one one r e u hu = e u hu ∙ sym (count-all (length F) _ (λ v hv. eq-eqb _ _ (one u v hu hv)))
 
   -- the plots of each entry are counted
-  pub entry-sizes-all : (r : List ℕ) → ((x : ℕ) → x < 256 → at r x ≡ labelled (length F) (spread t F) x) → ((x : ℕ) → at t x < 256) → EntrySizes t F r
+  pub entry-sizes-all : (r : List ℕ) → ((y : ℕ) → y < 256 → at r y ≡ labelled (length F) (spread t F) y) → ((x : ℕ) → at t x < 256) → EntrySizes t F r
   unfolding classSize labelled
   entry-sizes-all r e bytes u hu = e (at t (at F u)) (bytes (at F u)) ∙ ap (labelled (length F) (spread t F)) (sym (spread-at t F u hu))
+
+  -- how many plots have the entry y, and a label below x
+  unfoldable pub entered : ℕ → ℕ → ℕ
+  unfolding count
+  entered x y = count (length F) (λ v. ltb (at F v) x && eqb y (at t (at F v)))
+
+  -- no more than there are
+  pub entered-le : (x y : ℕ) → entered x y ≤ length F
+  unfolding entered
+  entered-le x y = count-le (length F) _
+
+  -- no label
+  pub entered-none : (y : ℕ) → entered 0 y ≡ 0
+  unfolding entered
+  entered-none y = count-none (length F) _ (λ v hv. rw (le-ltb (at F v) 0 zero-le))
+
+  -- all labels
+  pub entered-all : (top : ℕ) → Below top F → (y : ℕ) → entered top y ≡ labelled (length F) (spread t F) y
+  unfolding entered labelled
+  entered-all top below y = count-same (length F) _ _ (λ v hv. rw (lt-ltb (at F v) top (below v hv)) (ap (eqb y) (sym (spread-at t F v hv))))
+
+  -- label x: its plots have its entry
+  pub entered-here : (x : ℕ) → entered (x + 1) (at t x) ≡ entered x (at t x) + labelled (length F) F x
+  unfolding entered labelled
+  entered-here x = count-split (length F) _ _ _ (λ v hv. by-cases (eqb x (at F v))
+      (λ e. let q : x ≡ at F v = eqb-true x (at F v) e in
+      let below : ltb (at F v) (x + 1) ≡ true = lt-ltb (at F v) (x + 1) (omega arith) in
+      let not : ltb (at F v) x ≡ false = le-ltb (at F v) x (omega arith) in
+      added (rw not) e (rw below (eq-eqb (at t x) (at t (at F v)) (ap (at t) q))))
+      (λ e. stays e (ap (λ (b : Bool). b && eqb (at t x) (at t (at F v))) (next-below x (at F v) (eqb-false x (at F v) e)))))
+
+  -- and no other
+  pub entered-other : (x y : ℕ) → (y ≡ at t x → ⊥) → entered (x + 1) y ≡ entered x y
+  unfolding entered
+  entered-other x y ne = count-same (length F) _ _ (λ v hv. by-cases (eqb x (at F v))
+      (λ e. let q : x ≡ at F v = eqb-true x (at F v) e in
+      let no : eqb y (at t (at F v)) ≡ false = ne-eqb y (at t (at F v)) (λ s. ne (s ∙ ap (at t) (sym q))) in
+      rw no (and-false (ltb (at F v) (x + 1)) ∙ sym (and-false (ltb (at F v) x))))
+      (λ e. ap (λ (b : Bool). b && eqb y (at t (at F v))) (next-below x (at F v) (eqb-false x (at F v) e))))
+
+  -- the table after label x
+  pub entered-step : (sizes : List ℕ) (x n : ℕ) → length sizes ≡ 256 → at t x < 256 → n ≡ labelled (length F) F x → ((y : ℕ) → y < 256 → at sizes y ≡ entered x y)
+      → (y : ℕ) → y < 256 → at (set sizes (at t x) (at sizes (at t x) + n)) y ≡ entered (x + 1) y
+  entered-step sizes x n long byte size counts y hy =
+      by-cases (eqb y (at t x))
+      (λ e. let q : y ≡ at t x = eqb-true y (at t x) e in
+      ap (at (set sizes (at t x) (at sizes (at t x) + n))) q ∙ getD-set-same sizes (at t x) (at sizes (at t x) + n) 0 (omega arith)
+      ∙ ap₂ _+_ (counts (at t x) byte) size ∙ sym (ap (entered (x + 1)) q ∙ entered-here x))
+      (λ e. getD-set-other sizes (at t x) y (at sizes (at t x) + n) 0 (eqb-false y (at t x) e) ∙ counts y hy ∙ sym (entered-other x y (eqb-false y (at t x) e)))
 
 -- ---- orthogonality by cells
 

@@ -47,6 +47,10 @@ pub record Cover (u : ℕ) (F G X Y : Column) (m : ℕ) : Type 0 where
 abbrev pub OneClass : List ℕ → Column → Type 0
 OneClass t F = (u v : ℕ) → u < length F → v < length F → Same (spread t F) u v
 
+-- t has for each label how many plots have it
+abbrev pub LabelSizes : Column → List ℕ → Type 0
+LabelSizes F t = (x : ℕ) → x < 256 → at t x ≡ labelled (length F) F x
+
 -- r has at each plot's entry how many plots have that entry
 abbrev pub EntrySizes : List ℕ → Column → List ℕ → Type 0
 EntrySizes t F r = (u : ℕ) → u < length F → at r (at t (at F u)) ≡ classSize (length F) (spread t F) u

@@ -13,9 +13,9 @@ Below top F = (u : ℕ) → u < length F → at F u < top
 abbrev pub NotBelow : ℕ → Column → Type 0
 NotBelow low F = (u : ℕ) → u < length F → low ≤ at F u
 
--- each label from low on is its own entry, or each label of F
-abbrev pub OwnFrom : ℕ → List ℕ → Type 0
-OwnFrom low t = (x : ℕ) → low ≤ x → x < 256 → at t x ≡ x
+-- each label from low on and below top is its own entry, or each label of F
+abbrev pub OwnWithin : ℕ → ℕ → List ℕ → Type 0
+OwnWithin low top t = (x : ℕ) → low ≤ x → x < top → at t x ≡ x
 
 abbrev pub Own : Column → List ℕ → Type 0
 Own F t = (u : ℕ) → u < length F → at t (at F u) ≡ at F u

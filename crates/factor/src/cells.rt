@@ -1,18 +1,20 @@
 // Orthogonality by cells: a cell is what a class of one factor and a class of the other have in common.
 ghost use mathlib.Core.Path.{_≡_};
 ghost use mathlib.Core.Bool.{true};
-ghost use Prim.Native.Nat.{_*_, _≤_, _<_};
+ghost use Prim.Native.Nat.{_*_, _≤_};
 ghost use lib.ListN.{length, replicate};
 ghost use Rattle.rules.specs.Factor.{orthogonal};
 ghost use Rattle.factor.specs.Joining.{Below};
-ghost use Rattle.factor.specs.Cells.{Inside, Tables, Cover, OneClass, EntrySizes, evenCells};
+ghost use Rattle.factor.specs.Cells.{Inside, Tables, Cover, OneClass, LabelSizes, EntrySizes, evenCells};
 use crate::join::join;
 use crate::join::own_labels;
+use crate::join::rounded;
 use crate::labels::least_label;
 use crate::sizes::product;
 use limits::PLOTS;
 
 // The cells that are counted without numbering them: labels x of the one factor and y of the other, below w, make cell w × x + y.
+// Clearing a larger table costs more than it saves.
 pub(crate) const CELLS: usize = 2048;
 
 // Whether two columns of one length are orthogonal; the labels of `f` are below `a`, those of `g` below `w`.
@@ -36,9 +38,9 @@ pub(crate) fn orthogonal_cells(f: &[u8], g: &[u8], a: usize, w: usize) -> bool
         &mut cell_f,
         &mut cell_g,
     );
-    let mut table = own_labels(least_label(&cell_f[..m]));
-    let one = join(&mut table, &cell_f[..m], &cell_g[..m], a);
-    let in_k = entry_sizes(&table, f, one);
+    let mut table = own_labels(least_label(&cell_f[..m]), a);
+    let one = join(&mut table, &cell_f[..m], &cell_g[..m], rounded(a));
+    let in_k = entry_sizes(&table, f, &in_f, a, one);
     even_cells(
         w,
         &in_cells,
@@ -91,18 +93,18 @@ fn all_sizes(size: u8) -> [u8; 256]
     [size; 256]
 }
 
-// How many plots have each entry. It is known where all have one.
-fn entry_sizes(table: &[u8], f: &[u8], one: bool) -> [u8; 256]
-    requires { ⌜ (length (now table) ≡ 256) × (length (now f) ≤ 240) × (one ≡ true → OneClass (now table) (now f)) ⌝ }
+// How many plots have each entry, by the sizes of the labels. It is known where all have one.
+fn entry_sizes(table: &[u8], f: &[u8], in_f: &[u8; 256], top: usize, one: bool) -> [u8; 256]
+    requires { ⌜ (length (now table) ≡ 256) × (length (now f) ≤ 240) × (top ≤ 256) × Below top (now f) × LabelSizes (now f) (now «in_f») × (one ≡ true → OneClass (now table) (now f)) ⌝ }
     ensures { λ r. ⌜ EntrySizes (now (table .entry)) (now (f .entry)) r ⌝ }
 {
     if one {
         return all_sizes(f.len() as u8);
     }
     let mut sizes = [0u8; 256];
-    for u in 0..f.len() {
-        let x = table[f[u] as usize] as usize;
-        sizes[x] += 1;
+    for x in 0..top {
+        let k = table[x] as usize;
+        sizes[k] += in_f[x];
     }
     sizes
 }

@@ -1,11 +1,11 @@
 // The supremum of two factors: classes of one joined along the classes of the other.
 ghost use mathlib.Core.Path.{_≡_};
 ghost use mathlib.Core.Bool.{true};
-ghost use Prim.Native.Nat.{_≤_, _<_};
+ghost use Prim.Native.Nat.{ℕ, _≤_, _<_};
 ghost use lib.ListN.{length};
 ghost use Rattle.rules.specs.Factor.{at, universal, number, classes, supremum};
 ghost use Rattle.factor.specs.Lent.{onCommon, overlay};
-ghost use Rattle.factor.specs.Joining.{Below, OwnFrom, Own, OneEntry, Joins, relabelled, spread};
+ghost use Rattle.factor.specs.Joining.{Below, OwnWithin, Own, OneEntry, Joins, relabelled, spread};
 use crate::labels::least_label;
 use crate::labels::past_labels;
 use crate::plots::common_plots;
@@ -32,24 +32,44 @@ fn number_joined(f: &[u8], g: &[u8], top: usize, out: &mut [u8; PLOTS]) -> usize
     ensures answer { λ r. ⌜ r ≡ classes (supremum (now (f .entry)) (now (g .entry))) ⌝ }
     ensures numbers { λ _. ⌜ now (out .exit) ≡ overlay (now (out .entry)) (supremum (now (f .entry)) (now (g .entry))) ⌝ }
 {
-    let mut table = own_labels(least_label(f));
-    if join(&mut table, f, g, top) {
+    let mut table = own_labels(least_label(f), top);
+    if join(&mut table, f, g, rounded(top)) {
         return one_class(f.len(), out);
     }
     number_entries(&table, f, out)
 }
 
-// A table over labels: each label from `low` on is its own entry. Label 0 has the entry `low`, so that a column numbered from 1
-// may come to have one entry only.
-pub(crate) fn own_labels(low: u8) -> [u8; 256]
-    ensures { λ r. ⌜ (length r ≡ 256) × OwnFrom low r ⌝ }
+// A table over labels: each label from `low` on and below `top` is its own entry. The others have the entry `low`, so that all entries may
+// come to be one.
+pub(crate) fn own_labels(low: u8, top: usize) -> [u8; 256]
+    requires { ⌜ top ≤ 256 ⌝ }
+    ensures { λ r. ⌜ (length r ≡ 256) × OwnWithin low top r ⌝ }
 {
     let mut table = [0u8; 256];
     for x in 1..256 {
         table[x] = x as u8;
     }
     table[0] = low;
+    fill_from(&mut table, top, low);
     table
+}
+
+// The entries from `top` on become `low`.
+fn fill_from(table: &mut [u8; 256], top: usize, low: u8)
+    requires { ⌜ (length (now table) ≡ 256) × (top ≤ 256) ⌝ }
+    ensures { λ _. ⌜ (length (now (table .exit)) ≡ 256) × ((x : ℕ) → x < top → at (now (table .exit)) x ≡ at (now (table .entry)) x) ⌝ }
+{
+    for x in top..256 {
+        table[x] = low;
+    }
+}
+
+// `top` rounded up to whole groups of 32 entries, which are relabelled at a time.
+pub(crate) fn rounded(top: usize) -> usize
+    requires { ⌜ top ≤ 256 ⌝ }
+    ensures { λ r. ⌜ (top ≤ r) × (r ≤ 256) ⌝ }
+{
+    (top + 31) / 32 * 32
 }
 
 // The first `top` entries: those that are `a` become `b`. Answers whether all are `b` then.

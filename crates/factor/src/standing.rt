@@ -1,7 +1,7 @@
 // How two columns stand to each other.
 ghost use mathlib.Core.Path.{_≡_};
-ghost use Prim.Native.Nat.{ℕ, _≤_, _<_};
-ghost use lib.ListN.{length, getD};
+ghost use Prim.Native.Nat.{_≤_, _<_};
+ghost use lib.ListN.{length};
 ghost use Rattle.rules.specs.Factor.{finer, orthogonal};
 ghost use Rattle.factor.specs.Standing.{testCommon, balanced, equivalent, orderOf, ordered, stands};
 use crate::cells::CELLS;

@@ -1,14 +1,13 @@
 -- `count_cells` meets its contract: the tables and the list are those of the plots passed.
 -- Assumes nothing.
-use mathlib.Core.Path.{_≡_, refl, sym, ap, _∙_, subst}
+use mathlib.Core.Path.{_≡_, refl, _∙_}
 use mathlib.Core.Logic.{⊎-elim}
 use mathlib.Core.List.{List}
 use Prim.Native.Nat.{ℕ, _+_, _*_, _-_, _≤_, _<_}
 use native.Mathlib.Omega.{arith}
 use denote.Ref.{now}
-use lib.ListN.{length, set}
+use lib.ListN.{length}
 use Rattle.rules.specs.Factor.{Column, at}
-use Rattle.factor.specs.Sizes.{labelled}
 use Rattle.factor.specs.Cells.{Tables, Cover, labelledBoth}
 use Rattle.factor.proofs.SizeTable.{labelled-le}
 use Rattle.factor.proofs.CellTable.{cell-le, tables-step, cover-new, cover-old}

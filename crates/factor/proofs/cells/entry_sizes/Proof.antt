@@ -1,28 +1,24 @@
--- `entry_sizes` meets its contract: the table holds the sizes among the plots passed.
+-- `entry_sizes` meets its contract: the table holds the sizes by the labels passed.
 -- Assumes nothing.
-use mathlib.Core.Path.{_≡_, refl, sym, ap, _∙_}
+use mathlib.Core.Path.{_≡_, refl, sym, _∙_}
 use mathlib.Core.List.{List}
 use Prim.Native.Nat.{ℕ, _+_, _-_, _≤_, _<_}
 use native.Mathlib.Omega.{arith}
 use borrow.Author.Needs.{needs}
 use denote.Ref.{now}
-use lib.ListN.{length, set, replicate, length-set, getD-replicate}
-use Rattle.rules.specs.Factor.{Column, at, count}
+use lib.ListN.{length, replicate, length-set, getD-replicate}
+use Rattle.rules.specs.Factor.{Column, at}
 use Rattle.factor.specs.Sizes.{labelled}
-use Rattle.factor.specs.Joining.{spread}
 use Rattle.factor.proofs.Table.{getD-zeros}
-use Rattle.factor.proofs.SizeTable.{labelled-le}
-use Rattle.factor.proofs.Joining.{spread-at}
-use Rattle.factor.proofs.CellTable.{labelled-step, entry-sizes-one, entry-sizes-all}
+use Rattle.factor.proofs.CellTable.{entry-sizes-one, entry-sizes-all, entered, entered-le, entered-none, entered-all, entered-here, entered-step}
 use Rattle.factor.proofs.cells.entry_sizes.Statement.{statement}
 use Rattle.factor.proofs.cells.entry_sizes.Tie as tie
 
 abbrev Inv-loop : tie.InvT-loop
-Inv-loop table f one sizes₀ u₀ u-end sizes u =
-    (u ≤ length f) × (u-end ≡ length f) × (length sizes ≡ 256) × ((x : ℕ) → x < 256 → at sizes x ≡ labelled u (spread table f) x)
+Inv-loop table f in-f top one sizes₀ x₀ sizes x = (x ≤ top) × (length sizes ≡ 256) × ((y : ℕ) → y < 256 → at sizes y ≡ entered table f x y)
 
 abbrev μ-loop : tie.MeasureT-loop
-μ-loop table f one sizes₀ u₀ u-end sizes u = length f - u
+μ-loop table f in-f top one sizes₀ x₀ sizes x = top - x
 
 cast-all-sizes : tie.Need-cast-all-sizes Inv-loop μ-loop
 cast-all-sizes c = omega arith
@@ -37,66 +33,70 @@ returns c =
     let f = now (s .args .f) in
     let t = now (s .args .table) in
     let r : List ℕ = replicate 256 (length f) in
-    entry-sizes-one t f (s .pre .2 (c .before .if1 .taken)) (c .all-sizes .result)
+    entry-sizes-one t f (s .pre .5 (c .before .if1 .taken)) (c .all-sizes .result)
     (λ u h. rw (c .all-sizes .ensures) (getD-replicate 256 (at t (at f u)) (length f) 0 (omega (arith, k .before .shared-slice-known .given (at f u)))))
 
 loop-holds : tie.Need-loop-holds Inv-loop μ-loop
-unfolding labelled count
-loop-holds c = (omega arith, refl, refl, λ x h. getD-zeros 256 x)
+loop-holds c =
+    let s = c .before .before .before in
+    (omega arith, refl, λ y h. getD-zeros 256 y ∙ sym (entered-none (now (s .args .table)) (now (s .args .f)) y))
 
-shared-slice-read-x : tie.Need-shared-slice-read-x Inv-loop μ-loop
-shared-slice-read-x c = omega arith
-
-cast-x : tie.Need-cast-x Inv-loop μ-loop
-cast-x c = omega (arith, c .shared-slice-known3 .given (c .before .before .loop .u))
-
-shared-slice-read-x-2 : tie.Need-shared-slice-read-x-2 Inv-loop μ-loop
-shared-slice-read-x-2 c = omega (arith, c .before .shared-slice-known3 .given (c .before .before .before .loop .u))
+shared-slice-read-k : tie.Need-shared-slice-read-k Inv-loop μ-loop
+shared-slice-read-k c = omega arith
 
 -- what is known in a turn
-module _ (c : tie.After-shared-slice-known4 Inv-loop μ-loop) where
+module _ (c : tie.After-shared-slice-known3 Inv-loop μ-loop) where
+  abbrev head : tie.At-loop Inv-loop μ-loop
+  head = c .before .before
+
+  abbrev start : tie.Start Inv-loop μ-loop
+  start = head .before .before .before .before
+
   abbrev f : Column
-  f = now (c .before .before .before .before .before .before .before .args .f)
+  f = now (start .args .f)
 
   abbrev table : List ℕ
-  table = now (c .before .before .before .before .before .before .before .args .table)
+  table = now (start .args .table)
 
-  -- the entry that is read
-  abbrev label : ℕ
-  label = at table (at f (c .before .before .before .loop .u))
+  abbrev x : ℕ
+  x = head .loop .x
 
-  entry : label < 256
-  entry = omega (arith, c .shared-slice-known4 .given (at f (c .before .before .before .loop .u)))
+  abbrev sizes : List ℕ
+  sizes = head .loop .sizes
 
-cast-x-2 : tie.Need-cast-x-2 Inv-loop μ-loop
-cast-x-2 c = omega (arith, entry c)
+  byte : at table x < 256
+  byte = omega (arith, c .shared-slice-known3 .given x)
+
+  size : at (now (start .args .in-f)) x ≡ labelled (length f) f x
+  size = start .pre .4 x (omega arith)
+
+cast-k : tie.Need-cast-k Inv-loop μ-loop
+cast-k c = omega (arith, byte c)
+
+element-copy-out-sizes : tie.Need-element-copy-out-sizes Inv-loop μ-loop
+element-copy-out-sizes c = omega arith
 
 array-read-sizes : tie.Need-array-read-sizes Inv-loop μ-loop
-array-read-sizes c = entry c
+array-read-sizes c = byte (c .before)
 
 add-sizes : tie.Need-add-sizes Inv-loop μ-loop
 add-sizes c =
-    let b = c .before .before .before in
-    omega (arith, b .loop .inv .3 (label c) (entry c), labelled-le (b .loop .u) (spread (table c) (f c)) (label c))
+    let k = c .before in
+    omega (arith, head k .loop .inv .2 (at (table k) (x k)) (byte k), size k, entered-here (table k) (f k) (x k), entered-le (table k) (f k) (x k + 1) (at (table k) (x k)), start k .pre .1)
 
 array-write-sizes : tie.Need-array-write-sizes Inv-loop μ-loop
-array-write-sizes c = entry c
+array-write-sizes c = byte (c .before)
 
-add-u : tie.Need-add-u Inv-loop μ-loop
-add-u c = omega arith
+add-x : tie.Need-add-x Inv-loop μ-loop
+add-x c = omega arith
 
 loop-less : tie.Need-loop-less Inv-loop μ-loop
 loop-less c = omega arith
 
 loop-again : tie.Need-loop-again Inv-loop μ-loop
 loop-again c =
-    let b = c .before .before .before in
-    let u = b .loop .u in
-    let k = spread (table c) (f c) in
-    let v : at k u ≡ label c = spread-at (table c) (f c) u (omega arith) in
-    let next : (x : ℕ) → x < 256 → at (set (b .loop .sizes) (label c) (at (b .loop .sizes) (label c) + 1)) x ≡ labelled (u + 1) k x =
-    rw v at (labelled-step 256 k u (b .loop .sizes) (b .loop .inv .2) (rw v (entry c)) (b .loop .inv .3)) in
-    (omega arith, refl, simp length-set (b .loop .inv .2), next)
+    let k = c .before in
+    (omega arith, simp length-set (head k .loop .inv .1), entered-step (table k) (f k) (sizes k) (x k) (at (now (start k .args .in-f)) (x k)) (head k .loop .inv .1) (byte k) (size k) (head k .loop .inv .2))
 
 returns-2 : tie.Need-returns-2 Inv-loop μ-loop
 returns-2 c =
@@ -104,8 +104,9 @@ returns-2 c =
     let s = b .before .before .before .before in
     let f = now (s .args .f) in
     let t = now (s .args .table) in
-    let e : b .loop .u ≡ length f = omega arith in
-    entry-sizes-all t f (b .loop .sizes) (rw e at (b .loop .inv .3)) (λ x. omega (arith, b .before .before .before .shared-slice-known .given x))
+    let e : b .loop .x ≡ s .args .top = omega arith in
+    let counts : (y : ℕ) → y < 256 → at (b .loop .sizes) y ≡ entered t f (s .args .top) y = rw e at (b .loop .inv .2) in
+    entry-sizes-all t f (b .loop .sizes) (λ y h. counts y h ∙ entered-all t f (s .args .top) (s .pre .3) y) (λ x. omega (arith, b .before .before .before .shared-slice-known .given x))
 
 pub entry-sizes-spec : {M : Type 1} → statement M
 entry-sizes-spec =
@@ -117,14 +118,13 @@ entry-sizes-spec =
     all-sizes-requires
     returns
     loop-holds
-    shared-slice-read-x
-    cast-x
-    shared-slice-read-x-2
-    cast-x-2
+    shared-slice-read-k
+    cast-k
+    element-copy-out-sizes
     array-read-sizes
     add-sizes
     array-write-sizes
-    add-u
+    add-x
     loop-less
     loop-again
     returns-2)

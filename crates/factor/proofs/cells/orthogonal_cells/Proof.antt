@@ -1,8 +1,8 @@
 -- `orthogonal_cells` meets its contract: the listed cells stand for all plots.
 -- Assumes nothing.
-use mathlib.Core.Path.{_≡_, refl, sym, ap, _∙_}
+use mathlib.Core.Path.{_≡_, sym, _∙_}
 use mathlib.Core.List.{List}
-use Prim.Native.Nat.{ℕ, _*_, _≤_, _<_}
+use Prim.Native.Nat.{ℕ, _≤_}
 use native.Mathlib.Omega.{arith}
 use denote.Ref.{now}
 use lib.ListN.{length, take}
@@ -92,7 +92,7 @@ least-label-requires : tie.Need-least-label-requires
 least-label-requires c κs = search needs
 
 own-labels-requires : tie.Need-own-labels-requires
-own-labels-requires c κs = search needs
+own-labels-requires c κs = start (c .before .before) .pre .2
 
 array-share-prefix-cell-f-2 : tie.Need-array-share-prefix-cell-f-2
 array-share-prefix-cell-f-2 c = few-x (c .before .before .before .before)
@@ -106,48 +106,53 @@ array-share-prefix-cell-g c = few-y (c .before .before .before .before .before)
 slice-aggregate-join-2 : tie.Need-slice-aggregate-join-2
 slice-aggregate-join-2 c = sym (long-y (c .before .before .before .before .before .before))
 
+rounded-requires : tie.Need-rounded-requires
+rounded-requires c κs = start (c .before .before .before .before .before .before) .pre .2
+
 join-requires : tie.Need-join-requires
 join-requires c κs =
-    let k = c .before .before .before .before .before .before in
-    let own = c .before .before .before .own-labels .ensures in
-    (own .0, long-y k ∙ sym (long-x k), start k .pre .2, below-x k, λ u h. own .1 (at (X k) u) (c .before .before .before .before .least-label .ensures u h) (omega (arith, below-x k u h)))
+    let k = c .before .before .before .before .before .before .before in
+    let own = c .before .before .before .before .own-labels .ensures in
+    let wide = c .rounded .ensures in
+    (own .0, long-y k ∙ sym (long-x k), wide .1, λ u h. omega (arith, below-x k u h, wide .0), λ u h. own .1 (at (X k) u) (c .before .before .before .before .before .least-label .ensures u h) (below-x k u h))
 
 slice-aggregate-entry-sizes : tie.Need-slice-aggregate-entry-sizes
 slice-aggregate-entry-sizes c = search needs
 
 entry-sizes-requires : tie.Need-entry-sizes-requires
 entry-sizes-requires c κs =
-    let j = c .before in
-    let k = j .before .before .before .before .before .before .before in
+    let j = c .before .before in
+    let k = j .before .before .before .before .before .before .before .before in
     let t = j .join .last .0 in
-    (j .join .ensures .1 .0, start k .pre .0, λ e. one-entry (F k) (G k) (start k .pre .1) (start k .args .a) t (start k .pre .4) (j .join .ensures .0 e .1))
+    let wide = j .before .rounded in
+    (j .join .ensures .1 .0, start k .pre .0, start k .pre .2, start k .pre .4, k .count-cells .ensures .0 .size-f, λ e. one-entry (F k) (G k) (start k .pre .1) (wide .result) t (λ u h. omega (arith, start k .pre .4 u h, wide .ensures .0)) (j .join .ensures .0 e .1))
 
 slice-aggregate-even-cells : tie.Need-slice-aggregate-even-cells
 slice-aggregate-even-cells c = search needs
 
 array-share-prefix-cell-f-3 : tie.Need-array-share-prefix-cell-f-3
-array-share-prefix-cell-f-3 c = few-x (c .before .before .before .before .before .before .before .before .before .before .before .before .before .before)
+array-share-prefix-cell-f-3 c = few-x (c .before .before .before .before .before .before .before .before .before .before .before .before .before .before .before .before)
 
 slice-aggregate-even-cells-2 : tie.Need-slice-aggregate-even-cells-2
-slice-aggregate-even-cells-2 c = sym (long-x (c .before .before .before .before .before .before .before .before .before .before .before .before .before .before .before))
+slice-aggregate-even-cells-2 c = sym (long-x (c .before .before .before .before .before .before .before .before .before .before .before .before .before .before .before .before .before))
 
 array-share-prefix-cell-g-2 : tie.Need-array-share-prefix-cell-g-2
-array-share-prefix-cell-g-2 c = few-y (c .before .before .before .before .before .before .before .before .before .before .before .before .before .before .before)
+array-share-prefix-cell-g-2 c = few-y (c .before .before .before .before .before .before .before .before .before .before .before .before .before .before .before .before .before)
 
 slice-aggregate-even-cells-3 : tie.Need-slice-aggregate-even-cells-3
-slice-aggregate-even-cells-3 c = sym (long-y (c .before .before .before .before .before .before .before .before .before .before .before .before .before .before .before .before))
+slice-aggregate-even-cells-3 c = sym (long-y (c .before .before .before .before .before .before .before .before .before .before .before .before .before .before .before .before .before .before))
 
 even-cells-requires : tie.Need-even-cells-requires
 even-cells-requires c κs =
-    let j = c .before .before .before .before .before .before .before .before .before in
-    let k = j .before .before .before .before .before .before .before in
+    let j = c .before .before .before .before .before .before .before .before .before .before in
+    let k = j .before .before .before .before .before .before .before .before in
     (j .join .ensures .1 .0, omega (arith, few k, long-x k), long-y k ∙ sym (long-x k), start k .pre .3, listed-inside (F k) (G k) (X k) (Y k) (listed k) (w k) (inside k))
 
 returns : tie.Need-returns
 returns c =
     let sizes = c .before .before .before .before .before .before .before .before in
-    let j = sizes .before .before in
-    let k = j .before .before .before .before .before .before .before in
+    let j = sizes .before .before .before in
+    let k = j .before .before .before .before .before .before .before .before in
     let last = k .count-cells .last in
     c .even-cells .ensures
     ∙ cells-orthogonal (w k) (F k) (G k) (start k .pre .1) (inside k) (byte-f k) (byte-g k)
@@ -167,6 +172,7 @@ orthogonal-cells-spec =
     slice-aggregate-join
     array-share-prefix-cell-g
     slice-aggregate-join-2
+    rounded-requires
     join-requires
     slice-aggregate-entry-sizes
     entry-sizes-requires

@@ -1,6 +1,6 @@
 -- `number_joined` meets its contract: the entries of the joined labels make the classes of the supremum.
 -- Assumes nothing.
-use mathlib.Core.Path.{_≡_, sym, ap, _∙_}
+use mathlib.Core.Path.{sym, ap, _∙_}
 use native.Mathlib.Omega.{arith}
 use denote.Ref.{now}
 use lib.ListN.{length}
@@ -18,12 +18,16 @@ least-label-requires c κs = search needs
 own-labels-requires : tie.Need-own-labels-requires
 own-labels-requires c κs = search needs
 
+rounded-requires : tie.Need-rounded-requires
+rounded-requires c κs = search needs
+
 join-requires : tie.Need-join-requires
 join-requires c κs =
-    let s = c .before .before .before .before .before in
+    let s = c .before .before .before .before .before .before in
     let f = now (s .args .f) in
-    let own = c .before .own-labels .ensures in
-    (own .0, s .pre .1, s .pre .2, s .pre .3, λ u h. own .1 (at f u) (c .before .before .least-label .ensures u h) (omega (arith, s .pre .3 u h)))
+    let own = c .before .before .own-labels .ensures in
+    let wide = c .rounded .ensures in
+    (own .0, s .pre .1, wide .1, λ u h. omega (arith, s .pre .3 u h, wide .0), λ u h. own .1 (at f u) (c .before .before .before .least-label .ensures u h) (s .pre .3 u h))
 
 one-class-requires : tie.Need-one-class-requires
 one-class-requires c κs = search needs
@@ -31,12 +35,12 @@ one-class-requires c κs = search needs
 returns : tie.Need-returns
 returns c =
     let j = c .before .before .before in
-    let s = j .before .before .before .before .before .before in
+    let s = j .before .before .before .before .before .before .before in
     let f = now (s .args .f) in
     let g = now (s .args .g) in
     let one = j .join .ensures .0 (c .before .before .if1 .taken) in
     let t = j .join .last .0 in
-    let e = one-universal f g (s .pre .1) (s .args .top) t (s .pre .3) (one .1) (joins-supremum f g (s .pre .1) f g t (listed-self f g) (j .join .ensures .1 .1)) in (
+    let e = one-universal f g (s .pre .1) (j .before .rounded .result) t (λ u h. omega (arith, s .pre .3 u h, j .before .rounded .ensures .0)) (one .1) (joins-supremum f g (s .pre .1) f g t (listed-self f g) (j .join .ensures .1 .1)) in (
       c .one-class .ensures .0 ∙ sym (ap classes e ∙ classes-universal (length f) (one .0)),
       c .one-class .ensures .1 ∙ ap (overlay (now (s .args .out))) (sym e),
     )
@@ -50,7 +54,7 @@ number-entries-requires c κs = search needs
 returns-2 : tie.Need-returns-2
 returns-2 c =
     let j = c .before .before .before .before in
-    let s = j .before .before .before .before .before .before in
+    let s = j .before .before .before .before .before .before .before in
     let f = now (s .args .f) in
     let g = now (s .args .g) in
     let t = j .join .last .0 in
@@ -65,6 +69,7 @@ number-joined-spec =
     (tie.spec
     least-label-requires
     own-labels-requires
+    rounded-requires
     join-requires
     one-class-requires
     returns

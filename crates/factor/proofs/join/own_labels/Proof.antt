@@ -1,7 +1,7 @@
 -- `own_labels` meets its contract: the labels passed are their own entries.
 -- Assumes nothing.
-use mathlib.Core.Path.{_≡_, refl, sym, ap, _∙_}
-use Prim.Native.Nat.{ℕ, _+_, _-_, _≤_, _<_}
+use mathlib.Core.Path.{_≡_, refl, _∙_}
+use Prim.Native.Nat.{ℕ, _-_, _≤_, _<_}
 use native.Mathlib.Omega.{arith}
 use lib.Dec.{eqb}
 use lib.ListN.{length, length-set}
@@ -13,10 +13,10 @@ use Rattle.factor.proofs.join.own_labels.Statement.{statement}
 use Rattle.factor.proofs.join.own_labels.Tie as tie
 
 abbrev Inv-loop : tie.InvT-loop
-Inv-loop low table₀ x₀ table x = (x ≤ 256) × (length table ≡ 256) × ((y : ℕ) → 0 < y → y < x → at table y ≡ y)
+Inv-loop low top table₀ x₀ table x = (x ≤ 256) × (length table ≡ 256) × ((y : ℕ) → 0 < y → y < x → at table y ≡ y)
 
 abbrev μ-loop : tie.MeasureT-loop
-μ-loop low table₀ x₀ table x = 256 - x
+μ-loop low top table₀ x₀ table x = 256 - x
 
 loop-holds : tie.Need-loop-holds Inv-loop μ-loop
 loop-holds c = (omega arith, refl, λ y p h. absurd (omega arith))
@@ -48,17 +48,23 @@ loop-again c =
 array-write-table-2 : tie.Need-array-write-table-2 Inv-loop μ-loop
 array-write-table-2 c = omega arith
 
+fill-from-requires : tie.Need-fill-from-requires Inv-loop μ-loop
+fill-from-requires c κs =
+    let b = c .before .before in
+    (simp length-set (b .loop .inv .1), b .before .pre)
+
 returns : tie.Need-returns Inv-loop μ-loop
 returns c =
-    let b = c .before in
+    let b = c .before .before .before in
     let t = b .loop .table in
-    let low = b .before .args .low in (
-      simp length-set (b .loop .inv .1),
-      λ x l h. by-cases (eqb x 0)
+    let low = b .before .args .low in
+    let kept = c .fill-from .ensures in (
+      kept .0,
+      λ x l h. kept .1 x h ∙ by-cases (eqb x 0)
           (λ e. let q : x ≡ 0 = eqb-true x 0 e in
           let z : low ≡ 0 = omega arith in
           rw q (getD-set-same t 0 low 0 (omega arith) ∙ z))
-          (λ e. let ne : x ≡ 0 → ⊥ = eqb-false x 0 e in getD-set-other t 0 x low 0 ne ∙ b .loop .inv .2 x (omega (arith, ne)) (omega arith)),
+          (λ e. let ne : x ≡ 0 → ⊥ = eqb-false x 0 e in getD-set-other t 0 x low 0 ne ∙ b .loop .inv .2 x (omega (arith, ne)) (omega (arith, b .before .pre))),
     )
 
 pub own-labels-spec : {M : Type 1} → statement M
@@ -74,4 +80,5 @@ own-labels-spec =
     loop-less
     loop-again
     array-write-table-2
+    fill-from-requires
     returns)

@@ -3,11 +3,11 @@
 use mathlib.Core.Path.{_≡_, refl, sym, ap, _∙_}
 use mathlib.Core.Logic.{⊎-elim}
 use mathlib.Core.List.{List}
-use Prim.Native.Nat.{ℕ, _+_, _-_, _≤_, _<_}
+use Prim.Native.Nat.{ℕ, _-_, _≤_, _<_}
 use native.Mathlib.Omega.{arith}
 use denote.Ref.{now}
 use lib.ListN.{length, length-set}
-use Rattle.rules.specs.Factor.{Column, at, finer}
+use Rattle.rules.specs.Factor.{Column, at}
 use Rattle.factor.proofs.Nesting.{Agrees, agrees-none, agrees-new, agrees-old, agrees-not, agrees-all}
 use Rattle.factor.proofs.standing.agrees.Statement.{statement}
 use Rattle.factor.proofs.standing.agrees.Tie as tie
