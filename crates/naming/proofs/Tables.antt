@@ -18,9 +18,13 @@ use Rattle.rules.proofs.Words.{bit-word}
 use Rattle.rules.proofs.Bits.{every-suc, every-ext}
 use Rattle.rules.proofs.Buffer.{put, members-add, columns-snoc, length-columns, length-members, column-at, member-is}
 use Rattle.rules.proofs.Members.{alike-self, clash}
-use Rattle.rules.proofs.Numbering.{by-cases, length-number, number-number}
+use Rattle.rules.proofs.Numbering.{by-cases, length-number, number-number, number-infimum}
+use Rattle.rules.proofs.Bounds.{finer-refl, numbered-equal, length-infimum′, infimum-left, infimum-greatest}
+use Rattle.rules.proofs.ClassCount.{finer-universal}
+use Rattle.rules.proofs.Extremes.{length-universal}
 use Rattle.rules.proofs.Tests.{every-at}
 use Rattle.factor.specs.Lent.{common, onCommon, overlay, plotsOf}
+use Rattle.decimal.proofs.Writing.{written-all}
 use Rattle.decimal.specs.Writing.{fits, written}
 use Rattle.naming.specs.Columns.{outdone, listedBy, infimumBy, numberedFrom}
 use Rattle.naming.proofs.Numbered.{On, passing-same}
@@ -60,6 +64,24 @@ module _ (n : ℕ) (out : List ℕ) (F M : Column) (s : n ≤ 240) (lO : length 
 
   pub infimum-length : length (overlay out (onCommon infimum F M)) ≡ 240
   infimum-length = ap (λ (X : Column). length (overlay out X)) common-is ∙ rw (length-append, length-drop, l, lO) (omega arith)
+
+-- a numbered column met with nothing
+pub infimum-universal : (n : ℕ) (C : Column) → length C ≡ n → number C ≡ C → infimum C (universal n) ≡ C
+infimum-universal n C l e =
+    let lU = length-universal n in
+    sym (number-infimum C (universal n) (l ∙ sym lU))
+    ∙ numbered-equal n (infimum C (universal n)) C (length-infimum′ n C (universal n) l lU) l
+    (record { to = infimum-left n C (universal n) l lU; from = infimum-greatest n C (universal n) l lU C (finer-refl n C) (finer-universal n C) })
+    ∙ e
+
+-- the column itself, written into an array
+pub column-part : (n at : ℕ) (zeros l : List ℕ) → n ≤ 240 → at + n ≤ length l → length zeros ≡ 240
+    → (take n (written zeros 0 (take (at + n - at) (drop at l))) ≡ take n (drop at l)) × (length (written zeros 0 (take (at + n - at) (drop at l))) ≡ 240)
+column-part n at zeros l small h z =
+    let X = take n (drop at l) in
+    let len : length X ≡ n = length-part n at l h in
+    let is : written zeros 0 (take (at + n - at) (drop at l)) ≡ X ++ drop (length X) zeros = ap (written zeros 0) (part-is n at l) ∙ written-all zeros X (omega arith) in
+    (ap (take n) is ∙ take-at X (drop (length X) zeros) n len, ap length is ∙ rw (length-append, length-drop, len, z) (omega arith))
 
 pub ones : (n m : ℕ) → n ≤ m → take n (replicate m 1) ≡ universal n
 unfolding universal

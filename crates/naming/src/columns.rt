@@ -1,10 +1,10 @@
 // The columns of one kind, numbered, 240 bytes apart, and where a member stands among them.
 ghost use mathlib.Core.Path.{_≡_};
-ghost use mathlib.Core.Bool.{true};
+ghost use mathlib.Core.Bool.{true, false};
 ghost use Prim.Native.Nat.{_+_, _≤_, _<_};
 ghost use lib.Dec.{ltb};
 ghost use lib.ListN.{length, take};
-ghost use Rattle.rules.specs.Factor.{finer};
+ghost use Rattle.rules.specs.Factor.{number, finer, infimum, universal};
 ghost use Rattle.rules.specs.Family.{membersOf, allNumbered};
 ghost use Rattle.rules.specs.Lists.{wordOf, bitAt};
 ghost use Rattle.rules.specs.Names.{equivalentColumn, columnAbove};
@@ -119,21 +119,37 @@ pub fn equivalent_column(columns: &[u8], n: usize, count: usize, member: &[u8]) 
     0
 }
 
+// Column `c` met with what was met before it, in the first `n` bytes: the column itself where nothing was.
+fn meet(columns: &[u8], n: usize, c: usize, met: [u8; PLOTS], some: bool) -> [u8; PLOTS]
+    requires { ⌜ (n ≤ 240) × (1440 ≤ length (now columns)) × (c < 6) × (number (columnAt n (now columns) c) ≡ columnAt n (now columns) c) × (length met ≡ 240) × (some ≡ false → take n met ≡ universal n) ⌝ }
+    ensures { λ r. ⌜ take n r ≡ infimum (columnAt n (now (columns .entry)) c) (take n met) ⌝ }
+    ensures { λ r. ⌜ length r ≡ 240 ⌝ }
+{
+    let a = PLOTS * c;
+    let e = a + n;
+    let mut next = [0u8; PLOTS];
+    if some {
+        factor::infimum(&columns[a..e], &met, &mut next);
+        return next;
+    }
+    decimal::write_bytes(&columns[a..e], &mut next, 0);
+    next
+}
+
 // The infimum of all columns in the word, in the first `n` bytes. The last column is met first.
 pub fn infimum_above(columns: &[u8], n: usize, count: usize, above: u32) -> [u8; PLOTS]
-    requires { ⌜ Columns n count (now columns) ⌝ }
+    requires { ⌜ Columns n count (now columns) × (allNumbered (membersOf n (now columns) count) ≡ true) ⌝ }
     ensures { λ r. ⌜ take n r ≡ infimumBy (bitAt above) n 0 (membersOf n (now (columns .entry)) count) ⌝ }
 {
     let mut met = [1u8; PLOTS];
+    let mut some = false;
     let mut c = count;
     while 0 < c {
         c -= 1;
         if has(above, c) {
-            let a = PLOTS * c;
-            let e = a + n;
-            let mut next = [0u8; PLOTS];
-            factor::infimum(&columns[a..e], &met, &mut next);
+            let next = meet(columns, n, c, met, some);
             met = next;
+            some = true;
         }
     }
     met

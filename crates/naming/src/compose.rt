@@ -99,7 +99,7 @@ fn by_infimum(
     place: usize,
     out: &mut [u8],
 ) -> usize
-    requires { ⌜ Columns n count (now columns) × (length (now member) ≡ n) ⌝ }
+    requires { ⌜ Columns n count (now columns) × (allNumbered (membersOf n (now columns) count) ≡ true) × (length (now member) ≡ n) ⌝ }
     ensures { λ r. ⌜ r ≡ placeAfter (now (out .entry)) 0 (bytesOf (columnNames mark (header (now (text .entry)))) (nameByInfimum n (membersOf n (now (columns .entry)) count) place (now (member .entry)))) ⌝ }
     ensures { λ _. ⌜ now (out .exit) ≡ written (now (out .entry)) 0 (bytesOf (columnNames mark (header (now (text .entry)))) (nameByInfimum n (membersOf n (now (columns .entry)) count) place (now (member .entry)))) ⌝ }
 {

@@ -1,8 +1,9 @@
 -- Words of members, built bit by bit. Places are counted from 0.
 -- Assumes nothing.
+use mathlib.Core.Path.{_≡_}
 use mathlib.Core.Bool.{Bool, true, false, not, _&&_, _||_}
 use mathlib.Core.List.{List}
-use Prim.Native.Nat.{ℕ, zero, suc, _<_}
+use Prim.Native.Nat.{ℕ, zero, suc, _^_, _≤_, _<_}
 use lib.Dec.{eqb}
 use lib.ListN.{getD}
 use Rattle.rules.specs.Factor.{every, finer}
@@ -17,6 +18,12 @@ AllWords words = (i : ℕ) → getD words i 0 < 4294967296
 unfoldable pub finerWord : ℕ → List ℕ → ℕ → ℕ
 unfolding wordOf finer
 finerWord n buffer i = wordOf (λ j. finer n (columnAt n buffer i) (columnAt n buffer j)) i
+
+-- a word of members before member i to which it is finer: all of them from member j on
+pub record FinerFrom (n : ℕ) (buffer : List ℕ) (i j word : ℕ) : Type 0 where
+  pub below : word < 2 ^ i
+  pub only : (k : ℕ) → bitAt word k ≡ true → finer n (columnAt n buffer i) (columnAt n buffer k) ≡ true
+  pub all : (k : ℕ) → j ≤ k → k < i → bitAt word k ≡ finer n (columnAt n buffer i) (columnAt n buffer k)
 
 -- bit k of word i, unless one of the first m places has a bit in word i and bit k in its own word
 unfoldable pub directBit : List ℕ → ℕ → ℕ → ℕ → Bool

@@ -1,6 +1,6 @@
 // The words of a family's relation: bit j of word i is for member j, both from 0.
 ghost use mathlib.Core.Path.{_≡_};
-ghost use Prim.Native.Nat.{_≤_, _<_};
+ghost use Prim.Native.Nat.{ℕ, _+_, _≤_, _<_};
 ghost use lib.Count.{ones};
 ghost use lib.ListN.{length, getD};
 ghost use Rattle.rules.specs.Family.{membersOf};
@@ -8,7 +8,7 @@ ghost use Rattle.rules.specs.Lists.{tabulate, forPlaces, bitAt};
 ghost use Rattle.rules.specs.Relation.{coarserWords, relationOf, relationRefused};
 ghost use Rattle.strata.specs.Answers.{relationIn};
 ghost use Rattle.strata.specs.Lent.{Formed};
-ghost use Rattle.strata.specs.Words.{AllWords, finerWord, directWord};
+ghost use Rattle.strata.specs.Words.{AllWords, finerWord, FinerFrom, directWord};
 use crate::RelationReport;
 use crate::family::member_finer;
 use limits::MEMBERS;
@@ -34,16 +34,32 @@ pub fn has(word: u32, j: usize) -> bool
     (word >> j) & 1 == 1
 }
 
+// The word of member `i` as far as member `j`, when it is known from the next on. Where member `i` is finer than member `j`, it is
+// finer than those in the word of member `j` too, and these columns are not walked.
+fn with_member(family: &[u8], n: usize, i: usize, j: usize, word: u32, coarser: u32) -> u32
+    requires { ⌜ (n ≤ 240) × (7680 ≤ length (now family)) × (i < 32) × (j < i) × FinerFrom n (now family) i (j + 1) word × (coarser ≡ finerWord n (now family) j) ⌝ }
+    ensures { λ r. ⌜ FinerFrom n (now (family .entry)) i j r ⌝ }
+{
+    if has(word, j) {
+        return word;
+    }
+    if member_finer(family, i, family, j, n) {
+        return word | (coarser | (1u32 << j));
+    }
+    word
+}
+
 // The word of member `i`. Only a member that stands before it can be coarser, and is where member `i` is finer.
-fn coarser_word(family: &[u8], n: usize, i: usize) -> u32
-    requires { ⌜ (n ≤ 240) × (7680 ≤ length (now family)) × (i < 32) ⌝ }
+fn coarser_word(family: &[u8], n: usize, i: usize, words: [u32; MEMBERS]) -> u32
+    requires { ⌜ (n ≤ 240) × (7680 ≤ length (now family)) × (i < 32) × ((k : ℕ) → k < i → getD words k 0 ≡ finerWord n (now family) k) ⌝ }
     ensures { λ r. ⌜ r ≡ finerWord n (now (family .entry)) i ⌝ }
 {
     let mut word: u32 = 0;
-    for j in 0..i {
-        if member_finer(family, i, family, j, n) {
-            word = word | (1u32 << j);
-        }
+    let mut j = i;
+    while 0 < j {
+        j -= 1;
+        let coarser = words[j];
+        word = with_member(family, n, i, j, word, coarser);
     }
     word
 }
@@ -55,7 +71,7 @@ pub fn coarser_words(family: &[u8], n: usize, size: usize) -> [u32; MEMBERS]
 {
     let mut words = [0u32; MEMBERS];
     for i in 0..size {
-        let word = coarser_word(family, n, i);
+        let word = coarser_word(family, n, i, words);
         words[i] = word;
     }
     words

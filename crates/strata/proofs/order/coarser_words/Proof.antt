@@ -1,14 +1,16 @@
 -- `coarser_words` meets its contract: the array is filled from its start.
 -- Assumes nothing.
-use mathlib.Core.Path.{_≡_, refl, _∙_}
-use Prim.Native.Nat.{_-_, _≤_}
+use mathlib.Core.Path.{_≡_, refl, sym, ap, _∙_}
+use mathlib.Core.List.{List}
+use Prim.Native.Nat.{ℕ, _-_, _≤_}
 use native.Mathlib.Omega.{arith}
 use denote.Ref.{now}
-use lib.ListN.{length, take, length-set}
+use lib.ListN.{length, take, getD, length-set}
+use lib.Seq.{getD-take}
 use Rattle.rules.specs.Family.{membersOf}
 use Rattle.rules.specs.Lists.{forPlaces}
 use Rattle.rules.specs.Relation.{coarserWords}
-use Rattle.rules.proofs.Places.{places-start, places-step, places-end}
+use Rattle.rules.proofs.Places.{at-places, places-start, places-step, places-end}
 use Rattle.strata.proofs.Lent.{size-members}
 use Rattle.strata.proofs.RelationWords.{finer-word-is, length-coarser}
 use Rattle.strata.proofs.order.coarser_words.Statement.{statement}
@@ -26,7 +28,18 @@ loop-holds c =
     (omega arith, refl, places-start 0 (coarserWords (s .n) (membersOf (s .n) (now (s .family)) (s .size))))
 
 coarser-word-requires : tie.Need-coarser-word-requires Inv-loop μ-loop
-coarser-word-requires c κs = omega arith
+coarser-word-requires c κs =
+    let b = c .before in
+    let s = b .before .before in
+    let a = s .args in
+    let xs = coarserWords (a .n) (membersOf (a .n) (now (a .family)) (a .size)) in
+    let i = b .loop .i in
+    let few : a .size ≤ 32 = s .pre .few in (
+      s .pre .few-plots,
+      s .pre .long,
+      omega arith,
+      λ k l. ap (λ (ws : List ℕ). getD ws k 0) (b .loop .inv .2) ∙ at-places 0 (take i xs) k (omega arith) ∙ getD-take i xs k 0 l ∙ sym (finer-word-is (s .pre) k (omega arith)),
+    )
 
 mul-words : tie.Need-mul-words Inv-loop μ-loop
 mul-words c = omega arith
