@@ -39,8 +39,8 @@ fn number_joined(f: &[u8], g: &[u8], top: usize, out: &mut [u8; PLOTS]) -> usize
     number_entries(&table, f, out)
 }
 
-// A table over labels: each label from `low` on and below `top` is its own entry. The others have the entry `low`, so that all entries may
-// come to be one.
+// A table over labels: each label from `low` on and below `top` is its own entry. Label 0 and those from `top` on have the entry `low`,
+// so that all entries of a column numbered from 1 may come to be one.
 pub(crate) fn own_labels(low: u8, top: usize) -> [u8; 256]
     requires { ⌜ top ≤ 256 ⌝ }
     ensures { λ r. ⌜ (length r ≡ 256) × OwnWithin low top r ⌝ }

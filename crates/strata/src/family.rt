@@ -2,7 +2,7 @@
 ghost use mathlib.Core.Path.{_≡_};
 ghost use Prim.Native.Nat.{_≤_, _<_};
 ghost use lib.ListN.{length};
-ghost use Rattle.rules.specs.Factor.{classes, finer};
+ghost use Rattle.rules.specs.Factor.{number, classes, finer};
 ghost use Rattle.families.specs.Lent.{columnAt};
 use limits::PLOTS;
 
@@ -18,12 +18,28 @@ pub fn member_finer(f: &[u8], i: usize, g: &[u8], j: usize, n: usize) -> bool
     factor::finer(&f[a..c], &g[b..d])
 }
 
-// How many classes a member has.
+// How many classes a numbered column has: its largest number. The walk goes to the end, so that many plots are looked at at a time.
+fn largest(column: &[u8]) -> u8
+    requires { ⌜ number (now column) ≡ now column ⌝ }
+    ensures { λ r. ⌜ r ≡ classes (now (column .entry)) ⌝ }
+{
+    let mut k: u8 = 0;
+    for u in 0..column.len() {
+        let x = column[u];
+        if k < x {
+            k = x;
+        }
+    }
+    k
+}
+
+// How many classes a numbered member has.
 pub fn member_classes(family: &[u8], i: usize, n: usize) -> usize
-    requires { ⌜ (n ≤ 240) × (7680 ≤ length (now family)) × (i < 32) ⌝ }
+    requires { ⌜ (n ≤ 240) × (7680 ≤ length (now family)) × (i < 32) × (number (columnAt n (now family) i) ≡ columnAt n (now family) i) ⌝ }
     ensures { λ r. ⌜ r ≡ classes (columnAt n (now (family .entry)) i) ⌝ }
 {
     let a = PLOTS * i;
     let e = a + n;
-    factor::classes(&family[a..e])
+    let k = largest(&family[a..e]);
+    k as usize
 }

@@ -10,15 +10,17 @@ use lib.ListN.{length, getD, take, length-set}
 use mir.Syntax.{w64}
 use mir.Val.{ofZ, toZ}
 use mir.ValLaws.{toZ-ofZ, toZ-pos}
-use Rattle.rules.specs.Factor.{classes}
+use Rattle.rules.specs.Factor.{number, classes}
 use Rattle.rules.specs.Family.{membersOf}
 use Rattle.rules.specs.Lists.{forPlaces, bitAt}
 use Rattle.rules.specs.Degrees.{degrees}
+use Rattle.rules.proofs.Buffer.{member-is}
+use Rattle.rules.proofs.WellFormed.{numbered-at}
 use Rattle.rules.proofs.Places.{places-start, places-step, places-end}
 use Rattle.rules.proofs.DegreesLaws.{length-degrees}
 use Rattle.families.specs.Lent.{columnAt}
 use Rattle.strata.specs.Sums.{AllSmall, sumPassing}
-use Rattle.strata.proofs.Lent.{size-members}
+use Rattle.strata.proofs.Lent.{accepted-members, size-members}
 use Rattle.strata.proofs.Sums.{small-fits, small-take, small-places}
 use Rattle.strata.proofs.DegreeTurns.{few-classes, small-degrees, degree-turn}
 use Rattle.strata.proofs.degrees.degrees.Statement.{statement}
@@ -36,7 +38,15 @@ loop-holds c =
     (omega arith, refl, places-start (pos 0) (degrees (a .n) (membersOf (a .n) (now (a .family)) (a .size))))
 
 member-classes-requires : tie.Need-member-classes-requires Inv-loop μ-loop
-member-classes-requires c κs = omega arith
+member-classes-requires c κs =
+    let b = c .before in
+    let s = b .before .before in
+    let a = s .args in
+    let i = b .loop .i in
+    let is = s .pre .0 in
+    let S = membersOf (a .n) (now (a .family)) (a .size) in
+    let here = member-is (a .n) (is .few-plots) (now (a .family)) (a .size) i (omega arith) in
+    (omega (arith, is .few-plots), is .long, omega (arith, is .few), sym (ap number here) ∙ numbered-at S (accepted-members is .numbered) i (omega (arith, size-members is)) ∙ here)
 
 cast-own : tie.Need-cast-own Inv-loop μ-loop
 cast-own c =
