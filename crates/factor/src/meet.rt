@@ -7,9 +7,7 @@ ghost use Rattle.factor.specs.Lent.{onCommon, overlay};
 ghost use Rattle.factor.specs.Cells.{Inside};
 use crate::cells::CELLS;
 use crate::labels::past_labels;
-use crate::numbering::BUCKETS;
-use crate::numbering::NUMBERS;
-use crate::numbering::entered;
+use crate::numbering::number_levels;
 use crate::plots::common_plots;
 use limits::Level;
 use limits::PLOTS;
@@ -48,24 +46,15 @@ fn number_cells(f: &[u8], g: &[u8], w: usize, out: &mut [u8; PLOTS]) -> usize
     k
 }
 
-// The same for any labels. The two labels of a plot make one number, and these are numbered as they are met.
+// The same for any labels. One number for the two labels of a plot makes it the numbering of a column.
 fn number_pairs(f: &[u8], g: &[u8], out: &mut [u8; PLOTS]) -> usize
     ensures answer { λ r. ⌜ r ≡ classes (onCommon infimum (now (f .entry)) (now (g .entry))) ⌝ }
     ensures numbers { λ _. ⌜ now (out .exit) ≡ overlay (now (out .entry)) (onCommon infimum (now (f .entry)) (now (g .entry))) ⌝ }
 {
     let n = common_plots(f.len(), g.len());
-    let room: &mut [u8] = out;
-    let mut labels: [Level; NUMBERS] = [0; NUMBERS];
-    let mut chain = [0u8; NUMBERS];
-    let mut last = [0u8; BUCKETS];
-    let mut k: usize = 0;
+    let mut both: [Level; PLOTS] = [0; PLOTS];
     for u in 0..n {
-        let both = 256 * (f[u] as Level) + g[u] as Level;
-        let c = entered(&mut labels, &mut chain, &mut last, k, both);
-        if k < c {
-            k = c;
-        }
-        room[u] = c as u8;
+        both[u] = 256 * (f[u] as Level) + g[u] as Level;
     }
-    k
+    number_levels(&both[..n], out)
 }
