@@ -20,7 +20,7 @@ use Rattle.rules.proofs.Bounds.{nested-orthogonal}
 use Rattle.rules.proofs.Walks.{bool-false}
 use Rattle.factor.specs.declared.standing.Order.{Order}
 use Rattle.factor.specs.declared.standing.Standing.{Standing}
-use Rattle.factor.specs.Standing.{equivalent, orderOf, ordered, saysFiner, saysCoarser, standingOf, stands, saysOrthogonal}
+use Rattle.factor.specs.Standing.{orderOf, ordered, saysFiner, saysCoarser, standingOf, stands, saysOrthogonal}
 use Rattle.factor.proofs.Table.{getD-zeros}
 use Rattle.factor.proofs.Joining.{one-more}
 
@@ -96,11 +96,6 @@ module _ (n : ℕ) (F G : Column) where
   pub says-coarser : saysCoarser (ordered n F G) ≡ finer n G F
   unfolding ordered
   says-coarser = both-of (finer n F G) (finer n G F) .1
-
-  -- so it says of equivalence
-  pub equivalent-by : {o : Order} → ordered n F G ≡ o → saysFiner o && saysCoarser o ≡ equivalent n F G
-  unfolding equivalent
-  equivalent-by e = sym (ap (λ (o : Order). saysFiner o && saysCoarser o) e) ∙ ap₂ _&&_ says-finer says-coarser
 
   pub stands-by : {o : Order} {b : Bool} → ordered n F G ≡ o → orthogonal n F G ≡ b → standingOf o b ≡ stands n F G
   unfolding stands

@@ -21,11 +21,6 @@ balanced n A B F G = every n (λ u. eqb (classSize n A u * classSize n B u) (cla
 
 -- ---- how two factors stand to each other
 
--- "F and G are equivalent when this holds both ways"
-unfoldable pub equivalent : ℕ → Column → Column → Bool
-unfolding finer
-equivalent n F G = finer n F G && finer n G F
-
 -- by whether F is finer than or equivalent to G, and G than or to F
 unfoldable pub orderOf : Bool → Bool → Order
 orderOf true true = order.Equivalent

@@ -2,7 +2,6 @@
 ghost use mathlib.Core.Path.{_≡_};
 ghost use Prim.Native.Nat.{_≤_, _<_};
 ghost use Rattle.rules.specs.Factor.{number, classes};
-ghost use Rattle.rules.specs.Family.{alike};
 ghost use Rattle.factor.specs.Lent.{plotsOf, overlay};
 ghost use Rattle.factor.specs.Seen.{bucketOf, lookUp, Descends, Chained, Entered};
 use crate::plots::numbered_plots;
@@ -14,26 +13,6 @@ pub(crate) const NUMBERS: usize = PLOTS + 1;
 
 // Buckets that labels are sorted into.
 pub(crate) const BUCKETS: usize = 1024;
-
-// Numbers the plots of a column by first appearance; answers the number of classes.
-pub fn number(column: &[u8], out: &mut [u8; PLOTS]) -> usize
-    ensures answer { λ r. ⌜ r ≡ classes (plotsOf (now (column .entry))) ⌝ }
-    ensures numbers { λ _. ⌜ now (out .exit) ≡ overlay (now (out .entry)) (number (plotsOf (now (column .entry)))) ⌝ }
-{
-    let n = numbered_plots(column.len());
-    let room: &mut [u8] = out;
-    let mut numbers = [0u8; 256];
-    let mut k: usize = 0;
-    for u in 0..n {
-        let x = column[u] as usize;
-        if numbers[x] == 0 {
-            k += 1;
-            numbers[x] = k as u8;
-        }
-        room[u] = numbers[x];
-    }
-    k
-}
 
 // How many classes a column of any length has.
 pub fn classes(column: &[u8]) -> usize
@@ -49,26 +28,6 @@ pub fn classes(column: &[u8]) -> usize
         }
     }
     k
-}
-
-// Whether a column of any length is numbered by first appearance.
-pub fn is_numbered(column: &[u8]) -> bool
-    ensures { λ r. ⌜ r ≡ alike (number (now (column .entry))) (now (column .entry)) ⌝ }
-{
-    let mut k: usize = 0;
-    for u in 0..column.len() {
-        let x = column[u] as usize;
-        if x == 0 {
-            return false;
-        }
-        if k + 1 < x {
-            return false;
-        }
-        if k < x {
-            k = x;
-        }
-    }
-    true
 }
 
 // The bucket of a label. Labels that are pairs of bytes, from 1 to a and from 1 to b, lie in different buckets where

@@ -1,7 +1,6 @@
 // The order of members.
 ghost use mathlib.Core.Path.{_≡_};
-ghost use Rattle.rules.specs.Family.{alike, smaller, before};
-use crate::numbering::classes;
+ghost use Rattle.rules.specs.Family.{alike, smaller};
 
 // Whether two columns are equal. The walk goes to the end, so that many plots are compared at a time.
 pub fn alike(f: &[u8], g: &[u8]) -> bool
@@ -35,16 +34,4 @@ pub fn smaller(f: &[u8], g: &[u8]) -> bool
         }
     }
     f.len() < g.len()
-}
-
-// Whether `f` stands before `g`: fewer classes, and at a tie the smaller column.
-pub fn before(f: &[u8], g: &[u8]) -> bool
-    ensures { λ r. ⌜ r ≡ before (now (f .entry)) (now (g .entry)) ⌝ }
-{
-    let a = classes(f);
-    let b = classes(g);
-    if a == b {
-        return smaller(f, g);
-    }
-    a < b
 }

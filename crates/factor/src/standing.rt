@@ -3,7 +3,7 @@ ghost use mathlib.Core.Path.{_≡_};
 ghost use Prim.Native.Nat.{_≤_, _<_};
 ghost use lib.ListN.{length};
 ghost use Rattle.rules.specs.Factor.{finer, orthogonal};
-ghost use Rattle.factor.specs.Standing.{testCommon, balanced, equivalent, orderOf, ordered, stands};
+ghost use Rattle.factor.specs.Standing.{testCommon, balanced, orderOf, ordered, stands};
 use crate::cells::CELLS;
 use crate::cells::orthogonal_cells;
 use crate::join::supremum;
@@ -56,18 +56,6 @@ pub fn order_of(f: &[u8], g: &[u8]) -> Order
     order_whole(&f[..n], &g[..n])
 }
 
-// Whether two columns are equivalent over their common plots.
-pub fn equivalent(f: &[u8], g: &[u8]) -> bool
-    ensures { λ r. ⌜ r ≡ testCommon equivalent (now (f .entry)) (now (g .entry)) ⌝ }
-{
-    match order_of(f, g) {
-        Order::Equivalent => true,
-        Order::Finer => false,
-        Order::Coarser => false,
-        Order::Neither => false,
-    }
-}
-
 // Whether plots that share a class of `f` always share a class of `g`, over the common plots.
 pub fn finer(f: &[u8], g: &[u8]) -> bool
     ensures { λ r. ⌜ r ≡ testCommon finer (now (f .entry)) (now (g .entry)) ⌝ }
@@ -77,7 +65,7 @@ pub fn finer(f: &[u8], g: &[u8]) -> bool
 }
 
 // Whether two columns are orthogonal over their common plots.
-pub fn orthogonal(f: &[u8], g: &[u8]) -> bool
+fn orthogonal(f: &[u8], g: &[u8]) -> bool
     ensures { λ r. ⌜ r ≡ testCommon orthogonal (now (f .entry)) (now (g .entry)) ⌝ }
 {
     let n = common_plots(f.len(), g.len());
