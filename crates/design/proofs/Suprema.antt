@@ -20,7 +20,7 @@ use Rattle.rules.proofs.Members.{insertAll-has, insertAll-only, ascending-inser
 use Rattle.rules.proofs.Supremum.{length-supremum, number-supremum}
 use Rattle.rules.proofs.WorkList.{member-in, distinct-more, length-sorted}
 use Rattle.factor.specs.Lent.{common, onCommon, overlay}
-use Rattle.factor.specs.Standing.{testCommon}
+use Rattle.standing.specs.Standing.{testCommon}
 use Rattle.factor.proofs.Lent.{common-all}
 use Rattle.design.specs.State.{columnIn, Held, Placed, full, old, new, grownTo, Begun, Sorted}
 use Rattle.design.specs.Treatments.{Placing, exceeded, begun}

@@ -7,13 +7,13 @@ ghost use lib.ListN.{length, getD};
 ghost use Rattle.rules.specs.Factor.{Column, classes, infimum, supremum};
 ghost use Rattle.rules.specs.Family.{membersOf};
 ghost use Rattle.factor.specs.Lent.{overlay};
-ghost use Rattle.factor.specs.Standing.{ordered, saysFiner, saysCoarser};
+ghost use Rattle.standing.specs.Standing.{ordered, saysFiner, saysCoarser};
 ghost use Rattle.design.specs.State.{columnIn, Held, Placed, Work, Kept, Stepped, Closed};
 use crate::store::grown;
 use crate::store::place;
-use factor::Order;
 use limits::MEMBERS;
 use limits::PLOTS;
+use standing::Order;
 
 // The answer of a step where the family would have more members than it may.
 pub const TOO_MANY: usize = 33;
@@ -30,7 +30,7 @@ fn member_order(store: &[u8], n: usize, i: usize, j: usize) -> Order
     let b = PLOTS * j;
     let c = a + n;
     let d = b + n;
-    factor::order_of(&store[a..c], &store[b..d])
+    standing::order_of(&store[a..c], &store[b..d])
 }
 
 // Whether an order says that the first is finer than or equivalent to the second.
@@ -67,7 +67,7 @@ fn member_infimum(store: &[u8], n: usize, i: usize, j: usize, column: &mut [u8; 
     let b = PLOTS * j;
     let c = a + n;
     let d = b + n;
-    factor::infimum(&store[a..c], &store[b..d], column)
+    standing::infimum(&store[a..c], &store[b..d], column)
 }
 
 // Writes the supremum of two members; answers its number of classes.
@@ -80,7 +80,7 @@ fn member_supremum(store: &[u8], n: usize, i: usize, j: usize, column: &mut [u8;
     let b = PLOTS * j;
     let c = a + n;
     let d = b + n;
-    factor::supremum(&store[a..c], &store[b..d], column)
+    standing::supremum(&store[a..c], &store[b..d], column)
 }
 
 // Places the infimum of two members.

@@ -6,8 +6,8 @@ ghost use Rattle.rules.specs.Factor.{orthogonal};
 ghost use Rattle.design.specs.State.{columnIn};
 ghost use Rattle.design.specs.Search.{firstPairOf, firstCrossOf};
 use crate::questions::Places;
-use factor::Standing;
 use limits::PLOTS;
+use standing::Standing;
 
 // Whether the members at places `i` and `j` of two family buffers are orthogonal: all are but those apart.
 fn members_orthogonal(f: &[u8], i: usize, g: &[u8], j: usize, n: usize) -> bool
@@ -18,7 +18,7 @@ fn members_orthogonal(f: &[u8], i: usize, g: &[u8], j: usize, n: usize) -> bool
     let b = PLOTS * j;
     let c = a + n;
     let d = b + n;
-    match factor::standing_of(&f[a..c], &g[b..d]) {
+    match standing::standing_of(&f[a..c], &g[b..d]) {
         Standing::Equivalent => true,
         Standing::Finer => true,
         Standing::Coarser => true,

@@ -102,7 +102,7 @@ pub fn first_unequal(family: &[u8], n: usize, size: usize) -> usize
     for i in 0..size {
         let at = PLOTS * i;
         let end = at + n;
-        if !factor::uniform(&family[at..end]) {
+        if !standing::uniform(&family[at..end]) {
             return i + 1;
         }
     }

@@ -38,7 +38,7 @@ fn add_infimum(infima: &mut [u8], total: usize, column: &[u8], e: usize)
     let at = PLOTS * e;
     let end = at + n;
     let mut made = [0u8; PLOTS];
-    factor::infimum(column, &infima[at..end], &mut made);
+    standing::infimum(column, &infima[at..end], &mut made);
     put(infima, total, &made[..n]);
 }
 
@@ -203,7 +203,7 @@ fn place_product(
     let c = a + n;
     let d = b + n;
     let mut column = [0u8; PLOTS];
-    let k = factor::supremum(&plot[a..c], &first[b..d], &mut column);
+    let k = standing::supremum(&plot[a..c], &first[b..d], &mut column);
     place(store, counts, size, &column[..n], k as u8)
 }
 

@@ -1,7 +1,6 @@
 -- Laws for callers: columns of at most 240 plots are looked at whole, and the numbers stand at the start of the output array.
 -- Assumes nothing.
-use mathlib.Core.Path.{_≡_, sym, ap, ap₂, _∙_}
-use mathlib.Core.Bool.{Bool}
+use mathlib.Core.Path.{_≡_, ap, ap₂, _∙_}
 use mathlib.Core.List.{List}
 use Prim.Native.Nat.{ℕ, _≤_}
 use native.Mathlib.Omega.{arith}
@@ -9,18 +8,12 @@ use lib.ListN.{length, take, drop, length-append, length-drop}
 use lib.Seq.{take-all, take-at, drop-at}
 use Rattle.rules.specs.Factor.{Column}
 use Rattle.factor.specs.Lent.{plotsOf, common, onCommon, overlay}
-use Rattle.factor.specs.Standing.{testCommon}
 
 pub plots-all : (F : Column) → length F ≤ 240 → plotsOf F ≡ F
 plots-all F h = take-all 240 F h
 
 pub common-all : {A : Type 0} (op : Column → Column → A) (F G : Column) → length F ≡ length G → length F ≤ 240 → onCommon op F G ≡ op F G
 common-all op F G l h = ap₂ op (take-all (common F G) F (omega arith)) (take-all (common F G) G (omega arith))
-
-pub test-all : (test : ℕ → Column → Column → Bool) (n : ℕ) (F G : Column) → length F ≡ n → length G ≡ n → n ≤ 240 → testCommon test F G ≡ test n F G
-test-all test n F G lF lG h =
-    let e : common F G ≡ n = omega arith in
-    ap (λ (m : ℕ). onCommon (test m) F G) e ∙ common-all (test n) F G (lF ∙ sym lG) (omega arith)
 
 module _ (out : List ℕ) (X : Column) where
   pub take-overlay : (n : ℕ) → length X ≡ n → take n (overlay out X) ≡ X

@@ -1,19 +1,15 @@
 -- Laws of a family in lent memory: its members, and question 15 part by part.
 -- Assumes nothing.
-use mathlib.Core.Path.{_≡_, ap, ap₂, _∙_}
+use mathlib.Core.Path.{_≡_, ap}
 use mathlib.Core.Bool.{_&&_}
 use mathlib.Core.List.{List}
 use Prim.Native.Nat.{ℕ, _+_, _-_, _*_, _≤_, _<_}
 use native.Mathlib.Omega.{arith}
 use lib.Dec.{ltb, leb}
 use lib.ListN.{length, take, drop, length-take, length-drop}
-use lib.Seq.{take-all}
 use borrow.Author.Tests.{le-leb}
-use Rattle.rules.specs.Factor.{Column, finer}
 use Rattle.rules.specs.Family.{membersOf, allNumbered, ordered, wellFormed}
 use Rattle.rules.proofs.Buffer.{length-members}
-use Rattle.factor.specs.Lent.{common}
-use Rattle.factor.specs.Standing.{testCommon}
 use Rattle.families.specs.Lent.{columnAt, formedIn}
 
 -- a part of n bytes that starts at member i
@@ -24,12 +20,6 @@ part-of n i b =
 
 pub length-column : (n i : ℕ) (b : List ℕ) → n ≤ 240 → i < 32 → 7680 ≤ length b → length (columnAt n b i) ≡ n
 length-column n i b hn hi hb = simp (length-take, length-drop) (omega arith)
-
--- columns on the same plots have these in common
-pub finer-common : (n : ℕ) (F G : Column) → n ≤ 240 → length F ≡ n → length G ≡ n → testCommon finer F G ≡ finer n F G
-finer-common n F G h lF lG =
-    let e : common F G ≡ n = omega arith in
-    ap (λ (k : ℕ). finer k (take k F) (take k G)) e ∙ ap₂ (finer n) (take-all n F (omega arith)) (take-all n G (omega arith))
 
 -- question 15, part by part
 pub formed-parts : (n : ℕ) → n ≤ 240 → (b : List ℕ) (size : ℕ)

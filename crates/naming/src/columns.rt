@@ -36,7 +36,7 @@ fn column_finer(columns: &[u8], n: usize, i: usize, j: usize) -> bool
     let b = PLOTS * j;
     let c = a + n;
     let d = b + n;
-    factor::finer(&columns[a..c], &columns[b..d])
+    standing::finer(&columns[a..c], &columns[b..d])
 }
 
 // Whether column `i` is coarser than or equivalent to the member.
@@ -46,7 +46,7 @@ fn is_above(columns: &[u8], n: usize, i: usize, member: &[u8]) -> bool
 {
     let a = PLOTS * i;
     let e = a + n;
-    factor::finer(member, &columns[a..e])
+    standing::finer(member, &columns[a..e])
 }
 
 // Whether bit `j` of a word is set.
@@ -129,7 +129,7 @@ fn meet(columns: &[u8], n: usize, c: usize, met: [u8; PLOTS], some: bool) -> [u8
     let e = a + n;
     let mut next = [0u8; PLOTS];
     if some {
-        factor::infimum(&columns[a..e], &met, &mut next);
+        standing::infimum(&columns[a..e], &met, &mut next);
         return next;
     }
     decimal::write_bytes(&columns[a..e], &mut next, 0);

@@ -15,7 +15,7 @@ use Rattle.rules.specs.Design.{plotsWithin}
 use Rattle.rules.proofs.Buffer.{length-members, member-is}
 use Rattle.rules.proofs.WellFormed.{Accepted, accepted}
 use Rattle.factor.specs.Lent.{common}
-use Rattle.factor.specs.Standing.{testCommon}
+use Rattle.standing.specs.Standing.{testCommon}
 use Rattle.strata.specs.Lent.{Formed}
 use Rattle.families.proofs.Lent.{length-column}
 

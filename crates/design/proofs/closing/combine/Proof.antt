@@ -7,8 +7,8 @@ use native.Mathlib.Nat.{le-refl}
 use denote.Ref.{now}
 use borrow.Author.Needs.{needs}
 use Rattle.rules.specs.Factor.{finer}
-use Rattle.factor.specs.Standing.{saysFiner, saysCoarser}
-use Rattle.factor.proofs.Nesting.{says-finer, says-coarser}
+use Rattle.standing.specs.Standing.{saysFiner, saysCoarser}
+use Rattle.standing.proofs.Nesting.{says-finer, says-coarser}
 use Rattle.design.specs.State.{columnIn, on}
 use Rattle.design.proofs.Work.{work-left, work-right, step-as}
 use Rattle.design.proofs.closing.combine.Statement.{statement}

@@ -2,7 +2,7 @@
 -- Assumes nothing.
 use mathlib.Core.Path.{sym, ap}
 use borrow.Author.Needs.{needs}
-use Rattle.factor.specs.Standing.{saysCoarser}
+use Rattle.standing.specs.Standing.{saysCoarser}
 use Rattle.design.proofs.closing.is_coarser.Statement.{statement}
 use Rattle.design.proofs.closing.is_coarser.Tie as tie
 

@@ -2,7 +2,7 @@
 -- Assumes nothing.
 use mathlib.Core.Path.{sym, ap}
 use borrow.Author.Needs.{needs}
-use Rattle.factor.specs.Standing.{saysFiner}
+use Rattle.standing.specs.Standing.{saysFiner}
 use Rattle.design.proofs.closing.is_finer.Statement.{statement}
 use Rattle.design.proofs.closing.is_finer.Tie as tie
 

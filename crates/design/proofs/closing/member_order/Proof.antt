@@ -3,7 +3,7 @@
 use mathlib.Core.Path.{_∙_}
 use denote.Ref.{now}
 use borrow.Author.Needs.{needs}
-use Rattle.factor.specs.Standing.{ordered}
+use Rattle.standing.specs.Standing.{ordered}
 use Rattle.design.proofs.Common.{on-members}
 use Rattle.design.proofs.closing.member_order.Statement.{statement}
 use Rattle.design.proofs.closing.member_order.Tie as tie

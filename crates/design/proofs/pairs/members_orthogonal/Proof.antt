@@ -5,9 +5,9 @@ use Prim.Native.Nat.{_*_}
 use native.Mathlib.Omega.{arith}
 use denote.Ref.{now}
 use Rattle.rules.specs.Factor.{orthogonal}
-use Rattle.factor.specs.declared.standing.Standing.{Standing}
-use Rattle.factor.specs.Standing.{testCommon, stands, saysOrthogonal}
-use Rattle.factor.proofs.Nesting.{orthogonal-by}
+use Rattle.standing.specs.declared.orders.Standing.{Standing}
+use Rattle.standing.specs.Standing.{testCommon, stands, saysOrthogonal}
+use Rattle.standing.proofs.Nesting.{orthogonal-by}
 use Rattle.design.specs.State.{columnIn}
 use Rattle.design.proofs.Asked.{part-is, length-column}
 use Rattle.design.proofs.Suprema.{lent-test}

@@ -1,0 +1,49 @@
+-- One number for two labels, the second below w. It tells the labels, so the column of these numbers has the classes of the infimum.
+-- Assumes nothing.
+use mathlib.Core.Path.{_≡_, sym, ap, ap₂, _∙_}
+use mathlib.Core.List.{map}
+use Prim.Native.Nat.{ℕ, _+_, _*_, _<_}
+use native.Mathlib.Omega.{arith}
+use lib.ListN.{length, getD, length-map, List·getD-map}
+use Rattle.rules.specs.Factor.{Column, at, Equivalent, Pair, pairs, number, classes, infimum}
+use Rattle.rules.proofs.Numbering.{length-pairs, pairs-at, length-infimum, infimum-same, number-infimum, number-unique}
+use Rattle.rules.proofs.Columns.{classes-equivalent}
+use Rattle.standing.proofs.CellTable.{cell-unique}
+
+abbrev code : ℕ → Pair → ℕ
+code w p = w * p .0 + p .1
+
+-- the numbers of the plots of two columns
+unfoldable pub codesOf : ℕ → Column → Column → Column
+unfolding pairs
+codesOf w F G = map (code w) (pairs F G)
+
+module _ (w : ℕ) (F G : Column) (l : length F ≡ length G) where
+  pub length-codes : length (codesOf w F G) ≡ length F
+  unfolding codesOf
+  length-codes = length-map (pairs F G) (code w) ∙ length-pairs F G l
+
+  pub codes-at : (u : ℕ) → u < length F → at (codesOf w F G) u ≡ w * at F u + at G u
+  unfolding codesOf
+  codes-at u h =
+      let z : 0 ≡ w * 0 + 0 = omega arith in
+      ap (λ (d : ℕ). getD (map (code w) (pairs F G)) u d) z ∙ List·getD-map (code w) (pairs F G) u (0, 0) ∙ ap (code w) (pairs-at F G l u h)
+
+  module _ (bytes : (u : ℕ) → u < length F → at G u < w) where
+    codes-equivalent : Equivalent (length (codesOf w F G)) (codesOf w F G) (infimum F G)
+    codes-equivalent = record {
+      to = λ u v hu hv e. let ku : u < length F = rw length-codes at hu in
+          let kv : v < length F = rw length-codes at hv in
+          let s : w * at F u + at G u ≡ w * at F v + at G v = sym (codes-at u ku) ∙ e ∙ codes-at v kv in
+          infimum-same F G l u v ku kv .1 (cell-unique w (at F u) (at G u) (at F v) (at G v) (bytes u ku) (bytes v kv) s);
+      from = λ u v hu hv e. let ku : u < length F = rw length-codes at hu in
+          let kv : v < length F = rw length-codes at hv in
+          let s = infimum-same F G l u v ku kv .0 e in
+          codes-at u ku ∙ ap₂ (λ (a b : ℕ). w * a + b) (s .0) (s .1) ∙ sym (codes-at v kv);
+    }
+
+    pub number-codes : number (codesOf w F G) ≡ infimum F G
+    number-codes = number-unique (codesOf w F G) (infimum F G) (length-codes ∙ sym (length-infimum F G l)) codes-equivalent ∙ number-infimum F G l
+
+    pub classes-codes : classes (codesOf w F G) ≡ classes (infimum F G)
+    classes-codes = classes-equivalent (codesOf w F G) (infimum F G) (length-codes ∙ sym (length-infimum F G l)) codes-equivalent

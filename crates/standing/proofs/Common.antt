@@ -1,0 +1,20 @@
+-- Laws for callers: columns of at most 240 plots are looked at whole.
+-- Assumes nothing.
+use mathlib.Core.Path.{_≡_, sym, ap, _∙_}
+use mathlib.Core.Bool.{Bool}
+use Prim.Native.Nat.{ℕ, _≤_}
+use native.Mathlib.Omega.{arith}
+use lib.ListN.{length}
+use Rattle.rules.specs.Factor.{Column, finer}
+use Rattle.factor.specs.Lent.{common, onCommon}
+use Rattle.factor.proofs.Lent.{common-all}
+use Rattle.standing.specs.Standing.{testCommon}
+
+-- columns on the same plots have these in common
+pub test-all : (test : ℕ → Column → Column → Bool) (n : ℕ) (F G : Column) → length F ≡ n → length G ≡ n → n ≤ 240 → testCommon test F G ≡ test n F G
+test-all test n F G lF lG h =
+    let e : common F G ≡ n = omega arith in
+    ap (λ (m : ℕ). onCommon (test m) F G) e ∙ common-all (test n) F G (lF ∙ sym lG) (omega arith)
+
+pub finer-common : (n : ℕ) (F G : Column) → n ≤ 240 → length F ≡ n → length G ≡ n → testCommon finer F G ≡ finer n F G
+finer-common n F G h lF lG = test-all finer n F G lF lG h

@@ -1,0 +1,4 @@
+pub mod Joining
+pub mod Sizes
+pub mod Cells
+pub mod Standing

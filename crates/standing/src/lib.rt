@@ -1,0 +1,17 @@
+// How two factors stand to each other: infimum, supremum, order and orthogonality, by their columns; and the sizes of classes.
+
+mod cells;
+mod join;
+mod labels;
+mod meet;
+mod orders;
+mod sizes;
+
+pub use join::supremum;
+pub use meet::infimum;
+pub use orders::Order;
+pub use orders::Standing;
+pub use orders::finer;
+pub use orders::order_of;
+pub use orders::standing_of;
+pub use sizes::uniform;
