@@ -14,7 +14,7 @@ use std::{env, fs, io, path::Path, process::ExitCode, time::Duration};
 
 const USAGE: &str = "usage: bench [--seconds S] [--only WORD] [--entries]   the table of sheets; with each entry by itself
        bench [--seconds S] --growth [PICTURE]         how time grows with plots and members
-       bench --once SHEET library|reference [CALLS]   the table of one sheet, a title or a file, so many times
+       bench --once SHEET library|reference [CALLS [ENTRY]]   one entry on one sheet, a title or a file, so many times
        bench --instructions                           each sheet once by each, for bench/instructions.sh
        bench --write FOLDER                           the sheets as files";
 
@@ -95,9 +95,9 @@ fn tables(wish: &Wish) -> io::Result<bool> {
 /// What callgrind counts: it is told this name.
 #[no_mangle]
 #[inline(never)]
-extern "C" fn measured_calls(memory: &mut Memory, library: bool, calls: usize) {
+extern "C" fn measured_calls(memory: &mut Memory, library: bool, entry: usize, calls: usize) {
     for _ in 0..calls {
-        memory.call(PAIR[usize::from(!library)], 0, &mut |answer| {
+        memory.call(PAIR[usize::from(!library)], entry, &mut |answer| {
             std::hint::black_box(answer);
         });
     }
@@ -109,9 +109,11 @@ fn find(name: &str) -> io::Result<Sheet> {
     known.map_or_else(|| sheets::from_file(Path::new(name)), Ok)
 }
 
-fn once(name: &str, who: &str, calls: usize) -> io::Result<bool> {
+fn once(name: &str, who: &str, calls: &str, entry: &str) -> io::Result<bool> {
     let mut memory = Memory::new(&find(name)?);
-    measured_calls(&mut memory, who == "library", calls);
+    let calls = calls.parse().map_err(io::Error::other)?;
+    let entry = NAMES.iter().position(|known| *known == entry).ok_or(io::Error::other(USAGE))?;
+    measured_calls(&mut memory, who == "library", entry, calls);
     Ok(who == "library" || who == "reference")
 }
 
@@ -122,7 +124,7 @@ fn instructions() -> io::Result<bool> {
         println!("{}\t{}\t{}\t{}", sheet.title, memory.text.len(), memory.plots, memory.members());
         for library in [true, false] {
             memory.answer(PAIR[usize::from(!library)], 0);
-            measured_calls(&mut memory, library, 1);
+            measured_calls(&mut memory, library, 0, 1);
         }
     }
     Ok(true)
@@ -144,8 +146,9 @@ fn perform(wish: &Wish) -> io::Result<bool> {
         [] => tables(wish),
         ["--growth"] => growth::tables(wish.limit, Path::new(concat!(env!("CARGO_MANIFEST_DIR"), "/../docs/growth.svg"))),
         ["--growth", picture] => growth::tables(wish.limit, Path::new(picture)),
-        ["--once", name, who] => once(name, who, 1),
-        ["--once", name, who, calls] => once(name, who, calls.parse().map_err(io::Error::other)?),
+        ["--once", name, who] => once(name, who, "1", NAMES[0]),
+        ["--once", name, who, calls] => once(name, who, calls, NAMES[0]),
+        ["--once", name, who, calls, entry] => once(name, who, calls, entry),
         ["--instructions"] => instructions(),
         ["--write", folder] => write(folder),
         _ => Err(io::Error::other(USAGE)),
