@@ -1,0 +1,133 @@
+//! The library against the reference: every entry on what a sheet leads to, each answer and every byte of lent memory.
+
+#![no_main]
+
+use compare::library::LIBRARY;
+use fuzz::memory::Guarded;
+use fuzz::{blocks, hash, input, mutator, oracle};
+use reference::{Entries, FAMILY, FAST, LEVELS, NAME, TABLE};
+use std::cell::RefCell;
+
+/// Longest text and longest buffer for a table that are lent.
+const MOST: usize = 1 << 16;
+
+/// What an implementation is lent.
+struct Lent {
+    text: Guarded,
+    levels: Guarded,
+    families: [Guarded; 2],
+    name: Guarded,
+    out: Guarded,
+}
+
+impl Lent {
+    fn new() -> Lent {
+        let room = Guarded::new;
+        let families = [room(FAMILY + 64), room(FAMILY + 64)];
+        Lent { text: room(MOST), levels: room(2 * LEVELS + 64), families, name: room(NAME + 64), out: room(MOST) }
+    }
+}
+
+/// The entries of one implementation, run on one text; everything that they answer and leave.
+struct Run<'a> {
+    entries: &'a Entries,
+    lent: &'a mut Lent,
+    chosen: usize,
+    said: Vec<String>,
+    left: Vec<Vec<u8>>,
+}
+
+impl Run<'_> {
+    /// The printed table in a buffer of this length.
+    fn skeleton(&mut self, size: usize, length: usize) {
+        let Lent { text, out, .. } = &mut *self.lent;
+        let out = out.bytes(length);
+        out.fill(self.chosen as u8);
+        let answer = (self.entries.skeleton)(text.bytes(size), out);
+        if self.entries.title == LIBRARY.title {
+            oracle::plant(out, answer.1 as usize);
+        }
+        self.said.push(format!("{answer:?}"));
+        self.left.push(out.to_vec());
+    }
+
+    /// Reading, and the design of what was read with any k.
+    fn designs(&mut self, size: usize) {
+        let Lent { text, levels, families: [plot, treatment], .. } = &mut *self.lent;
+        let (text, levels) = (text.bytes(size), levels.numbers(LEVELS + self.chosen % 3));
+        let (plot, treatment) = (plot.bytes(FAMILY), treatment.bytes(FAMILY + self.chosen % 5));
+        levels.fill(self.chosen as u16);
+        plot.fill(!self.chosen as u8);
+        treatment.fill(self.chosen as u8);
+        let (number, counts) = (self.entries.read_sheet)(text, levels);
+        self.said.push(format!("read_sheet {number} {counts:?}"));
+        let [n, p, t] = counts.map(|count| count as usize);
+        let full = (self.entries.full_design)(levels, n, p, t, 1 + self.chosen % 6, plot, treatment);
+        self.said.push(format!("full_design {full:?}"));
+        let [a, b] = [full.1[2] as usize, full.1[3] as usize];
+        self.said.push(format!("strata {:?}", (self.entries.strata)(plot, a, treatment, b, n)));
+        self.said.push(format!("relation {:?}", (self.entries.relation)(treatment, n, b)));
+        self.said.push(format!("degrees {:?}", (self.entries.degrees)(plot, n, a)));
+        self.names(size, n, [a, b]);
+    }
+
+    /// One name of each family; the buffers are what the design left.
+    fn names(&mut self, size: usize, plots: usize, sizes: [usize; 2]) {
+        let Lent { text, levels, families, name, .. } = &mut *self.lent;
+        let (text, levels) = (text.bytes(size), levels.numbers(LEVELS + self.chosen % 3));
+        let name = name.bytes(NAME);
+        for (kind, family) in families.iter_mut().enumerate() {
+            let family = family.bytes(FAMILY + if kind == 0 { 0 } else { self.chosen % 5 });
+            let place = 1 + self.chosen / 7 % sizes[kind].max(1);
+            name.fill(self.chosen as u8);
+            let answer = (self.entries.name)(text, levels, family, plots, sizes[kind], kind as u32, place, name);
+            self.said.push(format!("name {answer:?} {name:?}"));
+            self.left.push(family.to_vec());
+        }
+        self.left.push(levels.iter().flat_map(|level| level.to_le_bytes()).collect());
+    }
+}
+
+/// All that one implementation makes of a text.
+fn outcome(entries: &Entries, lent: &mut Lent, text: &[u8]) -> (Vec<String>, Vec<Vec<u8>>) {
+    let chosen = hash(text);
+    lent.text.bytes(text.len()).copy_from_slice(text);
+    let mut run = Run { entries, lent, chosen, said: Vec::new(), left: Vec::new() };
+    run.skeleton(text.len(), TABLE + if chosen % 4 == 0 { chosen / 4 % 100 } else { 0 });
+    if chosen % 8 == 1 {
+        run.skeleton(text.len(), TABLE - 1 - chosen / 8 % if chosen % 16 == 1 { TABLE } else { 2 });
+    }
+    run.designs(text.len());
+    let kept = run.lent.text.bytes(text.len()) == text;
+    run.said.push(format!("the text is kept: {kept}"));
+    (run.said, run.left)
+}
+
+thread_local! {
+    static LENT: RefCell<[Lent; 2]> = RefCell::new([Lent::new(), Lent::new()]);
+}
+
+fn check(text: &[u8]) {
+    let text = &text[..text.len().min(MOST)];
+    let [library, reference] = LENT.with_borrow_mut(|[first, second]| [outcome(&LIBRARY, first, text), outcome(&FAST, second, text)]);
+    assert_eq!(library.0, reference.0, "DIFFERENCE in an answer, the library's on the left");
+    assert!(library.1 == reference.1, "DIFFERENCE in lent memory");
+    oracle::printed(text);
+}
+
+#[no_mangle]
+extern "C" fn LLVMFuzzerInitialize(_: *mut i32, _: *mut *mut *mut u8) -> i32 {
+    blocks::start();
+    0
+}
+
+#[no_mangle]
+extern "C" fn LLVMFuzzerTestOneInput(data: *const u8, size: usize) -> i32 {
+    check(unsafe { input(data, size) });
+    0
+}
+
+#[no_mangle]
+extern "C" fn LLVMFuzzerCustomMutator(data: *mut u8, size: usize, most: usize, seed: u32) -> usize {
+    unsafe { mutator::mutate(data, size, most, seed) }
+}
