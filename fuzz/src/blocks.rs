@@ -5,7 +5,7 @@
 
 use crate::system::{atexit, mprotect, sigaction, Action, CONTEXT_POINTER, EXECUTE, READ, SA_SIGINFO, SIGTRAP, WRITE};
 use std::ffi::c_void;
-use std::sync::atomic::{AtomicUsize, Ordering};
+use std::sync::atomic::{AtomicBool, Ordering};
 use std::sync::OnceLock;
 
 /// Blocks that can be told apart.
@@ -19,33 +19,45 @@ const PAGE: usize = 4096;
 static mut REACHED: [u8; MOST] = [0; MOST];
 
 static TABLE: OnceLock<Vec<(usize, u8)>> = OnceLock::new();
-static COUNT: AtomicUsize = AtomicUsize::new(0);
-static TOTAL: AtomicUsize = AtomicUsize::new(0);
+/// The blocks as the file has them, in order, and which of them were reached in any run.
+static LISTED: OnceLock<Vec<usize>> = OnceLock::new();
+static EVER: [AtomicBool; MOST] = [const { AtomicBool::new(false) }; MOST];
 
 extern "C" {
     fn rachdoum_read_sheet();
 }
 
-/// The addresses of a file of blocks; none if no file is named.
+/// The addresses of the file of blocks, those of blocks in order; none if no file is named.
 pub fn addresses() -> Vec<usize> {
     let Some(file) = std::env::var_os("FUZZ_BLOCKS") else { return Vec::new() };
     let text = std::fs::read_to_string(file).expect("the file of blocks can be read");
-    text.lines().map(|line| usize::from_str_radix(line, 16).expect("a line of the file of blocks is an address")).collect()
+    let address = |line: &str| usize::from_str_radix(line, 16).expect("a line of the file of blocks is an address");
+    let mut addresses: Vec<usize> = text.lines().map(address).collect();
+    addresses[1..].sort_unstable();
+    addresses
 }
 
 /// Tells libFuzzer that a block was reached for the first time.
 pub fn reached(block: usize) {
-    COUNT.fetch_add(1, Ordering::Relaxed);
+    EVER[block % MOST].store(true, Ordering::Relaxed);
     unsafe { (&raw mut REACHED).cast::<u8>().add(block % MOST).write(1) }
 }
 
-/// Prints at the end how many blocks were reached.
-pub fn report(total: usize) {
-    extern "C" fn print() {
-        eprintln!("blocks reached: {} of {}", COUNT.load(Ordering::Relaxed), TOTAL.load(Ordering::Relaxed));
+/// At the end: how many blocks were reached; those that were not go to the file that FUZZ_MISSED names.
+extern "C" fn report() {
+    let Some(listed) = LISTED.get() else { return };
+    let missed: Vec<String> = listed.iter().zip(&EVER).filter(|(_, ever)| !ever.load(Ordering::Relaxed)).map(|(at, _)| format!("{at:x}\n")).collect();
+    eprintln!("blocks reached: {} of {}", listed.len() - missed.len(), listed.len());
+    if let Some(file) = std::env::var_os("FUZZ_MISSED") {
+        let _ = std::fs::write(file, missed.concat());
     }
-    TOTAL.store(total, Ordering::Relaxed);
-    unsafe { atexit(print) };
+}
+
+/// Takes down the blocks, in order, for the report at the end.
+pub fn list(blocks: Vec<usize>) {
+    assert!(blocks.len() <= MOST, "more blocks than can be told apart");
+    let _ = LISTED.set(blocks);
+    unsafe { atexit(report) };
 }
 
 /// At a breakpoint: puts the instruction back, reports the block and goes on there.
@@ -66,9 +78,7 @@ pub fn start() {
     let addresses = addresses();
     let Some((&known, blocks)) = addresses.split_first() else { return };
     let moved = (rachdoum_read_sheet as *const () as usize).wrapping_sub(known);
-    let mut places: Vec<usize> = blocks.iter().map(|&block| block.wrapping_add(moved)).collect();
-    places.sort_unstable();
-    places.dedup();
+    let places: Vec<usize> = blocks.iter().map(|&block| block.wrapping_add(moved)).collect();
     let (Some(first), Some(last)) = (places.first(), places.last()) else { return };
     let from = first & !(PAGE - 1);
     // The addresses are beginnings of instructions of the library, which nothing runs yet.
@@ -80,5 +90,5 @@ pub fn start() {
         assert_eq!(sigaction(SIGTRAP, &action, std::ptr::null_mut()), 0, "no handler of breakpoints");
         places.iter().for_each(|&at| (at as *mut u8).write_volatile(BREAKPOINT));
     }
-    report(places.len());
+    list(blocks.to_vec());
 }

@@ -73,12 +73,10 @@ impl Program {
     pub fn new() -> io::Result<Program> {
         let path = std::env::var("FUZZ_PROGRAM").map_err(io::Error::other)?;
         let addresses = blocks::addresses();
-        let mut listed: Vec<u64> = addresses.iter().skip(1).map(|&at| at as u64).collect();
-        listed.sort_unstable();
-        listed.dedup();
-        blocks::report(listed.len());
-        let start = addresses.first().map_or(0, |&at| at as u64);
-        Ok(Program { path, start, blocks: listed, code: Vec::new(), armed: Vec::new() })
+        let (&start, listed) = addresses.split_first().unwrap_or((&0, &[]));
+        blocks::list(listed.to_vec());
+        let listed = listed.iter().map(|&at| at as u64).collect();
+        Ok(Program { path, start: start as u64, blocks: listed, code: Vec::new(), armed: Vec::new() })
     }
 
     /// How far the process's code lies from where it was linked.

@@ -62,6 +62,10 @@ impl Run<'_> {
         let (number, counts) = (self.entries.read_sheet)(text, levels);
         self.said.push(format!("read_sheet {number} {counts:?}"));
         let [n, p, t] = counts.map(|count| count as usize);
+        if self.chosen % 4 == 2 {
+            self.said.push(format!("plot_design {:?}", (self.entries.plot_design)(levels, n, p, plot)));
+            self.left.push(plot.to_vec());
+        }
         let full = (self.entries.full_design)(levels, n, p, t, 1 + self.chosen % 6, plot, treatment);
         self.said.push(format!("full_design {full:?}"));
         let [a, b] = [full.1[2] as usize, full.1[3] as usize];
