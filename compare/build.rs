@@ -1,4 +1,5 @@
-//! Links the archive of the proved planner: from the folder RACHDOUM_LIB (a path from the root), or from where `rt staticlib rachdoum` leaves it.
+//! Links the archive of the proved planner: from the folder RACHDOUM_LIB (a path from the root), or from where
+//! `rt staticlib rachdoum` leaves it.
 
 use std::path::PathBuf;
 

@@ -19,10 +19,6 @@ extern "C" {
         plot_family: *const u8, plot_family_len: usize, plot_size: usize, treatment_family: *const u8,
         treatment_family_len: usize, treatment_size: usize, plots: usize, answer: *mut i64,
     ) -> u32;
-}
-
-#[cfg(feature = "eight")]
-extern "C" {
     fn rachdoum_name(
         text: *const u8, text_len: usize, levels: *const u16, levels_len: usize, family: *const u8, family_len: usize,
         plots: usize, size: usize, kind: u32, place: usize, name: *mut u8, name_len: usize, answer: *mut u64,
@@ -98,7 +94,6 @@ fn strata(
     (number, answer)
 }
 
-#[cfg(feature = "eight")]
 #[allow(clippy::too_many_arguments)]
 fn name(
     text: &[u8], levels: &[u16], family: &[u8], plots: usize, size: usize, kind: u32, place: usize, name: &mut [u8],
@@ -114,23 +109,9 @@ fn name(
     (number, answer)
 }
 
-#[cfg(feature = "eight")]
 fn skeleton(text: &[u8], out: &mut [u8]) -> (u32, u64) {
     let mut answer = [STALE; 1];
     let (lent, lent_len) = (out.as_mut_ptr(), out.len());
     let number = unsafe { rachdoum_skeleton(text.as_ptr(), text.len(), lent, lent_len, answer.as_mut_ptr()) };
     (number, answer[0])
-}
-
-#[cfg(not(feature = "eight"))]
-#[allow(clippy::too_many_arguments)]
-fn name(
-    text: &[u8], levels: &[u16], family: &[u8], plots: usize, size: usize, kind: u32, place: usize, name: &mut [u8],
-) -> (u32, [u64; 1]) {
-    (reference::FAST.name)(text, levels, family, plots, size, kind, place, name)
-}
-
-#[cfg(not(feature = "eight"))]
-fn skeleton(text: &[u8], out: &mut [u8]) -> (u32, u64) {
-    (reference::FAST.skeleton)(text, out)
 }

@@ -1,5 +1,9 @@
 //! What the tests share: a level table and buffers with a pattern, sheets as text, and a source of random numbers.
+//! The comparison with the proved library takes this module too.
 #![allow(dead_code)]
+
+pub mod call;
+pub mod generate;
 
 use reference::{Entries, FAMILY, FAST, LEVELS, LITERAL, PLOTS, TABLE};
 
@@ -12,6 +16,18 @@ pub struct Random(u64);
 impl Random {
     pub fn new(seed: u64) -> Random {
         Random(seed.wrapping_mul(0x9E37_79B9_7F4A_7C15) | 1)
+    }
+
+    /// The numbers of one case: neighbouring seeds, entries or indices give numbers that have nothing in common.
+    pub fn of(seed: u64, entry: u64, index: u64) -> Random {
+        let mix = |value: u64| {
+            let value = (value ^ (value >> 30)).wrapping_mul(0xBF58_476D_1CE4_E5B9);
+            let value = (value ^ (value >> 27)).wrapping_mul(0x94D0_49BB_1331_11EB);
+            value ^ (value >> 31)
+        };
+        let start = mix(seed.wrapping_add(0x9E37_79B9_7F4A_7C15));
+        let start = mix(start ^ entry.wrapping_add(1).wrapping_mul(0x9E37_79B9_7F4A_7C15));
+        Random(mix(start ^ index.wrapping_add(1).wrapping_mul(0xD1B5_4A32_D192_ED03)) | 1)
     }
 
     pub fn next(&mut self) -> u64 {
@@ -96,9 +112,9 @@ pub fn members(buffer: &[u8], plots: usize, size: u64) -> Vec<Vec<u8>> {
     (0..size as usize).map(|i| buffer[PLOTS * i..PLOTS * i + plots].to_vec()).collect()
 }
 
-/// A buffer of the least length with these members, the rest a pattern.
+/// A buffer of the least length with these members, longer for more than 32, the rest a pattern.
 pub fn family_buffer(members: &[Vec<u8>]) -> Vec<u8> {
-    let mut buffer = pattern(FAMILY);
+    let mut buffer = pattern(FAMILY.max(PLOTS * members.len()));
     for (i, member) in members.iter().enumerate() {
         buffer[PLOTS * i..PLOTS * i + member.len()].copy_from_slice(member);
     }

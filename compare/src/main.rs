@@ -1,0 +1,232 @@
+//! Holds the library of the proved planner to the second implementation, call by call and byte for byte.
+
+use compare::case;
+use compare::check::{affordable, check, Checked};
+use compare::common::call::{Call, Entry, PRINTED};
+use compare::common::generate;
+use compare::fault::{faults, Fault};
+use compare::library::LIBRARY;
+use compare::shrink::shrink;
+use reference::Entries;
+use std::path::{Path, PathBuf};
+use std::process::ExitCode;
+
+const USAGE: &str = "compare [--seed S] [--cases N] [--first INDEX] [--trace] [--one ENTRY INDEX] [--self-test]
+  --cases N          so many calls of each entry; 0 for the kept cases alone
+  --first INDEX      the index of the first one
+  --trace            names each call before it is made, in case one does not return
+  --one ENTRY INDEX  one call alone, written out
+  --self-test        faults put into the library on purpose must be reported";
+
+/// So many differences of an entry are shown, made smaller and written down; the others are counted.
+const WRITTEN: u64 = 3;
+
+/// What the command line asks for.
+struct Asked {
+    seed: u64,
+    cases: u64,
+    first: u64,
+    trace: bool,
+    one: Option<(Entry, u64)>,
+    self_test: bool,
+}
+
+/// How often an entry was called, with the literal version too, and with which refusals.
+#[derive(Clone, Copy, Default)]
+struct Tally {
+    calls: u64,
+    literal: u64,
+    refusals: [u64; 17],
+    printed: [u64; 17],
+    differences: u64,
+}
+
+impl Tally {
+    fn count(&mut self, entry: Entry, checked: &Checked) {
+        self.calls += 1;
+        self.literal += u64::from(checked.literal);
+        self.differences += u64::from(checked.difference.is_some());
+        self.refusals[(checked.outcome.refusal as usize).min(16)] += 1;
+        if entry == Entry::Skeleton && checked.outcome.refusal == 0 {
+            self.printed[(checked.outcome.printed() as usize).min(16)] += 1;
+        }
+    }
+}
+
+fn main() -> ExitCode {
+    let arguments: Vec<String> = std::env::args().skip(1).collect();
+    let asked = match asked(&arguments) {
+        Ok(asked) => asked,
+        Err(what) => {
+            eprintln!("compare: {what}\n{USAGE}");
+            return ExitCode::from(2);
+        }
+    };
+    let passed = match asked.one {
+        Some((entry, index)) => one(entry, asked.seed, index),
+        None if asked.self_test => self_test(asked.seed),
+        None if asked.cases == 0 => kept(),
+        None => {
+            let kept = kept();
+            compare_all(&asked) && kept
+        }
+    };
+    ExitCode::from(u8::from(!passed))
+}
+
+fn asked(arguments: &[String]) -> Result<Asked, String> {
+    let mut asked = Asked { seed: 1, cases: 8000, first: 0, trace: false, one: None, self_test: false };
+    let mut rest = arguments.iter();
+    while let Some(option) = rest.next() {
+        let mut next = || rest.next().ok_or(format!("nothing after {option}"));
+        let number = |field: &String| field.parse::<u64>().map_err(|_| format!("no number: {field}"));
+        match option.as_str() {
+            "--seed" => asked.seed = number(next()?)?,
+            "--cases" => asked.cases = number(next()?)?,
+            "--first" => asked.first = number(next()?)?,
+            "--trace" => asked.trace = true,
+            "--one" => {
+                let title = next()?;
+                let entry = Entry::titled(title).ok_or(format!("no entry {title}"))?;
+                asked.one = Some((entry, number(next()?)?));
+            }
+            "--self-test" => asked.self_test = true,
+            _ => return Err(format!("what is {option}?")),
+        }
+    }
+    Ok(asked)
+}
+
+fn folder() -> PathBuf {
+    Path::new(env!("CARGO_MANIFEST_DIR")).join("cases")
+}
+
+/// Runs the kept cases. Each must be read, answer what it says, and show no difference.
+fn kept() -> bool {
+    let files = std::fs::read_dir(folder()).into_iter().flatten().flatten().map(|entry| entry.path());
+    let mut files: Vec<PathBuf> = files.filter(|path| path.extension().is_some_and(|end| end == "case")).collect();
+    files.sort();
+    let judged = |path: &PathBuf| -> Result<(), String> {
+        let text = std::fs::read_to_string(path).map_err(|error| error.to_string())?;
+        let case = case::read(&text)?;
+        let checked = check(&case.call, &LIBRARY, true);
+        checked.difference.or_else(|| case.unexpected(&checked.outcome)).map_or(Ok(()), Err)
+    };
+    let mut bad = 0;
+    for path in &files {
+        if let Err(what) = judged(path) {
+            println!("{}: {what}", path.display());
+            bad += 1;
+        }
+    }
+    println!("compare: {} kept cases, {bad} bad", files.len());
+    bad == 0 && !files.is_empty()
+}
+
+/// Compares so many calls of each entry, entry by entry, and prints what was seen.
+fn compare_all(asked: &Asked) -> bool {
+    println!("compare: seed {}, {} calls of each entry from index {} on", asked.seed, asked.cases, asked.first);
+    let mut tallies = [Tally::default(); 8];
+    for entry in Entry::ALL {
+        let tally = &mut tallies[entry as usize];
+        for index in asked.first..asked.first.saturating_add(asked.cases) {
+            if asked.trace {
+                eprintln!("{} {index}", entry.title());
+            }
+            let call = generate::call(entry, asked.seed, index);
+            let checked = check(&call, &LIBRARY, affordable(&call, index));
+            tally.count(entry, &checked);
+            if let Some(what) = checked.difference.filter(|_| tally.differences <= WRITTEN) {
+                keep(&call, asked.seed, index, &what);
+            }
+        }
+    }
+    print_table(&tallies);
+    all_reached(&tallies) && tallies.iter().all(|tally| tally.differences == 0)
+}
+
+/// Makes a call that showed a difference smaller and writes it beside the kept cases.
+fn keep(call: &Call, seed: u64, index: u64, what: &str) {
+    println!("{} {index}: {what}", call.entry.title());
+    let smaller = smaller(call, &LIBRARY);
+    let now = check(&smaller, &LIBRARY, true).difference.unwrap_or_default();
+    let remarks = [format!("seed {seed}, index {index}: {what}"), format!("made smaller: {now}")];
+    let path = folder().join(format!("{}-{seed}-{index}.case", call.entry.title()));
+    match std::fs::write(&path, case::write(&smaller, &remarks)) {
+        Ok(()) => println!("  made smaller: {}", path.display()),
+        Err(error) => println!("  not written: {}: {error}", path.display()),
+    }
+}
+
+/// The smallest call found that still shows a difference. The literal version is asked only if the fast one shows none.
+fn smaller(call: &Call, library: &Entries) -> Call {
+    let literal = check(call, library, false).difference.is_none();
+    shrink(call, &|call| check(call, library, literal).difference.is_some())
+}
+
+fn print_table(tallies: &[Tally; 8]) {
+    let row = |title: &str, calls: &str, literal: &str, cells: &[String]| {
+        let cells: String = cells.iter().map(|cell| format!("{cell:>8}")).collect();
+        println!("{title:<12}{calls:>9}{literal:>9}{cells}");
+    };
+    let cells = |numbers: &[u64; 17]| numbers.map(|number| if number == 0 { ".".to_string() } else { number.to_string() });
+    row("refusal", "calls", "literal", &std::array::from_fn::<String, 17, _>(|number| number.to_string()));
+    for entry in Entry::ALL {
+        let tally = &tallies[entry as usize];
+        row(entry.title(), &tally.calls.to_string(), &tally.literal.to_string(), &cells(&tally.refusals));
+    }
+    row("as printed", "", "", &cells(&tallies[Entry::Skeleton as usize].printed));
+    let sum = |field: fn(&Tally) -> u64| tallies.iter().map(field).sum::<u64>();
+    let (calls, literal, differences) = (sum(|tally| tally.calls), sum(|tally| tally.literal), sum(|tally| tally.differences));
+    println!("compare: {calls} calls, {calls} with the fast version, {literal} with the literal one, {differences} differences");
+}
+
+/// Whether each entry gave each refusal that it has, and each that a printed text can tell was printed.
+fn all_reached(tallies: &[Tally; 8]) -> bool {
+    let missing = |title: &str, numbers: &[u32], seen: &[u64; 17]| {
+        let missing: Vec<u32> = numbers.iter().copied().filter(|&number| seen[number as usize] == 0).collect();
+        if !missing.is_empty() {
+            println!("compare: {title} never gave {missing:?}");
+        }
+        missing.is_empty()
+    };
+    let printed = missing("the printed text", &PRINTED, &tallies[Entry::Skeleton as usize].printed);
+    let reached = Entry::ALL.map(|entry| missing(entry.title(), entry.refusals(), &tallies[entry as usize].refusals));
+    printed && reached.iter().all(|&all| all)
+}
+
+/// One case alone, written out.
+fn one(entry: Entry, seed: u64, index: u64) -> bool {
+    let call = generate::call(entry, seed, index);
+    let checked = check(&call, &LIBRARY, true);
+    let what = checked.difference.clone().unwrap_or("no difference".to_string());
+    print!("{}", case::write(&call, &[format!("seed {seed}, index {index}: {what}")]));
+    let answer: Vec<String> = checked.outcome.answer.iter().map(i128::to_string).collect();
+    println!("refusal {}\nanswer {}", checked.outcome.refusal, answer.join(" "));
+    checked.difference.is_none()
+}
+
+/// Each fault must be found, and still be there in the smaller call after that was written and read again.
+fn self_test(seed: u64) -> bool {
+    let found = |fault: &Fault| -> Result<String, String> {
+        let mut calls = (0..20_000).map(|index| (index, generate::call(fault.entry, seed, index)));
+        let differs = |call: &Call| check(call, &fault.entries, false).difference;
+        let (index, call) = calls.find(|(_, call)| differs(call).is_some()).ok_or("not found")?;
+        let smaller = smaller(&call, &fault.entries);
+        let again = case::read(&case::write(&smaller, &[]))?.call;
+        if again != smaller {
+            return Err("the written case is another one".to_string());
+        }
+        let what = differs(&again).ok_or("the smaller call shows no difference")?;
+        let size = |call: &Call| case::write(call, &[]).len();
+        Ok(format!("index {index}, made smaller from {} to {} bytes; {what}", size(&call), size(&again)))
+    };
+    let mut all = true;
+    for fault in faults() {
+        let result = found(&fault);
+        all &= result.is_ok();
+        let what = result.unwrap_or_else(|what| format!("FAILED: {what}"));
+        println!("self-test: {}, {}: {what}", fault.entry.title(), fault.title);
+    }
+    all
+}
