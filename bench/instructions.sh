@@ -4,7 +4,7 @@
 set -eu
 cd "$(dirname "$0")"
 command -v valgrind >/dev/null || { echo "instructions: valgrind is missing (apt-get install valgrind)" >&2; exit 2; }
-cargo build --release --offline --quiet ${BENCH_FEATURES:+--features "$BENCH_FEATURES"}
+cargo build --release --offline --quiet
 work=$(mktemp -d)
 trap 'rm -rf "$work"' EXIT
 
