@@ -73,6 +73,16 @@ extern "C" fn trapped(_: i32, _: *const c_void, context: *mut c_void) {
     }
 }
 
+/// A fault for trying out the fuzzer: the conditional jump at the address FUZZ_FLIP, as linked, is taken when it should not be.
+unsafe fn flip(moved: usize) {
+    let Ok(address) = std::env::var("FUZZ_FLIP") else { return };
+    let at = usize::from_str_radix(&address, 16).expect("FUZZ_FLIP is an address").wrapping_add(moved) as *mut u8;
+    // A short jump is 7x, a long one is 0F 8x; the lowest bit of x turns the condition round.
+    let condition = if *at == 0x0F { at.add(1) } else { at };
+    assert!(matches!(*condition, 0x70..=0x8F), "no conditional jump there");
+    condition.write_volatile(*condition ^ 1);
+}
+
 /// Sets a breakpoint at each block of the library.
 pub fn start() {
     let addresses = addresses();
@@ -84,6 +94,7 @@ pub fn start() {
     // The addresses are beginnings of instructions of the library, which nothing runs yet.
     unsafe {
         assert_eq!(mprotect(from as *mut c_void, last + 1 - from, READ | WRITE | EXECUTE), 0, "the code cannot be written");
+        flip(moved);
         let table = places.iter().map(|&at| (at, *(at as *const u8))).collect();
         let _ = TABLE.set(table);
         let action = Action { handler: trapped, mask: [0; 16], flags: SA_SIGINFO, restorer: 0 };
