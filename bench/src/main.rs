@@ -13,6 +13,7 @@ use sheets::Sheet;
 use std::{env, fs, io, path::Path, process::ExitCode, time::Duration};
 
 const USAGE: &str = "usage: bench [--seconds S] [--only WORD] [--entries]   the table of sheets; with each entry by itself
+       bench [--seconds S] --folder FOLDER            the same of the files of a folder
        bench [--seconds S] --growth [PICTURE]         how time grows with plots and members
        bench --once SHEET library|reference [CALLS [ENTRY]]   one entry on one sheet, a title or a file, so many times
        bench --instructions                           each sheet once by each, for bench/instructions.sh
@@ -85,8 +86,7 @@ fn table(entry: usize, sheets: &[Sheet], limit: Duration) -> bool {
     agreed
 }
 
-fn tables(wish: &Wish) -> io::Result<bool> {
-    let mut sheets = sheets::all()?;
+fn tables(wish: &Wish, mut sheets: Vec<Sheet>) -> io::Result<bool> {
     sheets.retain(|sheet| sheet.title.contains(&wish.only));
     let entries = if wish.entries { NAMES.len() } else { 1 };
     Ok((0..entries).fold(true, |agreed, entry| table(entry, &sheets, wish.limit) && agreed))
@@ -143,7 +143,8 @@ fn write(folder: &str) -> io::Result<bool> {
 fn perform(wish: &Wish) -> io::Result<bool> {
     let words: Vec<&str> = wish.task.iter().map(String::as_str).collect();
     match words[..] {
-        [] => tables(wish),
+        [] => tables(wish, sheets::all()?),
+        ["--folder", folder] => tables(wish, sheets::folder(Path::new(folder), "")?),
         ["--growth"] => growth::tables(wish.limit, Path::new(concat!(env!("CARGO_MANIFEST_DIR"), "/../docs/growth.svg"))),
         ["--growth", picture] => growth::tables(wish.limit, Path::new(picture)),
         ["--once", name, who] => once(name, who, "1", NAMES[0]),

@@ -18,7 +18,7 @@ pub struct Panel {
 
 const WIDTH: f64 = 460.0;
 const HEIGHT: f64 = 300.0;
-const LEFT: f64 = 60.0;
+const LEFT: f64 = 72.0;
 const TOP: f64 = 20.0;
 const LEGEND: f64 = 18.0;
 const COLOURS: [&str; 3] = ["#1b6ca8", "#c8553d", "#3c7a3c"];

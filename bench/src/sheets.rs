@@ -30,11 +30,11 @@ pub fn crossed(sizes: &[usize], u: usize, f: usize) -> usize {
     u / step % sizes[f]
 }
 
-/// Every sheet file of a folder, in the order of the names.
-fn folder(path: &Path) -> io::Result<Vec<Sheet>> {
+/// Every file of a folder whose name ends so, in the order of the names.
+pub fn folder(path: &Path, ending: &str) -> io::Result<Vec<Sheet>> {
     let entries: Result<Vec<_>, _> = fs::read_dir(path)?.collect();
     let mut files: Vec<_> = entries?.into_iter().map(|entry| entry.path()).collect();
-    files.retain(|file| file.extension().is_some_and(|ending| ending == "sheet"));
+    files.retain(|file| file.is_file() && file.to_string_lossy().ends_with(ending));
     files.sort();
     files.into_iter().map(|file| from_file(&file)).collect()
 }
@@ -154,8 +154,8 @@ fn chains() -> Vec<Sheet> {
 /// All sheets, the folders' first.
 pub fn all() -> io::Result<Vec<Sheet>> {
     let here = Path::new(env!("CARGO_MANIFEST_DIR"));
-    let mut sheets = folder(&here.join("../examples"))?;
-    sheets.extend(folder(&here.join("sheets"))?);
+    let mut sheets = folder(&here.join("../examples"), ".sheet")?;
+    sheets.extend(folder(&here.join("sheets"), ".sheet")?);
     sheets.extend(accepted());
     sheets.extend(refused());
     sheets.extend(chains());
