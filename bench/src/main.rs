@@ -89,7 +89,8 @@ fn table(entry: usize, sheets: &[Sheet], limit: Duration) -> bool {
 fn tables(wish: &Wish, mut sheets: Vec<Sheet>) -> io::Result<bool> {
     sheets.retain(|sheet| sheet.title.contains(&wish.only));
     let entries = if wish.entries { NAMES.len() } else { 1 };
-    Ok((0..entries).fold(true, |agreed, entry| table(entry, &sheets, wish.limit) && agreed))
+    let agreed: Vec<bool> = (0..entries).map(|entry| table(entry, &sheets, wish.limit)).collect();
+    Ok(!agreed.contains(&false))
 }
 
 /// What callgrind counts: it is told this name.

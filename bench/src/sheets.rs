@@ -139,7 +139,7 @@ fn chains() -> Vec<Sheet> {
     let mixed = |u: usize, f: usize| pairs(u * 77 % 240, f);
     let rings = |u: usize, f: usize| match f {
         0 => u / 2,
-        1 => u / 4 * 2 + (u + 1) / 2 % 2,
+        1 => u / 4 * 2 + u.div_ceil(2) % 2,
         _ => u / 4,
     };
     vec![

@@ -46,7 +46,8 @@ pub fn reached(block: usize) {
 /// At the end: how many blocks were reached; those that were not go to the file that FUZZ_MISSED names.
 extern "C" fn report() {
     let Some(listed) = LISTED.get() else { return };
-    let missed: Vec<String> = listed.iter().zip(&EVER).filter(|(_, ever)| !ever.load(Ordering::Relaxed)).map(|(at, _)| format!("{at:x}\n")).collect();
+    let missed = listed.iter().zip(&EVER).filter(|(_, ever)| !ever.load(Ordering::Relaxed));
+    let missed: Vec<String> = missed.map(|(at, _)| format!("{at:x}\n")).collect();
     eprintln!("blocks reached: {} of {}", listed.len() - missed.len(), listed.len());
     if let Some(file) = std::env::var_os("FUZZ_MISSED") {
         let _ = std::fs::write(file, missed.concat());

@@ -89,7 +89,7 @@ fn exchange_plots(sheet: &mut Sheet, chance: &mut Chance) {
 /// A column that is nested or crossed regularly: steps and levels divide the number of plots.
 fn regular_column(sheet: &mut Sheet, chance: &mut Chance) {
     let n = sheet.plots.len();
-    let divisors: Vec<usize> = (1..=n).filter(|d| n % d == 0).collect();
+    let divisors: Vec<usize> = (1..=n).filter(|&d| n.is_multiple_of(d)).collect();
     let step = divisors[chance.below(divisors.len())];
     let levels = divisors[chance.below(divisors.len())];
     let (_, c) = sheet.place(chance);

@@ -97,7 +97,7 @@ fn outcome(entries: &Entries, lent: &mut Lent, text: &[u8]) -> (Vec<String>, Vec
     let chosen = hash(text);
     lent.text.bytes(text.len()).copy_from_slice(text);
     let mut run = Run { entries, lent, chosen, said: Vec::new(), left: Vec::new() };
-    run.skeleton(text.len(), TABLE + if chosen % 4 == 0 { chosen / 4 % 100 } else { 0 });
+    run.skeleton(text.len(), TABLE + if chosen.is_multiple_of(4) { chosen / 4 % 100 } else { 0 });
     if chosen % 8 == 1 {
         run.skeleton(text.len(), TABLE - 1 - chosen / 8 % if chosen % 16 == 1 { TABLE } else { 2 });
     }
