@@ -61,12 +61,12 @@ impl Run<'_> {
         treatment.fill(self.chosen as u8);
         let (number, counts) = (self.entries.read_sheet)(text, levels);
         self.said.push(format!("read_sheet {number} {counts:?}"));
-        let [n, p, t] = counts.map(|count| count as usize);
+        let [n, p, t, k] = disturbed(counts.map(|count| count as usize), levels, self.chosen);
         if self.chosen % 4 == 2 {
             self.said.push(format!("plot_design {:?}", (self.entries.plot_design)(levels, n, p, plot)));
             self.left.push(plot.to_vec());
         }
-        let full = (self.entries.full_design)(levels, n, p, t, 1 + self.chosen % 6, plot, treatment);
+        let full = (self.entries.full_design)(levels, n, p, t, k, plot, treatment);
         self.said.push(format!("full_design {full:?}"));
         let [a, b] = [full.1[2] as usize, full.1[3] as usize];
         self.said.push(format!("strata {:?}", (self.entries.strata)(plot, a, treatment, b, n)));
@@ -89,6 +89,24 @@ impl Run<'_> {
             self.left.push(family.to_vec());
         }
         self.left.push(levels.iter().flat_map(|level| level.to_le_bytes()).collect());
+    }
+}
+
+/// Plots, columns of both kinds and k; in one of four runs one of them, or a level, is what no sheet gives.
+fn disturbed([n, p, t]: [usize; 3], levels: &mut [u16], chosen: usize) -> [usize; 4] {
+    let (k, at) = (1 + chosen % 6, chosen >> 16);
+    match chosen >> 4 & 31 {
+        0 => [0, p, t, k],
+        1 => [241 + at % 20, p, t, k],
+        2 => [n, 7, t, k],
+        3 => [n, p, 7, k],
+        4 => [n, p, t, at % 2 * 7],
+        5..=7 => {
+            // A level is missing in one of the columns, used or not.
+            levels[240 * (at % 12) + at / 12 % n.max(1)] = 0;
+            [n, p, t, k]
+        }
+        _ => [n, p, t, k],
     }
 }
 
