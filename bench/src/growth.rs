@@ -16,6 +16,14 @@ struct Point {
     spent: [f64; 2],
 }
 
+/// Sheets of rising size.
+pub struct Series {
+    title: String,
+    /// What the lines of this series are called in the picture.
+    name: String,
+    pub sheets: Vec<(usize, Sheet)>,
+}
+
 /// Three rows crossed with five columns, over and over: filters by row, gains by column.
 fn by_plots(plots: usize) -> Sheet {
     let title = format!("{plots} plots");
@@ -23,24 +31,40 @@ fn by_plots(plots: usize) -> Sheet {
 }
 
 /// Crossed columns on 240 plots as plot columns, treatment columns or both.
-fn by_members(sizes: &[usize], kinds: &str) -> Sheet {
+fn by_members(sizes: &[usize], kinds: &str, name: &str) -> Sheet {
     let named = |kind: char| LETTERS[..sizes.len()].iter().map(move |name| format!("{kind}:{}{name}", kind.to_ascii_uppercase()));
     let headings: Vec<String> = kinds.chars().flat_map(named).collect();
-    sheet("crossed", &headings.join(" "), 240, |u, f| crossed(sizes, u, f % sizes.len()))
+    let title = format!("{} {name}", 1 << sizes.len());
+    sheet(&title, &headings.join(" "), 240, |u, f| crossed(sizes, u, f % sizes.len()))
 }
 
-fn measure(title: &str, sheets: impl Iterator<Item = (usize, Sheet)>, limit: Duration) -> Option<Vec<Point>> {
-    println!("\n{title}\n{:>8}  {:<10}{:>10}{:>10}{:>8}", "", "members", "library", "reference", "ratio");
+/// Plots at one kind of design, then members of the three kinds at 240 plots.
+pub fn series() -> [Series; 4] {
+    let members = |kinds: &str, name: &str| Series {
+        title: format!("{name}: crossed columns on 240 plots"),
+        name: format!(", {name}"),
+        sheets: SIZES.iter().map(|sizes| (1 << sizes.len(), by_members(sizes, kinds, name))).collect(),
+    };
+    let plots = Series {
+        title: "plots: 3 rows crossed with 5 columns, filters by row, gains by column".to_string(),
+        name: String::new(),
+        sheets: [15, 30, 60, 120, 240].into_iter().map(|plots| (plots, by_plots(plots))).collect(),
+    };
+    [plots, members("p", "plot members"), members("t", "treatment members"), members("pt", "plot and treatment members")]
+}
+
+fn measure(series: &Series, limit: Duration) -> Option<Vec<Point>> {
+    println!("\n{}\n{:>8}  {:<10}{:>10}{:>10}{:>8}", series.title, "", "members", "library", "reference", "ratio");
     let mut points = Vec::new();
-    for (size, sheet) in sheets {
-        let memory = Memory::new(&sheet);
+    for (size, sheet) in &series.sheets {
+        let memory = Memory::new(sheet);
         if !timing::same(PAIR, 0, &memory) {
             println!("{size:>8}  THE TWO DIFFER");
             return None;
         }
         let spent = timing::alternate(PAIR, 0, &memory, limit).map(|spent| spent.least);
         println!("{size:>8}  {:<10}{:>10.2}{:>10.2}{:>8.2}", memory.members(), spent[0], spent[1], spent[0] / spent[1]);
-        points.push(Point { size, spent });
+        points.push(Point { size: *size, spent });
     }
     Some(points)
 }
@@ -56,16 +80,13 @@ fn lines(points: &[Point], name: &str) -> Vec<Line> {
 }
 
 fn measured(limit: Duration) -> Option<[Panel; 2]> {
-    let plots = [15, 30, 60, 120, 240].into_iter().map(|plots| (plots, by_plots(plots)));
-    let plots = measure("plots: 3 rows crossed with 5 columns, filters by row, gains by column", plots, limit)?;
-    let mut members = Vec::new();
-    for (kinds, name) in [("p", "plot members"), ("t", "treatment members"), ("pt", "plot and treatment members")] {
-        let sheets = SIZES.iter().map(|sizes| (1 << sizes.len(), by_members(sizes, kinds)));
-        let points = measure(&format!("{name}: crossed columns on 240 plots"), sheets, limit)?;
-        members.extend(lines(&points, &format!(", {name}")));
+    let mut drawn = Vec::new();
+    for series in series() {
+        drawn.push(lines(&measure(&series, limit)?, &series.name));
     }
-    let first = Panel { title: "plots (5 plot members, 4 treatment members)", lines: lines(&plots, "") };
-    Some([first, Panel { title: "members (240 plots)", lines: members }])
+    let members = drawn.split_off(1).concat();
+    let plots = Panel { title: "plots (5 plot members, of 15 plots 4; 4 treatment members)", lines: drawn.concat() };
+    Some([plots, Panel { title: "members (240 plots)", lines: members }])
 }
 
 /// Prints the tables and writes the picture; whether both agreed on every sheet.

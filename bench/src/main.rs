@@ -120,7 +120,8 @@ fn once(name: &str, who: &str, calls: &str, entry: &str) -> io::Result<bool> {
 
 /// Each sheet by each, after a call that is not measured: loading is done by then.
 fn instructions() -> io::Result<bool> {
-    for sheet in sheets::all()? {
+    let growing = growth::series().into_iter().flat_map(|series| series.sheets).map(|(_, sheet)| sheet);
+    for sheet in sheets::all()?.into_iter().chain(growing) {
         let mut memory = Memory::new(&sheet);
         println!("{}\t{}\t{}\t{}", sheet.title, memory.text.len(), memory.plots, memory.members());
         for library in [true, false] {

@@ -3,6 +3,7 @@
 use std::fmt::Write;
 
 /// One line: its points by rising size.
+#[derive(Clone)]
 pub struct Line {
     pub title: String,
     /// Drawn with dashes.
