@@ -33,8 +33,16 @@ struct Run<'a> {
     entries: &'a Entries,
     lent: &'a mut Lent,
     chosen: usize,
-    said: Vec<String>,
+    said: Said,
     left: Vec<Vec<u8>>,
+}
+
+/// The entries that were called, each with its refusal and the numbers answered.
+type Said = Vec<(&'static str, u32, Vec<i64>)>;
+
+/// An answer's numbers as signed ones: what is compared are their bits.
+fn numbers<const N: usize>(answer: [u64; N]) -> Vec<i64> {
+    answer.map(|number| number as i64).to_vec()
 }
 
 impl Run<'_> {
@@ -43,11 +51,11 @@ impl Run<'_> {
         let Lent { text, out, .. } = &mut *self.lent;
         let out = out.bytes(length);
         out.fill(self.chosen as u8);
-        let answer = (self.entries.skeleton)(text.bytes(size), out);
+        let (number, written) = (self.entries.skeleton)(text.bytes(size), out);
         if self.entries.title == LIBRARY.title {
-            oracle::plant(out, answer.1 as usize);
+            oracle::plant(out, written as usize);
         }
-        self.said.push(format!("{answer:?}"));
+        self.said.push(("skeleton", number, numbers([written])));
         self.left.push(out.to_vec());
     }
 
@@ -60,19 +68,30 @@ impl Run<'_> {
         plot.fill(!self.chosen as u8);
         treatment.fill(self.chosen as u8);
         let (number, counts) = (self.entries.read_sheet)(text, levels);
-        self.said.push(format!("read_sheet {number} {counts:?}"));
+        self.said.push(("read_sheet", number, numbers(counts)));
         let [n, p, t, k] = disturbed(counts.map(|count| count as usize), levels, self.chosen);
         if self.chosen % 4 == 2 {
-            self.said.push(format!("plot_design {:?}", (self.entries.plot_design)(levels, n, p, plot)));
+            let (number, answer) = (self.entries.plot_design)(levels, n, p, plot);
+            self.said.push(("plot_design", number, numbers(answer)));
             self.left.push(plot.to_vec());
         }
-        let full = (self.entries.full_design)(levels, n, p, t, k, plot, treatment);
-        self.said.push(format!("full_design {full:?}"));
-        let [a, b] = [full.1[2] as usize, full.1[3] as usize];
-        self.said.push(format!("strata {:?}", (self.entries.strata)(plot, a, treatment, b, n)));
-        self.said.push(format!("relation {:?}", (self.entries.relation)(treatment, n, b)));
-        self.said.push(format!("degrees {:?}", (self.entries.degrees)(plot, n, a)));
-        self.names(size, n, [a, b]);
+        let (number, full) = (self.entries.full_design)(levels, n, p, t, k, plot, treatment);
+        self.said.push(("full_design", number, numbers(full)));
+        let sizes = [full[2] as usize, full[3] as usize];
+        self.families(n, sizes);
+        self.names(size, n, sizes);
+    }
+
+    /// Strata, relation and degrees of freedom of the families that the design left.
+    fn families(&mut self, plots: usize, sizes: [usize; 2]) {
+        let [plot, treatment] = &mut self.lent.families;
+        let (plot, treatment) = (plot.bytes(FAMILY), treatment.bytes(FAMILY + self.chosen % 5));
+        let (number, strata) = (self.entries.strata)(plot, sizes[0], treatment, sizes[1], plots);
+        self.said.push(("strata", number, strata.to_vec()));
+        let (number, relation) = (self.entries.relation)(treatment, plots, sizes[1]);
+        self.said.push(("relation", number, relation.map(i64::from).to_vec()));
+        let (number, degrees) = (self.entries.degrees)(plot, plots, sizes[0]);
+        self.said.push(("degrees", number, degrees.to_vec()));
     }
 
     /// One name of each family; the buffers are what the design left.
@@ -84,9 +103,9 @@ impl Run<'_> {
             let family = family.bytes(FAMILY + if kind == 0 { 0 } else { self.chosen % 5 });
             let place = 1 + self.chosen / 7 % sizes[kind].max(1);
             name.fill(self.chosen as u8);
-            let answer = (self.entries.name)(text, levels, family, plots, sizes[kind], kind as u32, place, name);
-            self.said.push(format!("name {answer:?} {name:?}"));
-            self.left.push(family.to_vec());
+            let (number, answer) = (self.entries.name)(text, levels, family, plots, sizes[kind], kind as u32, place, name);
+            self.said.push(("name", number, numbers(answer)));
+            self.left.extend([name.to_vec(), family.to_vec()]);
         }
         self.left.push(levels.iter().flat_map(|level| level.to_le_bytes()).collect());
     }
@@ -111,7 +130,7 @@ fn disturbed([n, p, t]: [usize; 3], levels: &mut [u16], chosen: usize) -> [usize
 }
 
 /// All that one implementation makes of a text.
-fn outcome(entries: &Entries, lent: &mut Lent, text: &[u8]) -> (Vec<String>, Vec<Vec<u8>>) {
+fn outcome(entries: &Entries, lent: &mut Lent, text: &[u8]) -> (Said, Vec<Vec<u8>>) {
     let chosen = hash(text);
     lent.text.bytes(text.len()).copy_from_slice(text);
     let mut run = Run { entries, lent, chosen, said: Vec::new(), left: Vec::new() };
@@ -120,8 +139,7 @@ fn outcome(entries: &Entries, lent: &mut Lent, text: &[u8]) -> (Vec<String>, Vec
         run.skeleton(text.len(), TABLE - 1 - chosen / 8 % if chosen % 16 == 1 { TABLE } else { 2 });
     }
     run.designs(text.len());
-    let kept = run.lent.text.bytes(text.len()) == text;
-    run.said.push(format!("the text is kept: {kept}"));
+    run.left.push(run.lent.text.bytes(text.len()).to_vec());
     (run.said, run.left)
 }
 
@@ -134,7 +152,9 @@ fn check(text: &[u8]) {
     let [library, reference] = LENT.with_borrow_mut(|[first, second]| [outcome(&LIBRARY, first, text), outcome(&FAST, second, text)]);
     assert_eq!(library.0, reference.0, "DIFFERENCE in an answer, the library's on the left");
     assert!(library.1 == reference.1, "DIFFERENCE in lent memory");
-    oracle::printed(text);
+    if hash(text) % 8 < 2 {
+        oracle::printed(text);
+    }
 }
 
 #[no_mangle]
