@@ -82,10 +82,22 @@ impl Run<'_> {
         self.names(size, n, sizes);
     }
 
-    /// Strata, relation and degrees of freedom of the families that the design left.
-    fn families(&mut self, plots: usize, sizes: [usize; 2]) {
+    /// Strata, relation and degrees of freedom of the families that the design left; in some runs the families are exchanged, a byte
+    /// of one is another, or its size is.
+    fn families(&mut self, plots: usize, mut sizes: [usize; 2]) {
         let [plot, treatment] = &mut self.lent.families;
-        let (plot, treatment) = (plot.bytes(FAMILY), treatment.bytes(FAMILY + self.chosen % 5));
+        let (mut plot, mut treatment) = (plot.bytes(FAMILY), treatment.bytes(FAMILY + self.chosen % 5));
+        let at = self.chosen >> 16;
+        match self.chosen >> 10 & 15 {
+            0 => {
+                std::mem::swap(&mut plot, &mut treatment);
+                sizes.swap(0, 1);
+            }
+            1 => treatment[at % 32 * 240 + at / 32 % 240] ^= 1 << (at % 3),
+            2 => sizes[at % 2] += 1,
+            3 => sizes[at % 2] = at / 2 % 34,
+            _ => (),
+        }
         let (number, strata) = (self.entries.strata)(plot, sizes[0], treatment, sizes[1], plots);
         self.said.push(("strata", number, strata.to_vec()));
         let (number, relation) = (self.entries.relation)(treatment, plots, sizes[1]);
@@ -121,8 +133,10 @@ fn disturbed([n, p, t]: [usize; 3], levels: &mut [u16], chosen: usize) -> [usize
         3 => [n, p, 7, k],
         4 => [n, p, t, at % 2 * 7],
         5..=7 => {
-            // A level is missing in one of the columns, used or not.
-            levels[240 * (at % 12) + at / 12 % n.max(1)] = 0;
+            // A level is missing in one of the columns used, or in the one behind them.
+            let c = at % (p + t + 1);
+            let column = if c < p { c } else { 6 + (c - p) % 6 };
+            levels[240 * column + at / 13 % n.max(1)] = 0;
             [n, p, t, k]
         }
         _ => [n, p, t, k],
