@@ -59,9 +59,12 @@ def print_design(library, text):
 def main():
     if len(sys.argv) != 3:
         sys.exit("usage: library.py LIBRARY SHEET")
-    library = ctypes.CDLL(sys.argv[1])
-    with open(sys.argv[2], "rb") as file:
-        sheet = file.read()
+    try:
+        library = ctypes.CDLL(sys.argv[1])
+        with open(sys.argv[2], "rb") as file:
+            sheet = file.read()
+    except OSError as error:
+        sys.exit(f"library.py: {error}")
     text = (c_uint8 * len(sheet))(*sheet)
     print(table(library, text))
     print_design(library, text)

@@ -32,5 +32,5 @@ pub fn affordable(call: &Call, index: u64) -> bool {
         Entry::Skeleton => call.text.iter().filter(|&&byte| byte == 10).count(),
         _ => 0,
     };
-    plots <= 64 || index.is_multiple_of(4)
+    plots <= 64 || index % 4 == 0
 }

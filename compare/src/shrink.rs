@@ -4,12 +4,20 @@ use crate::common::call::Call;
 use reference::{LEVELS, PLOTS};
 
 /// So many smaller calls are tried at most.
-const TRIES: usize = 3000;
+const TRIES: usize = 5000;
 
 /// One way to make a call smaller.
 enum Step {
     /// Plots from .. of so many, in the level table and in the families.
     Plots(usize, usize),
+    /// All plots that share this plot's level in a column of the level table: a design that is balanced stays so.
+    Class(usize, usize),
+    /// The same in a text: all lines that share a field with this line.
+    Lines(usize, usize),
+    /// Plots in the order of their levels.
+    Sort,
+    /// Levels numbered by first appearance.
+    Renumber,
     /// A column of a kind.
     Column(usize, usize),
     /// A member of a family.
@@ -56,9 +64,14 @@ fn measure(call: &Call) -> usize {
     let counts = [call.plots, call.k, call.place, call.kind as usize, call.columns[0], call.columns[1], call.sizes[0], call.sizes[1]];
     let counts: usize = counts.iter().map(|&count| count.min(1000)).sum();
     let lengths = call.lent[0] + call.lent[1] + call.levels.len() + call.families[0].len() + call.families[1].len();
-    let levels = call.levels.iter().filter(|&&cell| cell != 0).count();
-    let families: usize = call.families.iter().map(|family| family.iter().filter(|&&cell| cell != 0).count()).sum();
-    8 * call.text.len() + 4 * counts + lengths + levels + families
+    let cells = changes(&call.levels) + changes(&call.families[0]) + changes(&call.families[1]);
+    let wide = call.levels.iter().filter(|&&level| level > 240).count();
+    8 * call.text.len() + 4 * counts + lengths + cells + wide
+}
+
+/// How often a cell is another than the one before it: so long is the table as it is written.
+fn changes<T: PartialEq>(cells: &[T]) -> usize {
+    cells.windows(2).filter(|pair| pair[0] != pair[1]).count()
 }
 
 /// Pieces of a whole, the large ones first.
@@ -82,11 +95,14 @@ fn steps(call: &Call) -> Vec<Step> {
     };
     found.extend(pieces(lines.len()).into_iter().map(bytes));
     found.extend((0..12).map(Step::Field));
-    if call.plots <= PLOTS {
-        found.extend(pieces(call.plots).into_iter().map(|(from, count)| Step::Plots(from, count)));
-    }
+    found.extend((0..12 * lines.len().min(PLOTS)).map(|i| Step::Lines(i % 12, i / 12)));
     found.extend((0..12).map(|c| Step::Column(c / 6, c % 6)));
     found.extend((0..64).map(|i| Step::Member(i / 32, i % 32)));
+    if call.plots <= PLOTS {
+        found.extend((0..12 * call.plots).map(|i| Step::Class(i % 12, i / 12)));
+        found.extend(pieces(call.plots).into_iter().map(|(from, count)| Step::Plots(from, count)));
+        found.extend([Step::Renumber, Step::Sort]);
+    }
     found.extend([0, 96, 7_680, 2_880, 32_768].into_iter().flat_map(|length| [Step::Lent(0, length), Step::Lent(1, length)]));
     found.extend([0, 2_880, 7_680].into_iter().flat_map(|length| (0..3).map(move |table| Step::Cut(table, length))));
     for table in 0..3 {
@@ -105,6 +121,10 @@ fn apply(call: &Call, step: &Step) -> Option<Call> {
     let mut smaller = call.clone();
     match *step {
         Step::Plots(from, count) => drop_plots(&mut smaller, from, count)?,
+        Step::Class(c, u) => drop_class(&mut smaller, c, u)?,
+        Step::Lines(field, line) => smaller.text = without_lines(&call.text, field, line)?,
+        Step::Sort => sort(&mut smaller)?,
+        Step::Renumber => smaller.levels.chunks_mut(PLOTS).for_each(renumber),
         Step::Column(kind, c) => drop_column(&mut smaller, kind, c)?,
         Step::Member(which, i) => drop_member(&mut smaller, which, i)?,
         Step::Bytes(from, count) if from + count <= call.text.len() => drop(smaller.text.drain(from..from + count)),
@@ -125,29 +145,82 @@ fn clear<T: Default + Clone>(cells: &mut [T], from: usize, count: usize) {
     cells[from.min(end)..end].fill(T::default());
 }
 
-/// Takes plots out of each row of a table; the rows stay where they are.
-fn shift<T: Copy>(cells: &mut [T], plots: usize, from: usize, count: usize) {
-    for row in cells.chunks_mut(PLOTS).filter(|row| row.len() >= plots) {
-        row.copy_within(from + count..plots, from);
-    }
-}
-
 fn drop_plots(call: &mut Call, from: usize, count: usize) -> Option<()> {
     if call.plots > PLOTS || from + count > call.plots {
         return None;
     }
-    shift(&mut call.levels, call.plots, from, count);
-    call.families.iter_mut().for_each(|family| shift(family, call.plots, from, count));
-    call.plots -= count;
+    let kept: Vec<usize> = (0..call.plots).filter(|&u| u < from || u >= from + count).collect();
+    choose_plots(call, &kept);
     Some(())
+}
+
+/// These plots in this order, in the level table and in both families; the others are dropped.
+fn choose_plots(call: &mut Call, chosen: &[usize]) {
+    fn choose<T: Copy>(cells: &mut [T], plots: usize, chosen: &[usize]) {
+        for row in cells.chunks_mut(PLOTS).filter(|row| row.len() >= plots) {
+            let moved: Vec<T> = chosen.iter().map(|&u| row[u]).collect();
+            row[..moved.len()].copy_from_slice(&moved);
+        }
+    }
+    choose(&mut call.levels, call.plots, chosen);
+    call.families.iter_mut().for_each(|family| choose(family, call.plots, chosen));
+    call.plots = chosen.len();
+}
+
+fn drop_class(call: &mut Call, c: usize, u: usize) -> Option<()> {
+    if call.plots > PLOTS || u >= call.plots || call.levels.len() < PLOTS * (c + 1) {
+        return None;
+    }
+    let column = &call.levels[PLOTS * c..PLOTS * (c + 1)];
+    if column[..u].contains(&column[u]) {
+        return None;
+    }
+    let kept: Vec<usize> = (0..call.plots).filter(|&v| column[v] != column[u]).collect();
+    choose_plots(call, &kept);
+    Some(())
+}
+
+fn sort(call: &mut Call) -> Option<()> {
+    if call.plots > PLOTS || call.levels.len() < LEVELS {
+        return None;
+    }
+    let mut order: Vec<usize> = (0..call.plots).collect();
+    order.sort_by_key(|&u| (0..12).map(|c| call.levels[PLOTS * c + u]).collect::<Vec<u16>>());
+    choose_plots(call, &order);
+    Some(())
+}
+
+/// Numbers by first appearance; 0 stays.
+fn renumber(column: &mut [u16]) {
+    let mut seen: Vec<u16> = vec![0];
+    for cell in column {
+        let found = seen.iter().position(|level| level == cell);
+        if found.is_none() {
+            seen.push(*cell);
+        }
+        *cell = found.unwrap_or(seen.len() - 1) as u16;
+    }
+}
+
+/// The text without the lines that share a field with the one given; the first line stays.
+fn without_lines(text: &[u8], field: usize, line: usize) -> Option<Vec<u8>> {
+    let lines: Vec<&[u8]> = text.split_inclusive(|&byte| byte == 10).collect();
+    let of = |line: &[u8]| line.split(|&byte| byte == 9 || byte == 10).nth(field).map(<[u8]>::to_vec);
+    let wanted = of(lines.get(line)?)?;
+    if line == 0 || lines[1..line].iter().any(|earlier| of(earlier).as_ref() == Some(&wanted)) {
+        return None;
+    }
+    let kept = lines.iter().enumerate().filter(|(i, line)| *i == 0 || of(line).as_ref() != Some(&wanted));
+    Some(kept.flat_map(|(_, line)| line.to_vec()).collect())
 }
 
 fn drop_column(call: &mut Call, kind: usize, c: usize) -> Option<()> {
     if c >= call.columns[kind] || call.levels.len() < LEVELS {
         return None;
     }
-    let start = PLOTS * 6 * kind;
-    call.levels.copy_within(start + PLOTS * (c + 1)..start + PLOTS * 6, start + PLOTS * c);
+    let columns = &mut call.levels[PLOTS * 6 * kind..PLOTS * 6 * (kind + 1)];
+    columns.copy_within(PLOTS * (c + 1).., PLOTS * c);
+    columns[PLOTS * 5..].fill(0);
     call.columns[kind] -= 1;
     Some(())
 }
@@ -158,6 +231,8 @@ fn drop_member(call: &mut Call, which: usize, i: usize) -> Option<()> {
         return None;
     }
     family.copy_within(PLOTS * (i + 1).., PLOTS * i);
+    let end = family.len();
+    family[end - PLOTS..].fill(0);
     call.sizes[which] -= 1;
     Some(())
 }

@@ -392,8 +392,10 @@ fn replace_field(random: &mut Random, text: &mut Vec<u8>, at: usize) {
     let parts = |byte: &u8| *byte == 9 || *byte == 10;
     let start = text[..at].iter().rposition(parts).map_or(0, |found| found + 1);
     let end = text[at..].iter().position(parts).map_or(text.len(), |found| at + found);
-    let fields = ["", "0", "01", "65535", "65536", "99999", "100000", "4294967297", "18446744073709551617", "-1", "p:Hut", "t:Hut", "p:A",
-        "q:Hut", "p:Abcdefghijklm", "t:1a", "p:a_b"];
+    let fields = [
+        "", "0", "01", "65535", "65536", "99999", "100000", "4294967297", "18446744073709551617", "-1", "p:Hut", "t:Hut", "p:A",
+        "q:Hut", "p:Abcdefghijklm", "t:1a", "p:a_b",
+    ];
     text.splice(start..end, random.pick(&fields).bytes());
 }
 
