@@ -1,0 +1,172 @@
+//! Times the proved library beside the reference's fast part: the same sheets, one process, turn by turn.
+
+mod entry;
+mod growth;
+mod picture;
+mod sheets;
+mod timing;
+
+use compare::library::LIBRARY;
+use entry::{Memory, NAMES};
+use reference::{Entries, FAST};
+use sheets::Sheet;
+use std::{env, fs, io, path::Path, process::ExitCode, time::Duration};
+
+const USAGE: &str = "usage: bench [--seconds S] [--only WORD] [--entries]   the table of sheets; with each entry by itself
+       bench [--seconds S] --folder FOLDER            the same of the files of a folder
+       bench [--seconds S] --growth [PICTURE]         how time grows with plots and members
+       bench --once SHEET library|reference [CALLS [ENTRY]]   one entry on one sheet, a title or a file, so many times
+       bench --instructions                           each sheet once by each, for bench/instructions.sh
+       bench --write FOLDER                           the sheets as files";
+
+/// The ratio that no sheet may pass.
+const WORST: f64 = 1.3;
+
+/// The two that are compared, the proved library first.
+pub const PAIR: [&Entries; 2] = [&LIBRARY, &FAST];
+
+/// What the command line asks for.
+struct Wish {
+    limit: Duration,
+    only: String,
+    entries: bool,
+    task: Vec<String>,
+}
+
+/// The command line, or nothing where it has an unknown form.
+fn wish(words: &[String]) -> Option<Wish> {
+    let mut wish = Wish { limit: Duration::from_millis(300), only: String::new(), entries: false, task: Vec::new() };
+    let mut rest = words.iter();
+    while let Some(word) = rest.next() {
+        match word.as_str() {
+            "--seconds" => wish.limit = Duration::try_from_secs_f64(rest.next()?.parse().ok()?).ok()?,
+            "--only" => wish.only = rest.next()?.clone(),
+            "--entries" => wish.entries = true,
+            _ => {
+                wish.task.push(word.clone());
+                wish.task.extend(rest.by_ref().cloned());
+            }
+        }
+    }
+    Some(wish)
+}
+
+/// One line of the table; the ratio of the least times.
+fn line(title: &str, memory: &Memory, entry: usize, limit: Duration) -> f64 {
+    let [library, reference] = timing::alternate(PAIR, entry, memory, limit);
+    let ratio = library.least / reference.least;
+    print!("{title:<38}{:>7}{:>7}  {:<11}", memory.text.len(), memory.plots, memory.members());
+    print!("{:>10.2}{:>10.2}{:>10.2}{:>10.2}", library.least, reference.least, library.median, reference.median);
+    println!("{ratio:>8.2}{}", if ratio > WORST { "  *" } else { "" });
+    ratio
+}
+
+/// The table of one entry over the sheets; whether both agreed everywhere.
+fn table(entry: usize, sheets: &[Sheet], limit: Duration) -> bool {
+    println!("\n{} (microseconds; * is above {WORST})", NAMES[entry]);
+    print!("{:<38}{:>7}{:>7}  {:<11}", "sheet", "bytes", "plots", "members");
+    println!("{:>10}{:>10}{:>10}{:>10}{:>8}", "library", "reference", "median", "median", "ratio");
+    let (mut ratios, mut agreed) = (Vec::new(), true);
+    for sheet in sheets {
+        let memory = Memory::new(sheet);
+        if timing::same(PAIR, entry, &memory) {
+            ratios.push((line(&sheet.title, &memory, entry, limit), &sheet.title));
+        } else {
+            agreed = false;
+            println!("{:<38}  THE TWO DIFFER", sheet.title);
+        }
+    }
+    let logs: f64 = ratios.iter().map(|(ratio, _)| ratio.ln()).sum();
+    let worst = ratios.iter().max_by(|a, b| a.0.total_cmp(&b.0));
+    if let Some((ratio, title)) = worst {
+        let above = ratios.iter().filter(|(ratio, _)| *ratio > WORST).count();
+        let mean = (logs / ratios.len() as f64).exp();
+        println!("{}: geometric mean {mean:.3}, worst {ratio:.2} ({title}), above {WORST}: {above} of {}", NAMES[entry], ratios.len());
+    }
+    agreed
+}
+
+fn tables(wish: &Wish, mut sheets: Vec<Sheet>) -> io::Result<bool> {
+    sheets.retain(|sheet| sheet.title.contains(&wish.only));
+    let entries = if wish.entries { NAMES.len() } else { 1 };
+    let agreed: Vec<bool> = (0..entries).map(|entry| table(entry, &sheets, wish.limit)).collect();
+    Ok(!agreed.contains(&false))
+}
+
+/// What callgrind counts: it is told this name.
+#[no_mangle]
+#[inline(never)]
+extern "C" fn measured_calls(memory: &mut Memory, library: bool, entry: usize, calls: usize) {
+    for _ in 0..calls {
+        memory.call(PAIR[usize::from(!library)], entry, &mut |answer| {
+            std::hint::black_box(answer);
+        });
+    }
+}
+
+/// A sheet by its title or its file.
+fn find(name: &str) -> io::Result<Sheet> {
+    let known = sheets::all()?.into_iter().find(|sheet| sheet.title == name);
+    known.map_or_else(|| sheets::from_file(Path::new(name)), Ok)
+}
+
+fn once(name: &str, who: &str, calls: &str, entry: &str) -> io::Result<bool> {
+    let mut memory = Memory::new(&find(name)?);
+    let calls = calls.parse().map_err(io::Error::other)?;
+    let entry = NAMES.iter().position(|known| *known == entry).ok_or(io::Error::other(USAGE))?;
+    measured_calls(&mut memory, who == "library", entry, calls);
+    Ok(who == "library" || who == "reference")
+}
+
+/// Each sheet by each, after a call that is not measured: loading is done by then.
+fn instructions() -> io::Result<bool> {
+    let growing = growth::series().into_iter().flat_map(|series| series.sheets).map(|(_, sheet)| sheet);
+    for sheet in sheets::all()?.into_iter().chain(growing) {
+        let mut memory = Memory::new(&sheet);
+        println!("{}\t{}\t{}\t{}", sheet.title, memory.text.len(), memory.plots, memory.members());
+        for library in [true, false] {
+            memory.answer(PAIR[usize::from(!library)], 0);
+            measured_calls(&mut memory, library, 0, 1);
+        }
+    }
+    Ok(true)
+}
+
+/// The sheets as files whose names are the titles.
+fn write(folder: &str) -> io::Result<bool> {
+    fs::create_dir_all(folder)?;
+    for sheet in sheets::all()? {
+        let name: String = sheet.title.chars().map(|c| if c.is_ascii_alphanumeric() { c } else { '-' }).collect();
+        fs::write(Path::new(folder).join(name + ".sheet"), &sheet.text)?;
+    }
+    Ok(true)
+}
+
+fn perform(wish: &Wish) -> io::Result<bool> {
+    let words: Vec<&str> = wish.task.iter().map(String::as_str).collect();
+    match words[..] {
+        [] => tables(wish, sheets::all()?),
+        ["--folder", folder] => tables(wish, sheets::folder(Path::new(folder), "")?),
+        ["--growth"] => growth::tables(wish.limit, Path::new(concat!(env!("CARGO_MANIFEST_DIR"), "/../docs/growth.svg"))),
+        ["--growth", picture] => growth::tables(wish.limit, Path::new(picture)),
+        ["--once", name, who] => once(name, who, "1", NAMES[0]),
+        ["--once", name, who, calls] => once(name, who, calls, NAMES[0]),
+        ["--once", name, who, calls, entry] => once(name, who, calls, entry),
+        ["--instructions"] => instructions(),
+        ["--write", folder] => write(folder),
+        _ => Err(io::Error::other(USAGE)),
+    }
+}
+
+fn main() -> ExitCode {
+    let words: Vec<String> = env::args().skip(1).collect();
+    let done = wish(&words).map_or_else(|| Err(io::Error::other(USAGE)), |wish| perform(&wish));
+    match done {
+        Ok(true) => ExitCode::SUCCESS,
+        Ok(false) => ExitCode::FAILURE,
+        Err(error) => {
+            eprintln!("bench: {error}");
+            ExitCode::FAILURE
+        }
+    }
+}

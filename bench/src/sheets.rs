@@ -1,0 +1,163 @@
+//! The sheets that are timed: those of examples/, those of bench/sheets/, and hard shapes that are made here.
+
+use std::{fs, io, path::Path};
+
+/// A sheet and what it is called in the tables.
+pub struct Sheet {
+    pub title: String,
+    pub text: Vec<u8>,
+}
+
+/// Levels of five crossed columns on 240 plots.
+pub const CROSSED: [usize; 5] = [2, 2, 2, 3, 10];
+const FIVE: &str = "p:Aa p:Bb p:Cc p:Dd p:Ee";
+const FIVE_TREATED: &str = "t:Ff t:Gg t:Hh t:Ii t:Jj";
+
+/// A sheet with these headings; the level of field f on plot u is `level(u, f) + 1`.
+pub fn sheet(title: &str, headings: &str, plots: usize, level: impl Fn(usize, usize) -> usize) -> Sheet {
+    let fields = headings.split(' ').count();
+    let mut text = headings.replace(' ', "\t") + "\n";
+    for u in 0..plots {
+        let line: Vec<String> = (0..fields).map(|f| (level(u, f) + 1).to_string()).collect();
+        text += &(line.join("\t") + "\n");
+    }
+    Sheet { title: title.to_string(), text: text.into_bytes() }
+}
+
+/// Level of crossed column f on plot u, where column f has `sizes[f]` levels.
+pub fn crossed(sizes: &[usize], u: usize, f: usize) -> usize {
+    let step: usize = sizes[..f].iter().product();
+    u / step % sizes[f]
+}
+
+/// Every file of a folder whose name ends so, in the order of the names.
+pub fn folder(path: &Path, ending: &str) -> io::Result<Vec<Sheet>> {
+    let entries: Result<Vec<_>, _> = fs::read_dir(path)?.collect();
+    let mut files: Vec<_> = entries?.into_iter().map(|entry| entry.path()).collect();
+    files.retain(|file| file.is_file() && file.to_string_lossy().ends_with(ending));
+    files.sort();
+    files.into_iter().map(|file| from_file(&file)).collect()
+}
+
+/// One sheet file, called by its name.
+pub fn from_file(file: &Path) -> io::Result<Sheet> {
+    let title = file.file_stem().unwrap_or_default().to_string_lossy().into_owned();
+    Ok(Sheet { title, text: fs::read(file)? })
+}
+
+/// The longest sheet that can be accepted: 240 plots, 12 columns, names of 12 letters and levels of five digits.
+fn widest() -> Sheet {
+    let kinds = ["p", "p", "p", "p", "p", "p", "t", "t", "t", "t", "t", "t"];
+    let names: Vec<String> = kinds.iter().enumerate().map(|(i, kind)| format!("{kind}:Longname{:04}", i + 1)).collect();
+    let nested = [60, 20, 10, 5];
+    let treated = [(60, 2), (20, 3), (10, 2), (5, 2), (1, 5)];
+    sheet("widest: 12 columns, 17,460 bytes", &names.join(" "), 240, |u, f| {
+        60_000 + match f {
+            0..=3 => u / nested[f],
+            4 => u % 5,
+            5 => u / 20 * 5 + u % 5,
+            11 => 1 - u / 60 % 2,
+            _ => u / treated[f - 6].0 % treated[f - 6].1,
+        }
+    })
+}
+
+/// Sheets of many members that are accepted.
+fn accepted() -> Vec<Sheet> {
+    let both = format!("{FIVE} {FIVE_TREATED}");
+    let five = |u: usize, f: usize| crossed(&CROSSED, u, f % 5);
+    // The treated columns are the plot columns turned by each other, so that suprema give what no column does.
+    let turned = |u: usize, f: usize| match f {
+        5 => (five(u, 0) + five(u, 1)) % 2,
+        6 => (five(u, 1) + five(u, 2)) % 2,
+        7 => five(u, 2),
+        8 => five(u, 3),
+        _ => five(u, f),
+    };
+    let nested = |u: usize, f: usize| u / [120, 60, 30, 10, 5, 1, 60, 30, 10, 5][f] % if f < 6 { 240 } else { 2 + (f == 8) as usize };
+    let square = |u: usize, f: usize| match f {
+        0 => u / 60,
+        1 => u / 15 % 4,
+        2 => u / 15,
+        3 => (u / 60 + u / 15) % 4,
+        4 => u % 3,
+        _ => u % 15 / 3,
+    };
+    let parity = |u: usize| u.count_ones() as usize % 2;
+    let halves = |u: usize, f: usize| match f {
+        0 => u / 16 % 15,
+        1 => u / 16 * 2 + parity(u % 16),
+        _ => u >> (f - 2) & 1,
+    };
+    vec![
+        widest(),
+        sheet("32 plot members", FIVE, 240, five),
+        sheet("32 treatment members", FIVE_TREATED, 240, five),
+        sheet("32 plot and 32 treatment members", &both, 240, five),
+        sheet("32 plot members, turned treatments", &format!("{FIVE} t:Ff t:Gg t:Hh t:Ii"), 240, turned),
+        sheet("six nested, four treatments", "p:Aa p:Bb p:Cc p:Dd p:Ee p:Ff t:Gg t:Hh t:Ii t:Jj", 240, nested),
+        sheet("squares with parts", "p:Row p:Column p:Cell t:Root t:Soil t:Gain", 240, square),
+        sheet("confounded halves", "p:Block p:Half t:Aa t:Bb t:Cc t:Dd", 240, halves),
+        sheet("240 single plots", "p:Plot t:Treat", 240, |u, f| if f == 0 { u } else { 239 - u }),
+    ]
+}
+
+/// Refused sheets that ask for much work first.
+fn refused() -> Vec<Sheet> {
+    let both = format!("{FIVE} {FIVE_TREATED}");
+    let five = |u: usize, f: usize| crossed(&CROSSED, u, f % 5);
+    let other = |u: usize| match u {
+        8 => 40,
+        40 => 8,
+        _ => u,
+    };
+    let swapped = |u: usize, f: usize| five(if f == 4 { other(u) } else { u }, f);
+    let moved = |u: usize, f: usize| five(if f < 5 { u } else { other(u) }, f);
+    let twice = |u: usize, f: usize| crossed(&[2, 2, 2, 3, 5], u, f);
+    let many = |u: usize, f: usize| match f {
+        0..=4 => five(u, f),
+        5 => (five(u, 0) + five(u, 1)) % 2,
+        _ => u,
+    };
+    let last = |u: usize, f: usize| if (u, f) == (239, 9) { 65_535 } else { 60_000 + five(u, f) };
+    vec![
+        sheet("refused by 4 at the last level", &both, 240, last),
+        sheet("refused by 5, 32,768 bytes", "p:Aab", 16_381, |_, _| 0),
+        sheet("refused by 8, 33 members", FIVE, 240, twice),
+        sheet("refused by 8, 64 members", "p:Aa p:Bb p:Cc p:Dd p:Ee p:Ff", 192, |u, f| crossed(&[2, 2, 2, 2, 2, 6], u, f)),
+        sheet("refused by 11", "t:Aa t:Bb t:Cc t:Dd t:Ee t:Ff", 192, |u, f| crossed(&[2, 2, 2, 2, 2, 6], u, f)),
+        sheet("refused by 12", FIVE_TREATED, 240, swapped),
+        sheet("refused by 13", &both, 240, moved),
+        sheet("refused by 14", &format!("{FIVE} t:Gain t:Plot"), 240, many),
+    ]
+}
+
+/// Plots that hang together in long chains of pairs.
+fn chains() -> Vec<Sheet> {
+    let pairs = |u: usize, f: usize| (u + f) % 240 / 2;
+    // The same ring, its plots listed in another order: 77 and 240 have no common divisor.
+    let mixed = |u: usize, f: usize| pairs(u * 77 % 240, f);
+    let rings = |u: usize, f: usize| match f {
+        0 => u / 2,
+        1 => u / 4 * 2 + u.div_ceil(2) % 2,
+        _ => u / 4,
+    };
+    vec![
+        sheet("ring of pairs, refused by 10", "p:Aa p:Bb", 240, pairs),
+        sheet("mixed ring of pairs, refused by 10", "p:Aa p:Bb", 240, mixed),
+        sheet("ring of pairs, refused by 12", "t:Aa t:Bb", 240, pairs),
+        sheet("mixed ring, refused by 13", "p:Aa t:Bb", 240, mixed),
+        sheet("sixty rings of four", "p:Aa p:Bb t:Cc", 240, rings),
+    ]
+}
+
+/// All sheets, the folders' first.
+pub fn all() -> io::Result<Vec<Sheet>> {
+    let here = Path::new(env!("CARGO_MANIFEST_DIR"));
+    let mut sheets = folder(&here.join("../examples"), ".sheet")?;
+    sheets.extend(folder(&here.join("sheets"), ".sheet")?);
+    sheets.extend(accepted());
+    sheets.extend(refused());
+    sheets.extend(chains());
+    Ok(sheets)
+}

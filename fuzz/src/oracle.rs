@@ -1,0 +1,30 @@
+//! What the reference prints for a sheet, and the fault that can be planted.
+
+use reference::{FAST, LITERAL, TABLE};
+
+/// Longest text that is also given to the literal part, which takes long on large sheets.
+const SMALL: usize = 256;
+
+/// The printed text of a sheet. Both parts of the reference have to agree on small ones.
+pub fn printed(text: &[u8]) -> Vec<u8> {
+    let mut out = vec![0; TABLE];
+    let (_, length) = (FAST.skeleton)(text, &mut out);
+    out.truncate(length as usize);
+    if text.len() <= SMALL {
+        let mut literal = vec![0; TABLE];
+        let (_, length) = (LITERAL.skeleton)(text, &mut literal);
+        assert_eq!(out, literal[..length as usize], "the two parts of the reference differ");
+    }
+    out
+}
+
+/// A fault for trying out the fuzzer: where the printed text has the words of FUZZ_FAULT, one bit of it is turned.
+pub fn plant(out: &mut [u8], length: usize) {
+    let Ok(words) = std::env::var("FUZZ_FAULT") else { return };
+    let words = words.replace("\\t", "\t");
+    let length = length.min(out.len());
+    let found = out[..length].windows(words.len().max(1)).any(|part| part == words.as_bytes());
+    if found {
+        out[length - 1] ^= 1;
+    }
+}
