@@ -1,10 +1,11 @@
-// The closing step: the plot family, closed in memory of its own. (The first treatment family: `first_family` in treatments.rt.)
+// The closing step: the plot family. It grows in memory of its own. (The first treatment family: `first_family` in treatments.rt.)
 ghost use mathlib.Core.Path.{_≡_};
 ghost use mathlib.Core.Bool.{true};
 ghost use Prim.Native.Nat.{_≤_};
 ghost use lib.ListN.{length};
 ghost use Rattle.rules.specs.Family.{columnsFrom};
 ghost use Rattle.rules.specs.Closing.{plotGenerators, plotFamily};
+ghost use Rattle.rules.specs.Design.{question8, plotBuffer};
 ghost use Rattle.design.specs.State.{Closed};
 ghost use Rattle.design.specs.Closings.{closedIn, Ready};
 use crate::closing::PAIRS;
@@ -44,10 +45,11 @@ fn close_plots(
     close(store, counts, meets, joins, start, n, true)
 }
 
-// Closes the plot family and leaves it in its order, with the tables that question 10 is decided by.
+// Closes the plot family and writes it in its order, where it is not too large, with the tables that question 10 is decided by.
 pub fn close_plot_family(levels: &[Level], n: usize, columns: usize, plot: &mut [u8]) -> PlotClosing
     requires { ⌜ (1 ≤ n) × (n ≤ 240) × (columns ≤ 6) × (2880 ≤ length (now levels)) × (7680 ≤ length (now plot)) ⌝ }
     ensures family { λ r. ⌜ closedIn n (now (plot .exit)) (r .size) ≡ plotFamily n (columnsFrom n (now (levels .entry)) 0 columns) ⌝ }
+    ensures buffer { λ _. ⌜ now (plot .exit) ≡ plotBuffer (now (plot .entry)) (question8 n (plotFamily n (columnsFrom n (now (levels .entry)) 0 columns))) ⌝ }
     ensures tables { λ r. ⌜ Ready n (r .size) (now (plot .exit)) (r .order) (r .counts) (r .meets) (r .joins) ⌝ }
 {
     let mut store = [0u8; FAMILY];

@@ -22,9 +22,8 @@ pub fn plot_from_8(levels: &[Level], n: usize, columns: usize, family: &mut [u8]
     ensures answer { λ r. ⌜ plotNumbers r ≡ plotNumbersOf (question8 n (plotFamily n (columnsFrom n (now (levels .entry)) 0 columns))) ⌝ }
     ensures buffer { λ _. ⌜ now (family .exit) ≡ plotBuffer (now (family .entry)) (question8 n (plotFamily n (columnsFrom n (now (levels .entry)) 0 columns))) ⌝ }
 {
-    let mut plot = [0u8; FAMILY];
-    let closing = close_plot_family(levels, n, columns, &mut plot);
-    judge_plots(&plot, closing, n, family)
+    let closing = close_plot_family(levels, n, columns, family);
+    judge_plots(family, closing, n)
 }
 
 // Questions 8 to 14. The treatments are closed only for a plot family that is accepted.
@@ -42,9 +41,8 @@ pub fn full_from_8(
     ensures plots { λ _. ⌜ now («plot_family» .exit) ≡ plotBuffer (now («plot_family» .entry)) (withTreatments n k (columnsFrom n (now (levels .entry)) 6 d) (question8 n (plotFamily n (columnsFrom n (now (levels .entry)) 0 c)))) ⌝ }
     ensures treatments { λ _. ⌜ now («treatment_family» .exit) ≡ treatmentBuffer (now («treatment_family» .entry)) (withTreatments n k (columnsFrom n (now (levels .entry)) 6 d) (question8 n (plotFamily n (columnsFrom n (now (levels .entry)) 0 c)))) ⌝ }
 {
-    let mut plot = [0u8; FAMILY];
-    let closing = close_plot_family(levels, n, c, &mut plot);
-    let answer = judge_plots(&plot, closing, n, plot_family);
+    let closing = close_plot_family(levels, n, c, plot_family);
+    let answer = judge_plots(plot_family, closing, n);
     match answer {
         PlotDesign::Refused(r) => FullDesign::Refused(FullRefusal {
             number: r.number,
@@ -54,7 +52,7 @@ pub fn full_from_8(
             treatment: 0,
         }),
         PlotDesign::Accepted(held) => {
-            full_from_11(levels, n, d, k, &plot, held, treatment_family)
+            full_from_11(levels, n, d, k, plot_family, held, treatment_family)
         }
     }
 }

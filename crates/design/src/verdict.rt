@@ -52,17 +52,15 @@ pub fn full_refused(number: u32) -> FullDesign
     })
 }
 
-// Questions 8 to 10 of a closed plot family, which is written where 8 is passed.
-pub fn judge_plots(plot: &[u8], closing: PlotClosing, n: usize, family: &mut [u8]) -> PlotDesign
-    requires { ⌜ Ready n (closing .size) (now plot) (closing .order) (closing .counts) (closing .meets) (closing .joins) × (7680 ≤ length (now family)) ⌝ }
-    ensures answer { λ r. ⌜ plotNumbers r ≡ plotNumbersOf (question8 n (closedIn n (now (plot .entry)) (closing .size))) ⌝ }
-    ensures buffer { λ _. ⌜ now (family .exit) ≡ plotBuffer (now (family .entry)) (question8 n (closedIn n (now (plot .entry)) (closing .size))) ⌝ }
+// Questions 8 to 10 of a closed plot family.
+pub fn judge_plots(plot: &[u8], closing: PlotClosing, n: usize) -> PlotDesign
+    requires { ⌜ Ready n (closing .size) (now plot) (closing .order) (closing .counts) (closing .meets) (closing .joins) ⌝ }
+    ensures { λ r. ⌜ plotNumbers r ≡ plotNumbersOf (question8 n (closedIn n (now (plot .entry)) (closing .size))) ⌝ }
 {
     let size = closing.size;
     if size == TOO_MANY {
         return refused(8);
     }
-    copy_family(plot, n, size, family);
     let order = closing.order;
     let counts = closing.counts;
     let meets = closing.meets;

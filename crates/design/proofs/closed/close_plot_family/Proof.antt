@@ -1,16 +1,17 @@
 -- `closed::close_plot_family` meets its contract: the plot family is closed, put in order and written, or it is too large.
 -- Assumes nothing.
 use mathlib.Core.Path.{sym, ap, _∙_}
-use mathlib.Core.List.{List}
+use mathlib.Core.List.{List, []}
 use Prim.Native.Nat.{ℕ}
 use native.Mathlib.Omega.{arith}
 use denote.Ref.{now}
 use borrow.Author.Needs.{needs}
 use Rattle.rules.specs.Factor.{Column}
-use Rattle.rules.specs.Family.{columnsFrom, membersOf}
-use Rattle.rules.specs.Closing.{family}
+use Rattle.rules.specs.Family.{Family, columnsFrom, membersOf, insertAll, written}
+use Rattle.rules.specs.Closing.{family, plotFamily}
+use Rattle.rules.specs.Design.{plotBuffer}
 use Rattle.rules.proofs.Demand3.{column-length}
-use Rattle.design.proofs.Answered.{held-over, held-on, closed-over, closed-work, closed-family}
+use Rattle.design.proofs.Answered.{eight-over, eight-buffer, held-over, held-on, closed-over, closed-work, closed-family}
 use Rattle.design.proofs.Judge.{PutInOrder, put-in-order, judging-as}
 use Rattle.design.proofs.closed.close_plot_family.Statement.{statement}
 use Rattle.design.proofs.closed.close_plot_family.Tie as tie
@@ -22,13 +23,18 @@ close-plots-requires : tie.Need-close-plots-requires
 close-plots-requires c κs = search needs
 
 returns : tie.Need-returns
+unfolding written
 returns c =
     let p = c .before .before in
     let s = p .before .before .before .before .before .before .before in
     let n = s .args .n in
-    let Fs : List Column = columnsFrom n (now (s .args .levels)) 0 (s .args .columns) in (
-      held-over n (now (s .args .plot)) (p .close-plots .result) (c .if1 .taken) ∙ sym (closed-over n Fs (p .close-plots .ensures) (c .if1 .taken)),
-      record { most = s .pre .1; room = s .pre .4; judging = λ ne. absurd (ne (c .if1 .taken)) },
+    let Fs : List Column = columnsFrom n (now (s .args .levels)) 0 (s .args .columns) in
+    let over = closed-over n Fs (p .close-plots .ensures) (c .if1 .taken) in (
+      held-over n (now (s .args .plot)) (p .close-plots .result) (c .if1 .taken) ∙ sym over,
+      (
+        ap (plotBuffer (now (s .args .plot))) (sym (eight-over n (plotFamily n Fs) over)),
+        record { most = s .pre .1; room = s .pre .4; judging = λ ne. absurd (ne (c .if1 .taken)) },
+      ),
     )
 
 slice-aggregate-sort : tie.Need-slice-aggregate-sort
@@ -88,9 +94,14 @@ returns-2 c =
     let n = s .args .n in
     let size = p .close-plots .result in
     let same = v .write .ensures ∙ o .same in
+    let Fs : List Column = columnsFrom n (now (s .args .levels)) 0 (s .args .columns) in
+    let S : Family = insertAll (membersOf n (p .close-plots .last .1 .1 .1 .0) size) [] in
     let j = judging-as same (o .judging) in (
       held-on n (v .write .last .1 .1 .1 .1 .0) size (e .if1 .left) ∙ ap family (ap (λ (f : List ℕ). membersOf n f size) same ∙ o .left) ∙ sym (o .is),
-      record { most = j .most; room = j .room; judging = λ ne. j },
+      (
+        same ∙ sym (eight-buffer n (plotFamily n Fs) S (now (s .args .plot)) (o .is)),
+        record { most = j .most; room = j .room; judging = λ ne. j },
+      ),
     )
 
 pub close-plot-family-spec : {M : Type 1} → statement M
