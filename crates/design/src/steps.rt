@@ -1,4 +1,4 @@
-// After questions 6 and 7: a family is closed in memory of its own, then judged; the plot family first, then the treatments.
+// After questions 6 and 7: a family is closed, then judged; the plot family first, then the treatments.
 ghost use mathlib.Core.Path.{_≡_};
 ghost use Prim.Native.Nat.{_≤_};
 ghost use lib.ListN.{length};
