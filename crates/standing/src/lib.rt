@@ -5,6 +5,7 @@ mod join;
 mod labels;
 mod meet;
 mod orders;
+mod pair;
 mod sizes;
 
 pub use join::supremum;
@@ -14,4 +15,8 @@ pub use orders::Standing;
 pub use orders::finer;
 pub use orders::order_of;
 pub use orders::standing_of;
+pub use pair::Bounds;
+pub use pair::Crossing;
+pub use pair::bounds_of;
+pub use pair::crossing_of;
 pub use sizes::uniform;

@@ -65,7 +65,7 @@ pub fn finer(f: &[u8], g: &[u8]) -> bool
 }
 
 // Whether two columns are orthogonal over their common plots.
-fn orthogonal(f: &[u8], g: &[u8]) -> bool
+pub(crate) fn orthogonal(f: &[u8], g: &[u8]) -> bool
     ensures { λ r. ⌜ r ≡ testCommon orthogonal (now (f .entry)) (now (g .entry)) ⌝ }
 {
     let n = common_plots(f.len(), g.len());
