@@ -1,7 +1,8 @@
 // Numbering by first appearance.
 ghost use mathlib.Core.Path.{_≡_};
-ghost use Prim.Native.Nat.{_≤_, _<_};
-ghost use Rattle.rules.specs.Factor.{number, classes};
+ghost use Prim.Native.Nat.{ℕ, _≤_, _<_};
+ghost use lib.ListN.{length};
+ghost use Rattle.rules.specs.Factor.{at, number, classes};
 ghost use Rattle.factor.specs.Lent.{plotsOf, overlay};
 ghost use Rattle.factor.specs.Seen.{bucketOf, lookUp, Descends, Chained, Entered};
 use crate::plots::numbered_plots;
@@ -81,6 +82,52 @@ pub(crate) fn entered(
 
 // Numbers the plots of a column of levels by first appearance; answers the number of classes.
 pub fn number_levels(levels: &[Level], out: &mut [u8; PLOTS]) -> usize
+    ensures answer { λ r. ⌜ r ≡ classes (plotsOf (now (levels .entry))) ⌝ }
+    ensures numbers { λ _. ⌜ now (out .exit) ≡ overlay (now (out .entry)) (number (plotsOf (now (levels .entry)))) ⌝ }
+{
+    let n = numbered_plots(levels.len());
+    if largest(&levels[..n]) < 256 {
+        return number_small(&levels[..n], out);
+    }
+    number_any(levels, out)
+}
+
+// The largest label. The walk goes to the end, so that many plots are compared at a time.
+fn largest(levels: &[Level]) -> Level
+    ensures { λ r. ⌜ ((u : ℕ) → u < length (now (levels .entry)) → at (now (levels .entry)) u ≤ r) ⌝ }
+{
+    let mut most: Level = 0;
+    for u in 0..levels.len() {
+        let x = levels[u];
+        if most < x {
+            most = x;
+        }
+    }
+    most
+}
+
+// `number_levels` where every label is below 256: a table has the number of each label.
+fn number_small(levels: &[Level], out: &mut [u8; PLOTS]) -> usize
+    requires { ⌜ (length (now levels) ≤ 240) × ((u : ℕ) → u < length (now levels) → at (now levels) u < 256) ⌝ }
+    ensures answer { λ r. ⌜ r ≡ classes (now (levels .entry)) ⌝ }
+    ensures numbers { λ _. ⌜ now (out .exit) ≡ overlay (now (out .entry)) (number (now (levels .entry))) ⌝ }
+{
+    let room: &mut [u8] = out;
+    let mut numbers = [0u8; 256];
+    let mut k: usize = 0;
+    for u in 0..levels.len() {
+        let x = levels[u] as usize;
+        if numbers[x] == 0 {
+            k += 1;
+            numbers[x] = k as u8;
+        }
+        room[u] = numbers[x];
+    }
+    k
+}
+
+// `number_levels` for any labels, which are chained by buckets.
+fn number_any(levels: &[Level], out: &mut [u8; PLOTS]) -> usize
     ensures answer { λ r. ⌜ r ≡ classes (plotsOf (now (levels .entry))) ⌝ }
     ensures numbers { λ _. ⌜ now (out .exit) ≡ overlay (now (out .entry)) (number (plotsOf (now (levels .entry)))) ⌝ }
 {
