@@ -1,4 +1,4 @@
--- Laws of the tables of cells, and of orthogonality by cells.
+-- Laws of the table of cells, of sizes, and of orthogonality by cells.
 -- Assumes nothing.
 use mathlib.Core.Path.{_≡_, refl, sym, ap, ap₂, _∙_, subst}
 use mathlib.Core.Bool.{Bool, true, false, _&&_, true≢false}
@@ -8,20 +8,19 @@ use native.Mathlib.Nat.{not-suc-le-zero, le-refl, mul-le-mul-left, mul-suc, mul-
 use native.Mathlib.Numerals.{add-one}
 use native.Mathlib.Omega.{arith}
 use lib.Dec.{eqb, ltb}
-use lib.ListN.{length, take, set, replicate, length-set}
+use lib.ListN.{length, take, set, replicate, length-set, length-replicate}
 use lib.Seq.{getD-set-same, getD-set-other, getD-take, length-take-le}
 use borrow.Author.Tests.{eqb-true, eqb-false, eq-eqb, ne-eqb, ltb-true, ltb-false, lt-ltb, le-ltb}
 use Rattle.rules.specs.Factor.{Column, at, every, count, classSize, overlap, infimum, supremum, orthogonal}
 use Rattle.rules.proofs.Numbering.{by-cases}
 use Rattle.rules.proofs.Tests.{every-at, every-all, count-yes, count-no, count-same, size-equivalent}
 use Rattle.rules.proofs.Walks.{bool-false, count-le}
-use Rattle.rules.proofs.Sums.{Some, nowhere, somewhere, some}
 use Rattle.rules.proofs.Orthogonality.{same-test, overlap-infimum, orthogonal-test-plots}
 use Rattle.standing.specs.Sizes.{labelled}
-use Rattle.standing.specs.Joining.{Below, Joins, spread}
-use Rattle.standing.specs.Cells.{labelledBoth, Plot, Inside, Tables, Cover, EntrySizes, OneClass, evenCells}
+use Rattle.standing.specs.Joining.{Below, OneClass, Joins, spread}
+use Rattle.standing.specs.Cells.{labelledBoth, Inside, CellSizes, LabelSizes, EntrySizes, Stands, evenCells}
 use Rattle.factor.proofs.Table.{getD-zeros}
-use Rattle.standing.proofs.Joining.{Listed, joins-supremum, spread-at}
+use Rattle.standing.proofs.Joining.{joins-supremum, spread-at}
 
 -- ---- the cell of two labels
 
@@ -45,39 +44,26 @@ cell-unique w x y a b hy hb e =
 
 -- ---- counting
 
-and-both : (a b : Bool) → a && b ≡ true → (a ≡ true) × (b ≡ true)
+pub and-both : (a b : Bool) → a && b ≡ true → (a ≡ true) × (b ≡ true)
 and-both true b e = (refl, e)
 and-both false b e = absurd (true≢false (sym e))
 
-both-and : (a b : Bool) → a ≡ true → b ≡ true → a && b ≡ true
+pub both-and : (a b : Bool) → a ≡ true → b ≡ true → a && b ≡ true
 both-and true b d e = e
 both-and false b d e = d
-
--- one plot more in a table of sizes
-pub labelled-step : (N : ℕ) (F : Column) (u : ℕ) (t : List ℕ) → length t ≡ N → at F u < N → ((x : ℕ) → x < N → at t x ≡ labelled u F x)
-    → (x : ℕ) → x < N → at (set t (at F u) (at t (at F u) + 1)) x ≡ labelled (u + 1) F x
-unfolding labelled
-labelled-step N F u t l h counts x hx =
-    by-cases (eqb x (at F u))
-    (λ e. let q : x ≡ at F u = eqb-true x (at F u) e in
-    ap (at (set t (at F u) (at t (at F u) + 1))) q ∙ getD-set-same t (at F u) (at t (at F u) + 1) 0 (omega arith)
-    ∙ ap (λ (k : ℕ). k + 1) (counts (at F u) h ∙ ap (labelled u F) (sym q)) ∙ add-one (labelled u F x)
-    ∙ sym (ap (λ (k : ℕ). labelled k F x) (add-one u) ∙ count-yes u (λ v. eqb x (at F v)) e))
-    (λ e. getD-set-other t (at F u) x (at t (at F u) + 1) 0 (eqb-false x (at F u) e) ∙ counts x hx
-    ∙ sym (ap (λ (k : ℕ). labelled k F x) (add-one u) ∙ count-no u (λ v. eqb x (at F v)) e))
 
 -- no more plots than there are
 pub cell-le : (u : ℕ) (F G : Column) (x y : ℕ) → labelledBoth u F G x y ≤ u
 unfolding labelledBoth
 cell-le u F G x y = count-le u _
 
-module _ (w u : ℕ) (F G : Column) (cells : List ℕ) (long : length cells ≡ 2048) (below : at G u < w) (h : w * at F u + at G u < 2048) where
+module _ (n w u : ℕ) (F G : Column) (cells : List ℕ) (long : length cells ≡ n) (below : at G u < w) (h : w * at F u + at G u < n) where
   abbrev here : ℕ
   here = w * at F u + at G u
 
   -- one plot more in the table of cells
-  cell-step : ((x y : ℕ) → y < w → w * x + y < 2048 → at cells (w * x + y) ≡ labelledBoth u F G x y)
-      → (x y : ℕ) → y < w → w * x + y < 2048 → at (set cells here (at cells here + 1)) (w * x + y) ≡ labelledBoth (u + 1) F G x y
+  cell-step : ((x y : ℕ) → y < w → w * x + y < n → at cells (w * x + y) ≡ labelledBoth u F G x y)
+      → (x y : ℕ) → y < w → w * x + y < n → at (set cells here (at cells here + 1)) (w * x + y) ≡ labelledBoth (u + 1) F G x y
   unfolding labelledBoth
   cell-step counts x y hy hx =
       by-cases (eqb (w * x + y) here)
@@ -90,125 +76,17 @@ module _ (w u : ℕ) (F G : Column) (cells : List ℕ) (long : length cells ≡ 
       ∙ sym (ap (λ (k : ℕ). labelledBoth k F G x y) (add-one u) ∙ count-no u (λ v. eqb x (at F v) && eqb y (at G v))
       (bool-false _ (λ s. let b = and-both (eqb x (at F u)) (eqb y (at G u)) s in eqb-false (w * x + y) here e (ap₂ (λ (i j : ℕ). w * i + j) (eqb-true x (at F u) (b .0)) (eqb-true y (at G u) (b .1)))))))
 
-  -- in all three tables
-  pub tables-step : (inF inG : List ℕ) → Tables w u F G cells inF inG → at F u < 256 → at G u < 256
-      → Tables w (u + 1) F G (set cells here (at cells here + 1)) (set inF (at F u) (at inF (at F u) + 1)) (set inG (at G u) (at inG (at G u) + 1))
-  tables-step inF inG t bf bg = record {
-    cells-room = length-set cells here (at cells here + 1) ∙ long;
-    f-room = length-set inF (at F u) (at inF (at F u) + 1) ∙ t .f-room;
-    g-room = length-set inG (at G u) (at inG (at G u) + 1) ∙ t .g-room;
-    cell = cell-step (t .cell);
-    size-f = labelled-step 256 F u inF (t .f-room) bf (t .size-f);
-    size-g = labelled-step 256 G u inG (t .g-room) bg (t .size-g);
-  }
+  pub cells-step : CellSizes n w u F G cells → CellSizes n w (u + 1) F G (set cells here (at cells here + 1))
+  cells-step t = record { cells-room = length-set cells here (at cells here + 1) ∙ long; cell = cell-step (t .cell) }
 
 -- no plot yet
-pub tables-none : (w : ℕ) (F G : Column) → Tables w 0 F G (replicate 2048 0) (replicate 256 0) (replicate 256 0)
-unfolding labelledBoth labelled count
-tables-none w F G = record {
-  cells-room = refl;
-  f-room = refl;
-  g-room = refl;
-  cell = λ x y hy hx. getD-zeros 2048 (w * x + y);
-  size-f = λ x h. getD-zeros 256 x;
-  size-g = λ x h. getD-zeros 256 x;
-}
-
-pub cover-none : (F G : Column) → Cover 0 F G (replicate 240 0) (replicate 240 0) 0
-cover-none F G = record {
-  x-room = refl;
-  y-room = refl;
-  few = omega arith;
-  plot = λ i h. absurd (not-suc-le-zero h);
-  place = λ p h. absurd (not-suc-le-zero h);
-}
-
--- ---- listing the cells
-
-module _ (u : ℕ) (F G X Y : Column) (m : ℕ) (cover : Cover u F G X Y m) where
-  later : {x y : ℕ} → Plot u F G x y → Plot (u + 1) F G x y
-  later p = record { plot = p .plot; less = omega (arith, p .less); first = p .first; second = p .second }
-
-  last-or-before : (p k : ℕ) → p < k + 1 → (p ≡ k → ⊥) → p < k
-  last-or-before p k h ne = omega (arith, ne)
-
-  -- the labels of plot u are put at the end
-  pub cover-new : m < 240 → Cover (u + 1) F G (set X m (at F u)) (set Y m (at G u)) (m + 1)
-  cover-new h = record {
-    x-room = length-set X m (at F u) ∙ cover .x-room;
-    y-room = length-set Y m (at G u) ∙ cover .y-room;
-    few = omega (arith, cover .few);
-    plot = λ i hi. by-cases (eqb i m)
-        (λ e. let q : i ≡ m = eqb-true i m e in
-        record { plot = u; less = omega arith; first = sym (ap (at (set X m (at F u))) q ∙ same-x); second = sym (ap (at (set Y m (at G u))) q ∙ same-y) })
-        (λ e. let ne : i ≡ m → ⊥ = eqb-false i m e in
-        let p = cover .plot i (last-or-before i m hi ne) in
-        record { plot = p .plot; less = omega (arith, p .less); first = p .first ∙ sym (getD-set-other X m i (at F u) 0 ne); second = p .second ∙ sym (getD-set-other Y m i (at G u) 0 ne) });
-    place = λ p hp. by-cases (eqb p u)
-        (λ e. let q : p ≡ u = eqb-true p u e in
-        record { plot = m; less = omega arith; first = same-x ∙ ap (at F) (sym q); second = same-y ∙ ap (at G) (sym q) })
-        (λ e. let k = cover .place p (last-or-before p u hp (eqb-false p u e)) in
-        let ne : k .plot ≡ m → ⊥ = λ z. omega (arith, k .less) in
-        record { plot = k .plot; less = omega (arith, k .less); first = getD-set-other X m (k .plot) (at F u) 0 ne ∙ k .first; second = getD-set-other Y m (k .plot) (at G u) 0 ne ∙ k .second });
-  }
-    where
-      same-x : at (set X m (at F u)) m ≡ at F u
-      same-x = getD-set-same X m (at F u) 0 (omega (arith, cover .x-room))
-
-      same-y : at (set Y m (at G u)) m ≡ at G u
-      same-y = getD-set-same Y m (at G u) 0 (omega (arith, cover .y-room))
-
-  -- its cell has a plot, so its labels stand there
-  pub cover-old : (labelledBoth u F G (at F u) (at G u) ≡ 0 → ⊥) → Cover (u + 1) F G X Y m
-  unfolding labelledBoth
-  cover-old ne = record {
-    x-room = cover .x-room;
-    y-room = cover .y-room;
-    few = omega (arith, cover .few);
-    plot = λ i hi. later (cover .plot i hi);
-    place = λ p hp. by-cases (eqb p u)
-        (λ e. let q : p ≡ u = eqb-true p u e in let s = sym q in
-        record { plot = old .plot; less = old .less; first = old .first ∙ ap (at F) s; second = old .second ∙ ap (at G) s })
-        (λ e. cover .place p (last-or-before p u hp (eqb-false p u e)));
-  }
-    where
-      old : Plot m X Y (at F u) (at G u)
-      old = go (some u (λ v. eqb (at F u) (at F v) && eqb (at G u) (at G v)))
-        where
-          go : Some u (λ v. eqb (at F u) (at F v) && eqb (at G u) (at G v)) → Plot m X Y (at F u) (at G u)
-          go (nowhere z) = absurd (ne z)
-          go (somewhere v hv e) =
-              let b = and-both (eqb (at F u) (at F v)) (eqb (at G u) (at G v)) e in
-              let k = cover .place v hv in
-              record { plot = k .plot; less = k .less; first = k .first ∙ sym (eqb-true (at F u) (at F v) (b .0)); second = k .second ∙ sym (eqb-true (at G u) (at G v) (b .1)) }
-
--- the listed labels, cut off after the last
-pub cover-listed : (F G X Y : Column) (m : ℕ) → Cover (length F) F G X Y m → length F ≤ 240 → Listed F G (take m X) (take m Y)
-cover-listed F G X Y m cover h = record {
-  plot = λ i hi. let k : i < m = rw long at hi in
-      let p = cover .plot i k in
-      record { plot = p .plot; less = p .less; first = p .first ∙ sym (getD-take m X i 0 k); second = p .second ∙ sym (getD-take m Y i 0 k) };
-  place = λ u hu. let p = cover .place u hu in
-      record { plot = p .plot; less = rw long (p .less); first = getD-take m X (p .plot) 0 (p .less) ∙ p .first; second = getD-take m Y (p .plot) 0 (p .less) ∙ p .second };
-}
-  where
-    long : length (take m X) ≡ m
-    long = length-take-le m X (omega (arith, cover .x-room, cover .few))
-
-module _ (F G X Y : Column) (listed : Listed F G X Y) where
-  -- they are in the same ranges
-  pub listed-below : (top : ℕ) → Below top F → Below top X
-  listed-below top below i hi = let p = listed .plot i hi in subst (λ (x : ℕ). x < top) (p .first) (below (p .plot) (p .less))
-
-  pub listed-inside : (w : ℕ) → Inside w F G → Inside w X Y
-  listed-inside w inside i hi =
-      let p = listed .plot i hi in
-      let k = inside (p .plot) (p .less) in
-      (subst (λ (y : ℕ). y < w) (p .second) (k .0), rw (← p .first, ← p .second) (k .1))
+pub cells-none : (n w : ℕ) (F G : Column) (cells : List ℕ) → length cells ≡ n → cells ≡ replicate n 0 → CellSizes n w 0 F G cells
+unfolding labelledBoth count
+cells-none n w F G cells l e = record { cells-room = l; cell = λ x y hy hx. ap (λ (t : List ℕ). at t (w * x + y)) e ∙ getD-zeros n (w * x + y) }
 
 -- cells of labels below a and w
-pub inside-below : (a w : ℕ) (F G : Column) → length G ≡ length F → Below a F → Below w G → a * w ≤ 2048 → Inside w F G
-inside-below a w F G l bf bg h u hu =
+pub inside-below : (a w n : ℕ) (F G : Column) → length G ≡ length F → Below a F → Below w G → a * w ≤ n → Inside w n F G
+inside-below a w n F G l bf bg h u hu =
     let hg : at G u < w = bg u (rw l hu) in
     (hg, omega (arith, cell-below w a (at F u) (at G u) (bf u hu) hg, mul-comm a w))
 
@@ -316,8 +194,8 @@ module _ (t : List ℕ) (F : Column) where
 
 -- ---- orthogonality by cells
 
-module _ (w : ℕ) (F G : Column) (l : length G ≡ length F) (inside : Inside w F G) (bytesF : Below 256 F) (bytesG : Below 256 G)
-    (cells inF inG : List ℕ) (tables : Tables w (length F) F G cells inF inG) (X Y : Column) (listed : Listed F G X Y)
+module _ (n w : ℕ) (F G : Column) (l : length G ≡ length F) (inside : Inside w n F G) (bytesF : Below 256 F) (bytesG : Below 256 G)
+    (cells : List ℕ) (counted : CellSizes n w (length F) F G cells) (inF inG : List ℕ) (sizesF : LabelSizes F inF) (sizesG : LabelSizes G inG) (X Y : Column) (listed : Stands F G X Y)
     (t inK : List ℕ) (joins : Joins X Y t) (sizes : EntrySizes t F inK) where
   abbrev evenAt : ℕ → Bool
   evenAt i = eqb (at cells (w * at X i + at Y i) * at inK (at t (at X i))) (at inF (at X i) * at inG (at Y i))
@@ -332,9 +210,9 @@ module _ (w : ℕ) (F G : Column) (l : length G ≡ length F) (inside : Inside w
       ap₂ (λ (x y : ℕ). eqb (at cells (w * x + y) * at inK (at t x)) (at inF x * at inG y)) (sym ex) (sym ey)
       ∙ ap₂ eqb
       (ap₂ _*_
-      (tables .cell (at F u) (at G u) (inside u hu .0) (inside u hu .1) ∙ overlap-infimum (length F) F G refl l u hu)
+      (counted .cell (at F u) (at G u) (inside u hu .0) (inside u hu .1) ∙ overlap-infimum (length F) F G refl l u hu)
       (sizes u hu ∙ size-equivalent (joins-supremum F G l X Y t listed joins) u hu))
-      (ap₂ _*_ (tables .size-f (at F u) (bytesF u hu)) (tables .size-g (at G u) (bytesG u (rw l hu))))
+      (ap₂ _*_ (sizesF (at F u) (bytesF u hu)) (sizesG (at G u) (bytesG u (rw l hu)) ∙ ap (λ (k : ℕ). labelled k G (at G u)) l))
 
   pub cells-orthogonal : evenCells w cells t inK inF inG X Y ≡ orthogonal (length F) F G
   unfolding evenCells

@@ -5,7 +5,9 @@ use mathlib.Core.Bool.{Bool}
 use Prim.Native.Nat.{ℕ, _≤_}
 use native.Mathlib.Omega.{arith}
 use lib.ListN.{length}
-use Rattle.rules.specs.Factor.{Column, finer}
+use Rattle.rules.specs.Factor.{Column, finer, orthogonal}
+use Rattle.rules.proofs.Tests.{orthogonal-test, orthogonal-sym}
+use Rattle.rules.proofs.Orthogonality.{same-test}
 use Rattle.factor.specs.Lent.{common, onCommon}
 use Rattle.factor.proofs.Lent.{common-all}
 use Rattle.standing.specs.Standing.{testCommon}
@@ -18,3 +20,10 @@ test-all test n F G lF lG h =
 
 pub finer-common : (n : ℕ) (F G : Column) → n ≤ 240 → length F ≡ n → length G ≡ n → testCommon finer F G ≡ finer n F G
 finer-common n F G h lF lG = test-all finer n F G lF lG h
+
+-- orthogonality is the same for the columns exchanged
+pub orthogonal-flip : (n : ℕ) (F G : Column) → length F ≡ n → length G ≡ n → orthogonal n F G ≡ orthogonal n G F
+orthogonal-flip n F G lF lG =
+    same-test (orthogonal n F G) (orthogonal n G F)
+    (λ e. orthogonal-test n G F .1 (orthogonal-sym n F G lF lG (orthogonal-test n F G .0 e)))
+    (λ e. orthogonal-test n F G .1 (orthogonal-sym n G F lG lF (orthogonal-test n G F .0 e)))

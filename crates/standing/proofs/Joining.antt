@@ -17,11 +17,11 @@ use Rattle.rules.proofs.Supremum.{length-relabel, number-supremum}
 use Rattle.rules.proofs.Bounds.{length-supremum′, numbered-equal, supremum-left, supremum-right, supremum-least}
 use Rattle.rules.proofs.Columns.{classes-equivalent, Earlier}
 use Rattle.rules.proofs.Extremes.{number-universal, length-universal}
-use Rattle.rules.proofs.ClassCount.{finer-universal}
+use Rattle.rules.proofs.ClassCount.{finer-universal, classes-universal}
 use Rattle.factor.proofs.Fill.{filled, length-filled, getD-filled}
 use Rattle.factor.proofs.Table.{getD-zeros}
-use Rattle.standing.specs.Cells.{Plot}
-use Rattle.standing.specs.Joining.{Below, Own, OneEntry, Links, Joins, relabelled, spread}
+use Rattle.standing.specs.Cells.{Plot, Stands}
+use Rattle.standing.specs.Joining.{Below, Own, OneEntry, OneClass, Links, Joins, relabelled, spread}
 
 -- what holds of all before u and of u holds of all before u + 1
 pub one-more : (P : ℕ → Type 0) (u : ℕ) → ((v : ℕ) → v < u → P v) → P u → (v : ℕ) → v < u + 1 → P v
@@ -268,14 +268,9 @@ module _ (F G : Column) (l : length G ≡ length F) where
 
 -- ---- the classes that the entries make
 
--- the labels X and Y are those of plots of F and G, and each plot has its labels there
-pub record Listed (F G X Y : Column) : Type 0 where
-  pub plot : (i : ℕ) → i < length X → Plot (length F) F G (at X i) (at Y i)
-  pub place : (u : ℕ) → u < length F → Plot (length X) X Y (at F u) (at G u)
-
--- every column lists itself
-pub listed-self : (F G : Column) → Listed F G F G
-listed-self F G = record { plot = λ i h. record { plot = i; less = h; first = refl; second = refl }; place = λ i h. record { plot = i; less = h; first = refl; second = refl } }
+-- the labels of all plots
+pub stands-self : (F G : Column) → Stands F G F G
+stands-self F G = record { plot = λ i h. record { plot = i; less = h; first = refl; second = refl }; place = λ i h. record { plot = i; less = h; first = refl; second = refl } }
 
 module _ (F G : Column) (l : length G ≡ length F) where
   -- the class of the supremum of the first plot with the label x
@@ -289,7 +284,7 @@ module _ (F G : Column) (l : length G ≡ length F) where
       let k = has-getD eqb eqb-true eqb-self F u 0 h in
       supremum-left (length F) F G refl l (indexOf eqb F (at F u)) u k h (getD-place eqb eqb-true eqb-self F (at F u) 0 k)
 
-  module _ (X Y t : List ℕ) (listed : Listed F G X Y) (joins : Joins X Y t) where
+  module _ (X Y t : List ℕ) (listed : Stands F G X Y) (joins : Joins X Y t) where
     class-links : Links X Y class-of
     class-links i j hi hj e =
         let p = listed .plot i hi in
@@ -317,16 +312,6 @@ module _ (F G : Column) (l : length G ≡ length F) where
     pub one-entry : (u v : ℕ) → u < length F → v < length F → Same (spread t F) u v
     one-entry u v hu hv = spread-at t F u hu ∙ one (at F u) (at F v) (below u hu) (below v hv) ∙ sym (spread-at t F v hv)
 
-    -- the supremum has one class
-    pub one-universal : Equivalent (length F) (spread t F) (supremum F G) → supremum F G ≡ universal (length F)
-    one-universal e =
-        sym (number-supremum F G (sym l))
-        ∙ numbered-equal (length F) (supremum F G) (universal (length F)) (length-supremum′ (length F) F G refl l) (length-universal (length F)) record {
-          to = finer-universal (length F) (supremum F G);
-          from = λ u v hu hv s. e .to u v hu hv (one-entry u v hu hv);
-        }
-        ∙ number-universal (length F)
-
   -- ---- the numbers of the entries
 
   module _ (t : List ℕ) (e : Equivalent (length F) (spread t F) (supremum F G)) where
@@ -339,3 +324,16 @@ module _ (F G : Column) (l : length G ≡ length F) where
     -- they have its number of classes
     pub classes-spread : classes (spread t F) ≡ classes (supremum F G)
     classes-spread = classes-equivalent (spread t F) (supremum F G) (length-spread t F ∙ sym (length-supremum′ (length F) F G refl l)) (rw length-spread e)
+
+-- one entry of all plots makes one class
+module _ (t : List ℕ) (F : Column) (one : OneClass t F) where
+  equivalent-one : Equivalent (length F) (spread t F) (universal (length F))
+  equivalent-one = record { to = finer-universal (length F) (spread t F); from = λ u v hu hv s. one u v hu hv }
+
+  pub number-one : number (spread t F) ≡ universal (length F)
+  number-one = numbered-equal (length F) (spread t F) (universal (length F)) (length-spread t F) (length-universal (length F)) equivalent-one ∙ number-universal (length F)
+
+  pub classes-one : 0 < length F → classes (spread t F) ≡ 1
+  classes-one h =
+      classes-equivalent (spread t F) (universal (length F)) (length-spread t F ∙ sym (length-universal (length F))) (rw length-spread equivalent-one)
+      ∙ classes-universal (length F) h

@@ -2,5 +2,6 @@ pub mod Codes
 pub mod Joining
 pub mod SizeTable
 pub mod CellTable
+pub mod Listing
 pub mod Nesting
 pub mod Common

@@ -70,10 +70,15 @@ pub sizes-at : (F : Column) {t : List ℕ} → t ≡ sizes F → (u : ℕ) → a
 unfolding sizes labelled classSize
 sizes-at F e u h = ap (λ (l : List ℕ). getD l (at F u) 0) e ∙ getD-tabulate (labelled (length F) F) 256 (at F u) h
 
+-- how many plots have each label
+pub label-sizes : (F : Column) {t : List ℕ} → t ≡ sizes F → (x : ℕ) → x < 256 → at t x ≡ labelled (length F) F x
+unfolding sizes
+label-sizes F e x h = ap (λ (l : List ℕ). at l x) e ∙ getD-tabulate (labelled (length F) F) 256 x h
+
 -- ---- one size
 
 -- a test that some plot passes has a count
-count-some : (n : ℕ) (p : ℕ → Bool) (u : ℕ) → u < n → p u ≡ true → count n p ≡ 0 → ⊥
+pub count-some : (n : ℕ) (p : ℕ → Bool) (u : ℕ) → u < n → p u ≡ true → count n p ≡ 0 → ⊥
 count-some zero p u h e z = not-suc-le-zero h
 count-some (suc n) p u h e z =
     by-cases (p n)

@@ -2,11 +2,11 @@
 -- Assumes nothing.
 use mathlib.Core.Path.{_≡_}
 use mathlib.Core.Bool.{Bool, _&&_}
-use mathlib.Core.List.{List}
+use mathlib.Core.List.{List, []}
 use Prim.Native.Nat.{ℕ, _+_, _*_, _≤_, _<_}
 use lib.Dec.{eqb}
-use lib.ListN.{length}
-use Rattle.rules.specs.Factor.{Column, at, Same, every, count, classSize}
+use lib.ListN.{length, take}
+use Rattle.rules.specs.Factor.{Column, at, labels, every, count, classSize}
 use Rattle.standing.specs.Sizes.{labelled}
 use Rattle.standing.specs.Joining.{spread}
 
@@ -22,30 +22,45 @@ pub record Plot (n : ℕ) (F G : Column) (x y : ℕ) : Type 0 where
   pub first : at F plot ≡ x
   pub second : at G plot ≡ y
 
--- labels x and y make cell w × x + y: the G-labels are below w, and all cells are below 2048
-abbrev pub Inside : ℕ → Column → Column → Type 0
-Inside w F G = (u : ℕ) → u < length F → (at G u < w) × (w * at F u + at G u < 2048)
+-- labels x and y make cell w × x + y: the G-labels are below w, and all cells are below n
+abbrev pub Inside : ℕ → ℕ → Column → Column → Type 0
+Inside w n F G = (u : ℕ) → u < length F → (at G u < w) × (w * at F u + at G u < n)
 
--- of the first u plots, how many are in each cell, and how many have each F-label and each G-label
-pub record Tables (w u : ℕ) (F G : Column) (cells inF inG : List ℕ) : Type 0 where
-  pub cells-room : length cells ≡ 2048
-  pub f-room : length inF ≡ 256
-  pub g-room : length inG ≡ 256
-  pub cell : (x y : ℕ) → y < w → w * x + y < 2048 → at cells (w * x + y) ≡ labelledBoth u F G x y
-  pub size-f : (x : ℕ) → x < 256 → at inF x ≡ labelled u F x
-  pub size-g : (x : ℕ) → x < 256 → at inG x ≡ labelled u G x
+-- of the first u plots, how many are in each of n cells
+pub record CellSizes (n w u : ℕ) (F G : Column) (cells : List ℕ) : Type 0 where
+  pub cells-room : length cells ≡ n
+  pub cell : (x y : ℕ) → y < w → w * x + y < n → at cells (w * x + y) ≡ labelledBoth u F G x y
 
--- X and Y have room for 240 labels; the first m are those of some of the first u plots, and each of these plots has its labels there
+-- no two of the first m cells have the same labels
+abbrev pub Once : ℕ → Column → Column → Type 0
+Once m X Y = (i j : ℕ) → i < m → j < m → at X i ≡ at X j → at Y i ≡ at Y j → i ≡ j
+
+-- whatever the entries of the labels, F and X have the same ones, first met in the same order
+abbrev pub InOrder : Column → Column → Type 0
+InOrder F X = (t : List ℕ) → labels eqb [] (spread t F) ≡ labels eqb [] (spread t X)
+
+-- X and Y have room for 240 labels; the first m are those of the cells of the first u plots, once each, by first appearance
 pub record Cover (u : ℕ) (F G X Y : Column) (m : ℕ) : Type 0 where
   pub x-room : length X ≡ 240
   pub y-room : length Y ≡ 240
   pub few : m ≤ u
   pub plot : (i : ℕ) → i < m → Plot u F G (at X i) (at Y i)
   pub place : (p : ℕ) → p < u → Plot m X Y (at F p) (at G p)
+  pub once : Once m X Y
+  pub order : InOrder (take u F) (take m X)
 
--- all plots have one entry
-abbrev pub OneClass : List ℕ → Column → Type 0
-OneClass t F = (u v : ℕ) → u < length F → v < length F → Same (spread t F) u v
+-- the labels X and Y are those of plots of F and G, and each plot has its labels there
+pub record Stands (F G X Y : Column) : Type 0 where
+  pub plot : (i : ℕ) → i < length X → Plot (length F) F G (at X i) (at Y i)
+  pub place : (u : ℕ) → u < length F → Plot (length X) X Y (at F u) (at G u)
+
+-- X and Y are the labels of the cells that have a plot, once each, by first appearance
+pub record Listed (F G X Y : Column) : Type 0 where
+  pub few : length X ≤ length F
+  pub even : length Y ≡ length X
+  pub stands : Stands F G X Y
+  pub once : Once (length X) X Y
+  pub order : InOrder F X
 
 -- t has for each label how many plots have it
 abbrev pub LabelSizes : Column → List ℕ → Type 0

@@ -33,6 +33,10 @@ OneEntry top t = (x y : ℕ) → x < top → y < top → at t x ≡ at t y
 unfoldable pub spread : List ℕ → Column → Column
 spread t F = map (at t) F
 
+-- all plots have one entry
+abbrev pub OneClass : List ℕ → Column → Type 0
+OneClass t F = (u v : ℕ) → u < length F → v < length F → Same (spread t F) u v
+
 -- the values that h gives to labels of F are one where plots share a class of G
 abbrev pub Links : Column → Column → (ℕ → ℕ) → Type 0
 Links F G h = (u v : ℕ) → u < length F → v < length F → Same G u v → h (at F u) ≡ h (at F v)

@@ -1,9 +1,8 @@
 -- Tests of two lent columns, and how two factors stand to each other.
 -- Assumes nothing.
-use mathlib.Core.Bool.{Bool, true, false, _&&_}
-use Prim.Native.Nat.{ℕ, _*_}
-use lib.Dec.{eqb}
-use Rattle.rules.specs.Factor.{Column, every, finer, classSize, orthogonal}
+use mathlib.Core.Bool.{Bool, true, false}
+use Prim.Native.Nat.{ℕ}
+use Rattle.rules.specs.Factor.{Column, finer, orthogonal}
 use Rattle.standing.specs.declared.orders.Order.{Order}
 use Rattle.standing.specs.declared.orders.Order.the-variants as order
 use Rattle.standing.specs.declared.orders.Standing.{Standing}
@@ -13,11 +12,6 @@ use Rattle.factor.specs.Lent.{common, onCommon}
 -- a test of two columns over their common plots
 abbrev pub testCommon : {A : Type 0} → (ℕ → Column → Column → A) → Column → Column → A
 testCommon test F G = onCommon (test (common F G)) F G
-
--- for each plot the sizes of its classes in A and B make the product that those in F and G make
-unfoldable pub balanced : ℕ → Column → Column → Column → Column → Bool
-unfolding every classSize
-balanced n A B F G = every n (λ u. eqb (classSize n A u * classSize n B u) (classSize n F u * classSize n G u))
 
 -- ---- how two factors stand to each other
 

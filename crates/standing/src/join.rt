@@ -5,7 +5,7 @@ ghost use Prim.Native.Nat.{ℕ, _≤_, _<_};
 ghost use lib.ListN.{length};
 ghost use Rattle.rules.specs.Factor.{at, universal, number, classes, supremum};
 ghost use Rattle.factor.specs.Lent.{onCommon, overlay};
-ghost use Rattle.standing.specs.Joining.{Below, OwnWithin, Own, OneEntry, Joins, relabelled, spread};
+ghost use Rattle.standing.specs.Joining.{Below, OwnWithin, Own, OneEntry, OneClass, Joins, relabelled, spread};
 use crate::labels::least_label;
 use crate::labels::past_labels;
 use factor::common_plots;
@@ -32,16 +32,36 @@ fn number_joined(f: &[u8], g: &[u8], top: usize, out: &mut [u8; PLOTS]) -> usize
     ensures answer { λ r. ⌜ r ≡ classes (supremum (now (f .entry)) (now (g .entry))) ⌝ }
     ensures numbers { λ _. ⌜ now (out .exit) ≡ overlay (now (out .entry)) (supremum (now (f .entry)) (now (g .entry))) ⌝ }
 {
-    let mut table = own_labels(least_label(f), top);
-    if join(&mut table, f, g, rounded(top)) {
+    let mut table = [0u8; 256];
+    let one = join_labels(f, g, top, &mut table);
+    number_joins(&table, f, one, out)
+}
+
+// A table over labels: labels of `f` that share a class of `g` have one entry. Answers whether it is known that all have one.
+pub(crate) fn join_labels(f: &[u8], g: &[u8], top: usize, table: &mut [u8; 256]) -> bool
+    requires { ⌜ (length (now g) ≡ length (now f)) × (top ≤ 256) × Below top (now f) ⌝ }
+    ensures answer { λ r. ⌜ (r ≡ true → (0 < length (now (f .entry))) × OneEntry top (now (table .exit))) ⌝ }
+    ensures entries { λ _. ⌜ (length (now (table .exit)) ≡ 256) × Joins (now (f .entry)) (now (g .entry)) (now (table .exit)) ⌝ }
+{
+    *table = own_labels(least_label(f), top);
+    join(table, f, g, rounded(top))
+}
+
+// Numbers the classes that the entries of the labels make; answers how many there are. It is known where all have one.
+pub(crate) fn number_joins(table: &[u8], f: &[u8], one: bool, out: &mut [u8; PLOTS]) -> usize
+    requires { ⌜ (length (now table) ≡ 256) × (length (now f) ≤ 240) × (one ≡ true → (0 < length (now f)) × OneClass (now table) (now f)) ⌝ }
+    ensures answer { λ r. ⌜ r ≡ classes (spread (now (table .entry)) (now (f .entry))) ⌝ }
+    ensures numbers { λ _. ⌜ now (out .exit) ≡ overlay (now (out .entry)) (number (spread (now (table .entry)) (now (f .entry)))) ⌝ }
+{
+    if one {
         return one_class(f.len(), out);
     }
-    number_entries(&table, f, out)
+    number_entries(table, f, out)
 }
 
 // A table over labels: each label from `low` on and below `top` is its own entry. Label 0 and those from `top` on have the entry `low`,
 // so that all entries of a column numbered from 1 may come to be one.
-pub(crate) fn own_labels(low: u8, top: usize) -> [u8; 256]
+fn own_labels(low: u8, top: usize) -> [u8; 256]
     requires { ⌜ top ≤ 256 ⌝ }
     ensures { λ r. ⌜ (length r ≡ 256) × OwnWithin low top r ⌝ }
 {
@@ -65,7 +85,7 @@ fn fill_from(table: &mut [u8; 256], top: usize, low: u8)
 }
 
 // `top` rounded up to whole groups of 32 entries, which are relabelled at a time.
-pub(crate) fn rounded(top: usize) -> usize
+fn rounded(top: usize) -> usize
     requires { ⌜ top ≤ 256 ⌝ }
     ensures { λ r. ⌜ (top ≤ r) × (r ≤ 256) ⌝ }
 {
@@ -108,7 +128,7 @@ fn merge(table: &mut [u8; 256], top: usize, x: usize, y: usize) -> bool
 
 // Labels of `f` that share a class of `g` get one entry of the table: that of the first such label, which `first` holds, plus 1.
 // Answers whether the walk has ended early, all having one entry.
-pub(crate) fn join(table: &mut [u8; 256], f: &[u8], g: &[u8], top: usize) -> bool
+fn join(table: &mut [u8; 256], f: &[u8], g: &[u8], top: usize) -> bool
     requires { ⌜ (length (now table) ≡ 256) × (length (now g) ≡ length (now f)) × (top ≤ 256) × Below top (now f) × Own (now f) (now table) ⌝ }
     ensures answer { λ r. ⌜ (r ≡ true → (0 < length (now (f .entry))) × OneEntry top (now (table .exit))) ⌝ }
     ensures entries { λ _. ⌜ (length (now (table .exit)) ≡ 256) × Joins (now (f .entry)) (now (g .entry)) (now (table .exit)) ⌝ }
@@ -129,7 +149,7 @@ pub(crate) fn join(table: &mut [u8; 256], f: &[u8], g: &[u8], top: usize) -> boo
     false
 }
 
-// Numbers the classes that the entries of the labels make; answers how many there are.
+// The same for any entries.
 fn number_entries(table: &[u8], f: &[u8], out: &mut [u8; PLOTS]) -> usize
     requires { ⌜ (length (now table) ≡ 256) × (length (now f) ≤ 240) ⌝ }
     ensures answer { λ r. ⌜ r ≡ classes (spread (now (table .entry)) (now (f .entry))) ⌝ }

@@ -28,7 +28,7 @@ pub fn infimum(f: &[u8], g: &[u8], out: &mut [u8; PLOTS]) -> usize
 
 // The same for two columns of one length whose cells are few: a table has the number of each cell.
 fn number_cells(f: &[u8], g: &[u8], w: usize, out: &mut [u8; PLOTS]) -> usize
-    requires { ⌜ (length (now f) ≤ 240) × (length (now g) ≡ length (now f)) × (w ≤ 256) × Inside w (now f) (now g) ⌝ }
+    requires { ⌜ (length (now f) ≤ 240) × (length (now g) ≡ length (now f)) × (w ≤ 256) × Inside w 2048 (now f) (now g) ⌝ }
     ensures answer { λ r. ⌜ r ≡ classes (infimum (now (f .entry)) (now (g .entry))) ⌝ }
     ensures numbers { λ _. ⌜ now (out .exit) ≡ overlay (now (out .entry)) (infimum (now (f .entry)) (now (g .entry))) ⌝ }
 {

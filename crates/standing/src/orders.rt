@@ -1,16 +1,9 @@
 // How two columns stand to each other.
 ghost use mathlib.Core.Path.{_≡_};
-ghost use Prim.Native.Nat.{_≤_, _<_};
 ghost use lib.ListN.{length};
 ghost use Rattle.rules.specs.Factor.{finer, orthogonal};
-ghost use Rattle.standing.specs.Standing.{testCommon, balanced, orderOf, ordered, stands};
-use crate::cells::CELLS;
-use crate::cells::orthogonal_cells;
-use crate::join::supremum;
-use crate::labels::past_labels;
-use crate::meet::infimum;
-use crate::sizes::product;
-use crate::sizes::sizes;
+ghost use Rattle.standing.specs.Standing.{testCommon, orderOf, ordered, stands};
+use crate::pair::crossing_of;
 use factor::common_plots;
 use limits::PLOTS;
 
@@ -65,28 +58,12 @@ pub fn finer(f: &[u8], g: &[u8]) -> bool
 }
 
 // Whether two columns are orthogonal over their common plots.
-pub(crate) fn orthogonal(f: &[u8], g: &[u8]) -> bool
+fn orthogonal(f: &[u8], g: &[u8]) -> bool
     ensures { λ r. ⌜ r ≡ testCommon orthogonal (now (f .entry)) (now (g .entry)) ⌝ }
 {
-    let n = common_plots(f.len(), g.len());
-    let a = past_labels(&f[..n]);
-    let b = past_labels(&g[..n]);
-    if a * b <= CELLS {
-        return orthogonal_cells(&f[..n], &g[..n], a, b);
-    }
-    orthogonal_plots(f, g)
-}
-
-// The same for any labels: infimum and supremum are numbered.
-fn orthogonal_plots(f: &[u8], g: &[u8]) -> bool
-    ensures { λ r. ⌜ r ≡ testCommon orthogonal (now (f .entry)) (now (g .entry)) ⌝ }
-{
-    let n = common_plots(f.len(), g.len());
-    let mut below = [0u8; PLOTS];
-    infimum(f, g, &mut below);
     let mut above = [0u8; PLOTS];
-    supremum(f, g, &mut above);
-    balanced(&below[..n], &above[..n], &f[..n], &g[..n])
+    let crossing = crossing_of(f, g, &mut above);
+    crossing.orthogonal
 }
 
 // `finer` for two columns of one length, in one walk: the table has the label in `g` of each class of `f` that was met, plus 1.
@@ -133,23 +110,4 @@ fn order_from(finer: bool, coarser: bool) -> Order
         return Order::Coarser;
     }
     Order::Neither
-}
-
-// Whether for each plot the sizes of its classes in `a` and `b` make the product that those in `f` and `g` make.
-fn balanced(a: &[u8], b: &[u8], f: &[u8], g: &[u8]) -> bool
-    requires { ⌜ (length (now a) ≤ 240) × (length (now b) ≡ length (now a)) × (length (now f) ≡ length (now a)) × (length (now g) ≡ length (now a)) ⌝ }
-    ensures { λ r. ⌜ r ≡ balanced (length (now (a .entry))) (now (a .entry)) (now (b .entry)) (now (f .entry)) (now (g .entry)) ⌝ }
-{
-    let in_a = sizes(a);
-    let in_b = sizes(b);
-    let in_f = sizes(f);
-    let in_g = sizes(g);
-    for u in 0..a.len() {
-        let left = product(in_a[a[u] as usize], in_b[b[u] as usize]);
-        let right = product(in_f[f[u] as usize], in_g[g[u] as usize]);
-        if left != right {
-            return false;
-        }
-    }
-    true
 }

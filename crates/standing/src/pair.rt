@@ -1,11 +1,24 @@
 // What two factors make together: their infimum with their supremum, and their supremum with whether they are orthogonal.
 ghost use mathlib.Core.Path.{_≡_};
+ghost use Prim.Native.Nat.{_*_, _≤_};
+ghost use lib.ListN.{length, replicate};
 ghost use Rattle.rules.specs.Factor.{classes, infimum, supremum, orthogonal};
 ghost use Rattle.factor.specs.Lent.{onCommon, overlay};
+ghost use Rattle.standing.specs.Joining.{Below};
+ghost use Rattle.standing.specs.Cells.{Inside, CellSizes, Listed};
 ghost use Rattle.standing.specs.Standing.{testCommon};
+use crate::cells::ALL_CELLS;
+use crate::cells::CELLS;
+use crate::cells::count_cells;
+use crate::cells::entry_sizes;
+use crate::cells::even_cells;
+use crate::join::join_labels;
+use crate::join::number_joins;
 use crate::join::supremum;
+use crate::labels::past_labels;
 use crate::meet::infimum;
-use crate::orders::orthogonal;
+use crate::sizes::sizes;
+use factor::common_plots;
 use limits::PLOTS;
 
 // Numbers of classes: of the infimum of two factors and of their supremum.
@@ -42,10 +55,85 @@ pub fn crossing_of(f: &[u8], g: &[u8], above: &mut [u8; PLOTS]) -> Crossing
     ensures orthogonal { λ r. ⌜ r .orthogonal ≡ testCommon orthogonal (now (f .entry)) (now (g .entry)) ⌝ }
     ensures above { λ _. ⌜ now (above .exit) ≡ overlay (now (above .entry)) (onCommon supremum (now (f .entry)) (now (g .entry))) ⌝ }
 {
-    let m = supremum(f, g, above);
-    let level = orthogonal(f, g);
+    let n = common_plots(f.len(), g.len());
+    let a = past_labels(&f[..n]);
+    let b = past_labels(&g[..n]);
+    if b < a {
+        return crossing_whole(&g[..n], &f[..n], b, a, above);
+    }
+    crossing_whole(&f[..n], &g[..n], a, b, above)
+}
+
+// The same for two columns of one length; the labels of `f` are below `a`, those of `g` below `w`.
+fn crossing_whole(f: &[u8], g: &[u8], a: usize, w: usize, above: &mut [u8; PLOTS]) -> Crossing
+    requires { ⌜ (length (now f) ≤ 240) × (length (now g) ≡ length (now f)) × (a ≤ 256) × (w ≤ 256) × Below a (now f) × Below w (now g) ⌝ }
+    ensures supremum { λ r. ⌜ r .supremum ≡ classes (supremum (now (f .entry)) (now (g .entry))) ⌝ }
+    ensures orthogonal { λ r. ⌜ r .orthogonal ≡ orthogonal (length (now (f .entry))) (now (f .entry)) (now (g .entry)) ⌝ }
+    ensures above { λ _. ⌜ now (above .exit) ≡ overlay (now (above .entry)) (supremum (now (f .entry)) (now (g .entry))) ⌝ }
+{
+    if a * w <= CELLS {
+        let mut in_cells = [0u8; CELLS];
+        return crossing_cells(f, g, a, w, &mut in_cells, above);
+    }
+    crossing_many(f, g, a, w, above)
+}
+
+// The same for any labels.
+fn crossing_many(f: &[u8], g: &[u8], a: usize, w: usize, above: &mut [u8; PLOTS]) -> Crossing
+    requires { ⌜ (length (now f) ≤ 240) × (length (now g) ≡ length (now f)) × (a ≤ 256) × (w ≤ 256) × Below a (now f) × Below w (now g) ⌝ }
+    ensures supremum { λ r. ⌜ r .supremum ≡ classes (supremum (now (f .entry)) (now (g .entry))) ⌝ }
+    ensures orthogonal { λ r. ⌜ r .orthogonal ≡ orthogonal (length (now (f .entry))) (now (f .entry)) (now (g .entry)) ⌝ }
+    ensures above { λ _. ⌜ now (above .exit) ≡ overlay (now (above .entry)) (supremum (now (f .entry)) (now (g .entry))) ⌝ }
+{
+    let mut in_cells = [0u8; ALL_CELLS];
+    crossing_cells(f, g, a, w, &mut in_cells, above)
+}
+
+// The same with a table of no plots that has room for the cells. Plots of one cell have the same labels, so one of each cell is looked at.
+fn crossing_cells(
+    f: &[u8],
+    g: &[u8],
+    a: usize,
+    w: usize,
+    in_cells: &mut [u8],
+    above: &mut [u8; PLOTS],
+) -> Crossing
+    requires { ⌜ (length (now f) ≤ 240) × (length (now g) ≡ length (now f)) × (a ≤ 256) × (w ≤ 256) × Below a (now f) × Below w (now g) × (a * w ≤ length (now «in_cells»)) × (length (now «in_cells») ≤ 65536) × (now «in_cells» ≡ replicate (length (now «in_cells»)) 0) ⌝ }
+    ensures supremum { λ r. ⌜ r .supremum ≡ classes (supremum (now (f .entry)) (now (g .entry))) ⌝ }
+    ensures orthogonal { λ r. ⌜ r .orthogonal ≡ orthogonal (length (now (f .entry))) (now (f .entry)) (now (g .entry)) ⌝ }
+    ensures above { λ _. ⌜ now (above .exit) ≡ overlay (now (above .entry)) (supremum (now (f .entry)) (now (g .entry))) ⌝ }
+{
+    let mut cell_f = [0u8; PLOTS];
+    let mut cell_g = [0u8; PLOTS];
+    let m = count_cells(f, g, w, in_cells, &mut cell_f, &mut cell_g);
+    crossing_listed(f, g, a, w, in_cells, &cell_f[..m], &cell_g[..m], above)
+}
+
+// The same by the plots of each cell, and the labels `x` and `y` of the cells that have a plot.
+fn crossing_listed(
+    f: &[u8],
+    g: &[u8],
+    a: usize,
+    w: usize,
+    in_cells: &[u8],
+    x: &[u8],
+    y: &[u8],
+    above: &mut [u8; PLOTS],
+) -> Crossing
+    requires { ⌜ (length (now f) ≤ 240) × (length (now g) ≡ length (now f)) × (a ≤ 256) × (w ≤ 256) × Below a (now f) × Below w (now g) × (length (now «in_cells») ≤ 65536) × Inside w (length (now «in_cells»)) (now f) (now g) × CellSizes (length (now «in_cells»)) w (length (now f)) (now f) (now g) (now «in_cells») × Listed (now f) (now g) (now x) (now y) ⌝ }
+    ensures supremum { λ r. ⌜ r .supremum ≡ classes (supremum (now (f .entry)) (now (g .entry))) ⌝ }
+    ensures orthogonal { λ r. ⌜ r .orthogonal ≡ orthogonal (length (now (f .entry))) (now (f .entry)) (now (g .entry)) ⌝ }
+    ensures above { λ _. ⌜ now (above .exit) ≡ overlay (now (above .entry)) (supremum (now (f .entry)) (now (g .entry))) ⌝ }
+{
+    let mut table = [0u8; 256];
+    let one = join_labels(x, y, a, &mut table);
+    let in_f = sizes(f);
+    let in_g = sizes(g);
+    let in_k = entry_sizes(&table, f, &in_f, a, one);
+    let level = even_cells(w, in_cells, &table, &in_k, &in_f, &in_g, x, y);
+    let k = number_joins(&table, f, one, above);
     Crossing {
-        supremum: m,
+        supremum: k,
         orthogonal: level,
     }
 }

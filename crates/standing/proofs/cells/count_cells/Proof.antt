@@ -1,6 +1,6 @@
--- `count_cells` meets its contract: the tables and the list are those of the plots passed.
+-- `count_cells` meets its contract: the table and the list are those of the plots passed.
 -- Assumes nothing.
-use mathlib.Core.Path.{_≡_, refl, _∙_}
+use mathlib.Core.Path.{_≡_, refl, sym, _∙_}
 use mathlib.Core.Logic.{⊎-elim}
 use mathlib.Core.List.{List}
 use Prim.Native.Nat.{ℕ, _+_, _*_, _-_, _≤_, _<_}
@@ -8,18 +8,18 @@ use native.Mathlib.Omega.{arith}
 use denote.Ref.{now}
 use lib.ListN.{length}
 use Rattle.rules.specs.Factor.{Column, at}
-use Rattle.standing.specs.Cells.{Tables, Cover, labelledBoth}
-use Rattle.standing.proofs.SizeTable.{labelled-le}
-use Rattle.standing.proofs.CellTable.{cell-le, tables-step, cover-new, cover-old}
+use Rattle.standing.specs.Cells.{CellSizes, Cover, labelledBoth}
+use Rattle.standing.proofs.CellTable.{cell-le, cells-step}
+use Rattle.standing.proofs.Listing.{cell-new, cell-old, cover-new, cover-old}
 use Rattle.standing.proofs.cells.count_cells.Statement.{statement}
 use Rattle.standing.proofs.cells.count_cells.Tie as tie
 
 abbrev Inv-loop : tie.InvT-loop
-Inv-loop f g w in-cells₀ in-f₀ in-g₀ cell-f₀ cell-g₀ m₀ u₀ u-end in-cells in-f in-g cell-f cell-g m u =
-    (u ≤ length f) × (u-end ≡ length f) × Tables w u f g in-cells in-f in-g × Cover u f g cell-f cell-g m
+Inv-loop f g w in-cells₀ cell-f₀ cell-g₀ m₀ u₀ u-end in-cells cell-f cell-g m u =
+    (u ≤ length f) × (u-end ≡ length f) × CellSizes (length in-cells₀) w u f g in-cells × Cover u f g cell-f cell-g m
 
 abbrev μ-loop : tie.MeasureT-loop
-μ-loop f g w in-cells₀ in-f₀ in-g₀ cell-f₀ cell-g₀ m₀ u₀ u-end in-cells in-f in-g cell-f cell-g m u = length f - u
+μ-loop f g w in-cells₀ cell-f₀ cell-g₀ m₀ u₀ u-end in-cells cell-f cell-g m u = length f - u
 
 loop-holds : tie.Need-loop-holds Inv-loop μ-loop
 loop-holds c = (omega arith, refl, c .pre .4, c .pre .5)
@@ -53,8 +53,12 @@ module _ (c : tie.After-shared-slice-known2 Inv-loop μ-loop) where
   abbrev cells : List ℕ
   cells = head .loop .in-cells
 
-  abbrev tables : Tables w u f g cells (head .loop .in-f) (head .loop .in-g)
-  tables = head .loop .inv .2
+  -- how many cells the table has room for
+  abbrev room : ℕ
+  room = length (now (start .args .in-cells))
+
+  abbrev counted : CellSizes room w u f g cells
+  counted = head .loop .inv .2
 
   abbrev cover : Cover u f g (head .loop .cell-f) (head .loop .cell-g) (head .loop .m)
   cover = head .loop .inv .3
@@ -68,72 +72,46 @@ module _ (c : tie.After-shared-slice-known2 Inv-loop μ-loop) where
   byte-g : (v : ℕ) → at g v < 256
   byte-g v = omega (arith, c .shared-slice-known2 .given v)
 
-  inside : w * at f u + at g u < 2048
+  inside : w * at f u + at g u < room
   inside = start .pre .3 u (omega arith) .1
 
   -- how many plots of the cell have been met
   size-is : at cells (w * at f u + at g u) ≡ labelledBoth u f g (at f u) (at g u)
-  size-is = tables .cell (at f u) (at g u) (start .pre .3 u (omega arith) .0) inside
-
-cast-in-f : tie.Need-cast-in-f Inv-loop μ-loop
-cast-in-f c = omega (arith, byte-f c (u c))
-
-element-copy-out-in-f : tie.Need-element-copy-out-in-f Inv-loop μ-loop
-element-copy-out-in-f c = byte-f c (u c)
-
-add-in-f : tie.Need-add-in-f Inv-loop μ-loop
-add-in-f c =
-    let k = c .before in
-    omega (arith, few k, tables k .size-f (at (f k) (u k)) (byte-f k (u k)), labelled-le (u k) (f k) (at (f k) (u k)))
-
-element-write-in-f : tie.Need-element-write-in-f Inv-loop μ-loop
-element-write-in-f c = byte-f (c .before) (u (c .before))
-
-cast-in-g : tie.Need-cast-in-g Inv-loop μ-loop
-cast-in-g c = omega (arith, byte-g (c .before) (u (c .before)))
-
-element-copy-out-in-g : tie.Need-element-copy-out-in-g Inv-loop μ-loop
-element-copy-out-in-g c = byte-g (c .before) (u (c .before))
-
-add-in-g : tie.Need-add-in-g Inv-loop μ-loop
-add-in-g c =
-    let k = c .before .before in
-    omega (arith, few k, tables k .size-g (at (g k) (u k)) (byte-g k (u k)), labelled-le (u k) (g k) (at (g k) (u k)))
-
-element-write-in-g : tie.Need-element-write-in-g Inv-loop μ-loop
-element-write-in-g c = byte-g (c .before .before) (u (c .before .before))
+  size-is = counted .cell (at f u) (at g u) (start .pre .3 u (omega arith) .0) inside
 
 cast-i : tie.Need-cast-i Inv-loop μ-loop
-cast-i c = omega (arith, byte-f (c .before .before) (u (c .before .before)))
+cast-i c = omega (arith, byte-f c (u c))
 
 mul-i : tie.Need-mul-i Inv-loop μ-loop
-mul-i c = omega (arith, inside (c .before .before))
+mul-i c = omega (arith, inside c, start c .pre .2)
 
 cast-i-2 : tie.Need-cast-i-2 Inv-loop μ-loop
-cast-i-2 c = omega (arith, byte-g (c .before .before) (u (c .before .before)))
+cast-i-2 c = omega (arith, byte-g c (u c))
 
 add-i : tie.Need-add-i Inv-loop μ-loop
-add-i c = omega (arith, inside (c .before .before))
+add-i c = omega (arith, inside c, start c .pre .2)
 
-element-copy-out-size : tie.Need-element-copy-out-size Inv-loop μ-loop
-element-copy-out-size c = inside (c .before .before)
+slice-read-size : tie.Need-slice-read-size Inv-loop μ-loop
+slice-read-size c = omega (arith, inside (c .before), counted (c .before) .cells-room)
 
 element-write-cell-f : tie.Need-element-write-cell-f Inv-loop μ-loop
-element-write-cell-f c = omega (arith, few (c .before .before .before .before), cover (c .before .before .before .before) .few)
+element-write-cell-f c = omega (arith, few (c .before .before), cover (c .before .before) .few)
 
 element-write-cell-g : tie.Need-element-write-cell-g Inv-loop μ-loop
-element-write-cell-g c = omega (arith, few (c .before .before .before .before), cover (c .before .before .before .before) .few)
+element-write-cell-g c = omega (arith, few (c .before .before), cover (c .before .before) .few)
 
 add-m : tie.Need-add-m Inv-loop μ-loop
-add-m c = omega (arith, few (c .before .before .before .before), cover (c .before .before .before .before) .few)
+add-m c = omega (arith, few (c .before .before), cover (c .before .before) .few)
 
 add-in-cells : tie.Need-add-in-cells Inv-loop μ-loop
 add-in-cells c =
-    let k = c .before .before .before .before in
+    let k = c .before .before in
     omega (arith, few k, size-is k, cell-le (u k) (f k) (g k) (at (f k) (u k)) (at (g k) (u k)))
 
-element-write-in-cells : tie.Need-element-write-in-cells Inv-loop μ-loop
-element-write-in-cells c = inside (c .before .before .before .before)
+slice-write-in-cells : tie.Need-slice-write-in-cells Inv-loop μ-loop
+slice-write-in-cells c =
+    let k = c .before .before in
+    omega (arith, inside k, counted k .cells-room)
 
 add-u : tie.Need-add-u Inv-loop μ-loop
 add-u c = omega arith
@@ -143,17 +121,23 @@ loop-less c = omega arith
 
 loop-again : tie.Need-loop-again Inv-loop μ-loop
 loop-again c =
-    let k = c .before .before .before .before in
+    let k = c .before .before in
+    let h : u k < length (f k) = omega arith in
+    let x = at (f k) (u k) in
+    let y = at (g k) (u k) in
     let listed : Cover (u k + 1) (f k) (g k) (c .if1 .cell-f) (c .if1 .cell-g) (c .if1 .m) =
     ⊎-elim
-    (λ v. rw (v .1, v .2, v .3) (cover-new (u k) (f k) (g k) (head k .loop .cell-f) (head k .loop .cell-g) (head k .loop .m) (cover k) (omega (arith, few k, cover k .few))))
-    (λ v. rw (v .1, v .2, v .3) (cover-old (u k) (f k) (g k) (head k .loop .cell-f) (head k .loop .cell-g) (head k .loop .m) (cover k) (λ z. v .0 .left (size-is k ∙ z))))
+    (λ v. rw (v .1, v .2, v .3) (cover-new (u k) (f k) (g k) (head k .loop .cell-f) (head k .loop .cell-g) (head k .loop .m) (cover k) h (cell-new (u k) (f k) (g k) x y (sym (size-is k) ∙ v .0 .taken)) (omega (arith, few k, cover k .few))))
+    (λ v. rw (v .1, v .2, v .3) (cover-old (u k) (f k) (g k) (head k .loop .cell-f) (head k .loop .cell-g) (head k .loop .m) (cover k) h (cell-old (u k) (f k) (g k) x y (λ z. v .0 .left (size-is k ∙ z)))))
     (c .if1 .came) in (
       omega arith,
       refl,
-      tables-step (w k) (u k) (f k) (g k) (cells k) (tables k .cells-room) (start k .pre .3 (u k) (omega arith) .0) (inside k) (head k .loop .in-f) (head k .loop .in-g) (tables k) (byte-f k (u k)) (byte-g k (u k)),
+      cells-step (room k) (w k) (u k) (f k) (g k) (cells k) (counted k .cells-room) (start k .pre .3 (u k) h .0) (inside k) (counted k),
       listed,
     )
+
+same-length : tie.Need-same-length Inv-loop μ-loop
+same-length c = c .before .loop .inv .2 .cells-room
 
 returns : tie.Need-returns Inv-loop μ-loop
 returns c =
@@ -170,25 +154,18 @@ count-cells-spec =
     loop-holds
     shared-slice-read-x
     shared-slice-read-y
-    cast-in-f
-    element-copy-out-in-f
-    add-in-f
-    element-write-in-f
-    cast-in-g
-    element-copy-out-in-g
-    add-in-g
-    element-write-in-g
     cast-i
     mul-i
     cast-i-2
     add-i
-    element-copy-out-size
+    slice-read-size
     element-write-cell-f
     element-write-cell-g
     add-m
     add-in-cells
-    element-write-in-cells
+    slice-write-in-cells
     add-u
     loop-less
     loop-again
+    same-length
     returns)

@@ -35,21 +35,21 @@ shared-slice-read-x : tie.Need-shared-slice-read-x Inv-loop μ-loop
 shared-slice-read-x c = omega arith
 
 cast-x : tie.Need-cast-x Inv-loop μ-loop
-cast-x c = omega (arith, c .shared-slice-known4 .given (c .before .before .loop .i))
+cast-x c = omega (arith, c .shared-slice-known5 .given (c .before .before .loop .i))
 
 shared-slice-read-y : tie.Need-shared-slice-read-y Inv-loop μ-loop
 shared-slice-read-y c = omega arith
 
 cast-y : tie.Need-cast-y Inv-loop μ-loop
-cast-y c = omega (arith, c .shared-slice-known5 .given (c .before .before .before .loop .i))
+cast-y c = omega (arith, c .shared-slice-known6 .given (c .before .before .before .loop .i))
 
 -- what is known in a turn
-module _ (c : tie.After-shared-slice-known6 Inv-loop μ-loop) where
+module _ (c : tie.After-shared-slice-known7 Inv-loop μ-loop) where
   abbrev head : tie.At-loop Inv-loop μ-loop
   head = c .before .before .before .before
 
   abbrev start : tie.Start Inv-loop μ-loop
-  start = head .before .before .before .before
+  start = head .before .before .before .before .before
 
   abbrev i : ℕ
   i = head .loop .i
@@ -68,16 +68,16 @@ module _ (c : tie.After-shared-slice-known6 Inv-loop μ-loop) where
   even-here = even (start .args .w) (now (start .args .in-cells)) table (now (start .args .in-k)) (now (start .args .in-f)) (now (start .args .in-g)) X Y
 
   byte-x : at X i < 256
-  byte-x = omega (arith, c .before .before .shared-slice-known4 .given i)
+  byte-x = omega (arith, c .before .before .shared-slice-known5 .given i)
 
   byte-y : at Y i < 256
-  byte-y = omega (arith, c .before .shared-slice-known5 .given i)
+  byte-y = omega (arith, c .before .shared-slice-known6 .given i)
 
   entry : at table (at X i) < 256
-  entry = omega (arith, c .shared-slice-known6 .given (at X i))
+  entry = omega (arith, c .shared-slice-known7 .given (at X i))
 
-  inside : start .args .w * at X i + at Y i < 2048
-  inside = start .pre .4 i (omega arith) .1
+  inside : start .args .w * at X i + at Y i < length (now (start .args .in-cells))
+  inside = start .pre .5 i (omega arith) .1
 
 shared-slice-read-k : tie.Need-shared-slice-read-k Inv-loop μ-loop
 shared-slice-read-k c = omega (arith, byte-x c)
@@ -86,25 +86,25 @@ cast-k : tie.Need-cast-k Inv-loop μ-loop
 cast-k c = omega (arith, entry c)
 
 mul-product : tie.Need-mul-product Inv-loop μ-loop
-mul-product c = omega (arith, inside c)
+mul-product c = omega (arith, inside c, start c .pre .4)
 
 add-product : tie.Need-add-product Inv-loop μ-loop
-add-product c = omega (arith, inside c)
+add-product c = omega (arith, inside c, start c .pre .4)
+
+shared-slice-read-product : tie.Need-shared-slice-read-product Inv-loop μ-loop
+shared-slice-read-product c = inside (c .before)
 
 element-copy-out-product : tie.Need-element-copy-out-product Inv-loop μ-loop
-element-copy-out-product c = inside c
-
-element-copy-out-product-2 : tie.Need-element-copy-out-product-2 Inv-loop μ-loop
-element-copy-out-product-2 c = entry (c .before)
+element-copy-out-product c = entry (c .before)
 
 product-requires : tie.Need-product-requires Inv-loop μ-loop
 product-requires c κs = search needs
 
-element-copy-out-product-3 : tie.Need-element-copy-out-product-3 Inv-loop μ-loop
-element-copy-out-product-3 c = byte-x (c .before .before .before)
+element-copy-out-product-2 : tie.Need-element-copy-out-product-2 Inv-loop μ-loop
+element-copy-out-product-2 c = byte-x (c .before .before .before)
 
-element-copy-out-product-4 : tie.Need-element-copy-out-product-4 Inv-loop μ-loop
-element-copy-out-product-4 c = byte-y (c .before .before .before .before)
+element-copy-out-product-3 : tie.Need-element-copy-out-product-3 Inv-loop μ-loop
+element-copy-out-product-3 c = byte-y (c .before .before .before .before)
 
 product-requires-2 : tie.Need-product-requires-2 Inv-loop μ-loop
 product-requires-2 c κs = search needs
@@ -132,7 +132,7 @@ returns-2 : tie.Need-returns-2 Inv-loop μ-loop
 unfolding evenCells
 returns-2 c =
     let h = c .before in
-    let s = h .before .before .before .before .args in
+    let s = h .before .before .before .before .before .args in
     let X = now (s .cell-f) in
     let e : length X ≡ h .loop .i = omega arith in
     sym (ap (λ (n : ℕ). every n (even (s .w) (now (s .in-cells)) (now (s .table)) (now (s .in-k)) (now (s .in-f)) (now (s .in-g)) X (now (s .cell-g)))) e ∙ h .loop .inv .2)
@@ -152,11 +152,11 @@ even-cells-spec =
     cast-k
     mul-product
     add-product
+    shared-slice-read-product
     element-copy-out-product
-    element-copy-out-product-2
     product-requires
+    element-copy-out-product-2
     element-copy-out-product-3
-    element-copy-out-product-4
     product-requires-2
     returns
     add-i

@@ -73,7 +73,7 @@ number-cells-requires c κs =
     let a = t .before .before .before .past-labels .ensures in
     let b = t .before .past-labels2 .ensures in
     let l = sym (long-g k) ∙ long-f k in
-    (subst (λ (m : ℕ). m ≤ 240) (long-f k) (few k), l, b .1, inside-below (t .before .before .before .past-labels .result) (t .before .past-labels2 .result) (f k) (g k) l (a .2) (b .2) (t .if1 .taken))
+    (subst (λ (m : ℕ). m ≤ 240) (long-f k) (few k), l, b .1, inside-below (t .before .before .before .past-labels .result) (t .before .past-labels2 .result) 2048 (f k) (g k) l (a .2) (b .2) (t .if1 .taken))
 
 returns : tie.Need-returns
 returns c =

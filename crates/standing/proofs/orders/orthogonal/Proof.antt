@@ -1,100 +1,14 @@
 -- `orthogonal` meets its contract.
 -- Assumes nothing.
-use mathlib.Core.Path.{_≡_, sym, ap, _∙_, subst}
-use Prim.Native.Nat.{ℕ, _≤_}
-use native.Mathlib.Nat.{mul-le-mul}
-use native.Mathlib.Omega.{arith}
-use denote.Ref.{now}
-use lib.ListN.{length, take, length-take}
 use borrow.Author.Needs.{needs}
-use Rattle.rules.specs.Factor.{Column, orthogonal}
-use Rattle.standing.specs.Standing.{testCommon}
 use Rattle.standing.proofs.orders.orthogonal.Statement.{statement}
 use Rattle.standing.proofs.orders.orthogonal.Tie as tie
 
-common-plots-requires : tie.Need-common-plots-requires
-common-plots-requires c κs = search needs
-
--- the plots that are treated
-module _ (c : tie.After-common-plots) where
-  abbrev F : Column
-  F = now (c .before .before .before .args .f)
-
-  abbrev G : Column
-  G = now (c .before .before .before .args .g)
-
-  abbrev n : ℕ
-  n = c .common-plots .result
-
-  abbrev f : Column
-  f = take n F
-
-  abbrev g : Column
-  g = take n G
-
-  few : n ≤ 240
-  few = omega arith
-
-  long-f : n ≡ length f
-  long-f = sym (length-take n F ∙ omega arith)
-
-  long-g : n ≡ length g
-  long-g = sym (length-take n G ∙ omega arith)
-
-  whole : orthogonal (length f) f g ≡ testCommon orthogonal F G
-  whole = ap (λ (m : ℕ). orthogonal m f g) (sym long-f) ∙ ap (λ (m : ℕ). orthogonal m (take m F) (take m G)) (c .common-plots .ensures)
-
-slice-aggregate-past-labels : tie.Need-slice-aggregate-past-labels
-slice-aggregate-past-labels c = long-f (c .before)
-
-past-labels-requires : tie.Need-past-labels-requires
-past-labels-requires c κs = search needs
-
-slice-aggregate-past-labels-2 : tie.Need-slice-aggregate-past-labels-2
-slice-aggregate-past-labels-2 c = long-g (c .before .before .before)
-
-past-labels-requires-2 : tie.Need-past-labels-requires-2
-past-labels-requires-2 c κs = search needs
-
-mul-if1 : tie.Need-mul-if1
-mul-if1 c = omega (arith, mul-le-mul (c .before .before .past-labels .ensures .1) (c .past-labels2 .ensures .1))
-
-slice-aggregate-orthogonal-cells : tie.Need-slice-aggregate-orthogonal-cells
-slice-aggregate-orthogonal-cells c = long-f (c .before .before .before .before .before .before)
-
-slice-aggregate-orthogonal-cells-2 : tie.Need-slice-aggregate-orthogonal-cells-2
-slice-aggregate-orthogonal-cells-2 c = long-g (c .before .before .before .before .before .before .before)
-
-orthogonal-cells-requires : tie.Need-orthogonal-cells-requires
-orthogonal-cells-requires c κs =
-    let t = c .before .before in
-    let k = t .before .before .before .before .before in
-    let a = t .before .before .before .past-labels .ensures in
-    let b = t .before .past-labels2 .ensures in
-    (subst (λ (m : ℕ). m ≤ 240) (long-f k) (few k), sym (long-g k) ∙ long-f k, a .1, b .1, a .2, b .2, t .if1 .taken)
+crossing-of-requires : tie.Need-crossing-of-requires
+crossing-of-requires c κs = search needs
 
 returns : tie.Need-returns
-returns c = c .orthogonal-cells .ensures ∙ whole (c .before .before .before .before .before .before .before .before)
-
-orthogonal-plots-requires : tie.Need-orthogonal-plots-requires
-orthogonal-plots-requires c κs = search needs
-
-returns-2 : tie.Need-returns-2
-returns-2 c = search needs
+returns c = c .crossing-of .ensures .1 .0
 
 pub orthogonal-spec : {M : Type 1} → statement M
-orthogonal-spec =
-    tie.close
-    (tie.spec
-    common-plots-requires
-    slice-aggregate-past-labels
-    past-labels-requires
-    slice-aggregate-past-labels-2
-    past-labels-requires-2
-    mul-if1
-    slice-aggregate-orthogonal-cells
-    slice-aggregate-orthogonal-cells-2
-    orthogonal-cells-requires
-    returns
-    orthogonal-plots-requires
-    returns-2)
+orthogonal-spec = tie.close (tie.spec crossing-of-requires returns)
