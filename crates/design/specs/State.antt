@@ -2,7 +2,7 @@
 -- Members and pairs are counted from 0 here. Assumes nothing.
 use mathlib.Core.Path.{_≡_}
 use mathlib.Core.Logic.{_⊎_}
-use mathlib.Core.Bool.{Bool, true, false}
+use mathlib.Core.Bool.{Bool, true, false, _||_}
 use mathlib.Core.List.{List, [], _∷_, _++_, map}
 use Prim.Native.Nat.{ℕ, suc, _+_, _*_, _≤_, _<_}
 use lib.Dec.{eqb}
@@ -27,6 +27,10 @@ pub record Held (n : ℕ) (store counts : List ℕ) (size : ℕ) : Type 0 where
   pub places : length counts ≡ 32
   pub few : size ≤ 32
   pub counted : (i : ℕ) → i < size → getD counts i 0 ≡ classes (columnIn n store i)
+
+-- numbers of classes on n plots tell that a factor with a of them is finer than or equivalent to one with b
+abbrev pub toldFiner : ℕ → ℕ → ℕ → Bool
+toldFiner n a b = eqb b 1 || eqb a n
 
 -- What placing the column F among the members S answers: r is its place.
 pub data Placed (n : ℕ) (S : Family) (F : Column) (r : ℕ) (store counts : List ℕ) : Type 0 where

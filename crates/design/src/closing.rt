@@ -1,19 +1,18 @@
 // Closing a family under supremum, and under infimum too where that is asked: each unordered pair is combined once.
 ghost use mathlib.Core.Path.{_≡_};
-ghost use mathlib.Core.Bool.{Bool, true, false};
+ghost use mathlib.Core.Bool.{true, false};
 ghost use mathlib.Core.List.{List};
 ghost use Prim.Native.Nat.{ℕ, _+_, _*_, _≤_, _<_};
-ghost use lib.ListN.{length, getD};
+ghost use lib.ListN.{length};
 ghost use Rattle.rules.specs.Factor.{Column, classes, infimum, supremum};
 ghost use Rattle.rules.specs.Family.{membersOf};
 ghost use Rattle.factor.specs.Lent.{overlay};
-ghost use Rattle.standing.specs.Standing.{ordered, saysFiner, saysCoarser};
-ghost use Rattle.design.specs.State.{columnIn, Held, Placed, Work, Kept, Stepped, Closed};
+ghost use Rattle.design.specs.State.{columnIn, toldFiner, Held, Placed, Work, Kept, Stepped, Closed};
 use crate::store::grown;
 use crate::store::place;
 use limits::MEMBERS;
 use limits::PLOTS;
-use standing::Order;
+use standing::Bounds;
 
 // The answer of a step where the family would have more members than it may.
 pub const TOO_MANY: usize = 33;
@@ -21,53 +20,15 @@ pub const TOO_MANY: usize = 33;
 // The cells of a table with a row of 32 places for each member.
 pub const PAIRS: usize = 1024;
 
-// How members `i` and `j` are ordered.
-fn member_order(store: &[u8], n: usize, i: usize, j: usize) -> Order
-    requires { ⌜ (n ≤ 240) × (length (now store) ≡ 7680) × (i < 32) × (j < 32) ⌝ }
-    ensures { λ r. ⌜ r ≡ ordered n (columnIn n (now (store .entry)) i) (columnIn n (now (store .entry)) j) ⌝ }
+// Whether numbers of classes tell that a factor with `a` of them is finer than one with `b`: none is coarser than a factor with one
+// class, and none is finer than one with a class for each plot.
+fn told_finer(n: usize, a: u8, b: u8) -> bool
+    ensures { λ r. ⌜ r ≡ toldFiner n a b ⌝ }
 {
-    let a = PLOTS * i;
-    let b = PLOTS * j;
-    let c = a + n;
-    let d = b + n;
-    standing::order_of(&store[a..c], &store[b..d])
-}
-
-// Whether an order says that the first is finer than or equivalent to the second.
-fn is_finer(order: Order) -> bool
-    ensures { λ r. ⌜ r ≡ saysFiner order ⌝ }
-{
-    match order {
-        Order::Equivalent => true,
-        Order::Finer => true,
-        Order::Coarser => false,
-        Order::Neither => false,
+    if b == 1 {
+        return true;
     }
-}
-
-// Whether it says that the second is finer than or equivalent to the first.
-fn is_coarser(order: Order) -> bool
-    ensures { λ r. ⌜ r ≡ saysCoarser order ⌝ }
-{
-    match order {
-        Order::Equivalent => true,
-        Order::Finer => false,
-        Order::Coarser => true,
-        Order::Neither => false,
-    }
-}
-
-// Writes the infimum of two members; answers its number of classes.
-fn member_infimum(store: &[u8], n: usize, i: usize, j: usize, column: &mut [u8; PLOTS]) -> usize
-    requires { ⌜ (n ≤ 240) × (length (now store) ≡ 7680) × (i < 32) × (j < 32) ⌝ }
-    ensures { λ r. ⌜ r ≡ classes (infimum (columnIn n (now (store .entry)) i) (columnIn n (now (store .entry)) j)) ⌝ }
-    ensures { λ _. ⌜ now (column .exit) ≡ overlay (now (column .entry)) (infimum (columnIn n (now (store .entry)) i) (columnIn n (now (store .entry)) j)) ⌝ }
-{
-    let a = PLOTS * i;
-    let b = PLOTS * j;
-    let c = a + n;
-    let d = b + n;
-    standing::infimum(&store[a..c], &store[b..d], column)
+    a as usize == n
 }
 
 // Writes the supremum of two members; answers its number of classes.
@@ -83,21 +44,26 @@ fn member_supremum(store: &[u8], n: usize, i: usize, j: usize, column: &mut [u8;
     standing::supremum(&store[a..c], &store[b..d], column)
 }
 
-// Places the infimum of two members.
-fn place_infimum(
-    store: &mut [u8],
-    counts: &mut [u8; MEMBERS],
-    size: usize,
+// Writes the infimum and the supremum of two members; answers their numbers of classes.
+fn member_bounds(
+    store: &[u8],
     n: usize,
     i: usize,
     j: usize,
-) -> usize
-    requires { ⌜ Held n (now store) (now counts) size × (i < size) × (j < size) ⌝ }
-    ensures { λ r. ⌜ Placed n (membersOf n (now (store .entry)) size) (infimum (columnIn n (now (store .entry)) i) (columnIn n (now (store .entry)) j)) r (now (store .exit)) (now (counts .exit)) ⌝ }
+    below: &mut [u8; PLOTS],
+    above: &mut [u8; PLOTS],
+) -> Bounds
+    requires { ⌜ (n ≤ 240) × (length (now store) ≡ 7680) × (i < 32) × (j < 32) ⌝ }
+    ensures infimum { λ r. ⌜ r .infimum ≡ classes (infimum (columnIn n (now (store .entry)) i) (columnIn n (now (store .entry)) j)) ⌝ }
+    ensures supremum { λ r. ⌜ r .supremum ≡ classes (supremum (columnIn n (now (store .entry)) i) (columnIn n (now (store .entry)) j)) ⌝ }
+    ensures below { λ _. ⌜ now (below .exit) ≡ overlay (now (below .entry)) (infimum (columnIn n (now (store .entry)) i) (columnIn n (now (store .entry)) j)) ⌝ }
+    ensures above { λ _. ⌜ now (above .exit) ≡ overlay (now (above .entry)) (supremum (columnIn n (now (store .entry)) i) (columnIn n (now (store .entry)) j)) ⌝ }
 {
-    let mut column = [0u8; PLOTS];
-    let k = member_infimum(store, n, i, j, &mut column);
-    place(store, counts, size, &column[..n], k as u8)
+    let a = PLOTS * i;
+    let b = PLOTS * j;
+    let c = a + n;
+    let d = b + n;
+    standing::bounds_of(&store[a..c], &store[b..d], below, above)
 }
 
 // Places the supremum of two members.
@@ -117,7 +83,7 @@ fn place_supremum(
     place(store, counts, size, &column[..n], k as u8)
 }
 
-// Combines two members of which neither is finer, under both operations.
+// Combines two members under both operations.
 fn combine_both(
     store: &mut [u8],
     counts: &mut [u8; MEMBERS],
@@ -132,12 +98,15 @@ fn combine_both(
     ensures kept { λ r. ⌜ Kept n (now (store .exit)) (now (counts .exit)) size r ⌝ }
     ensures step { λ r. ⌜ ((Gs : List Column) → Work n true Gs (now (store .entry)) (now (counts .entry)) (now (meets .entry)) (now (joins .entry)) size i j → Stepped n true Gs (now (store .exit)) (now (counts .exit)) (now (meets .exit)) (now (joins .exit)) r i (j + 1)) ⌝ }
 {
-    let p = place_infimum(store, counts, size, n, i, j);
+    let mut below = [0u8; PLOTS];
+    let mut above = [0u8; PLOTS];
+    let bounds = member_bounds(store, n, i, j, &mut below, &mut above);
+    let p = place(store, counts, size, &below[..n], bounds.infimum as u8);
     if p == MEMBERS {
         return TOO_MANY;
     }
     let more = grown(size, p);
-    let q = place_supremum(store, counts, more, n, i, j);
+    let q = place(store, counts, more, &above[..n], bounds.supremum as u8);
     if q == MEMBERS {
         return TOO_MANY;
     }
@@ -147,7 +116,7 @@ fn combine_both(
     grown(more, q)
 }
 
-// Combines two members of which neither is finer, under supremum.
+// Combines two members under supremum.
 fn combine_supremum(
     store: &mut [u8],
     counts: &mut [u8; MEMBERS],
@@ -186,13 +155,14 @@ fn combine(
     ensures step { λ r. ⌜ ((Gs : List Column) → Work n infima Gs (now (store .entry)) (now (counts .entry)) (now (meets .entry)) (now (joins .entry)) size i j → Stepped n infima Gs (now (store .exit)) (now (counts .exit)) (now (meets .exit)) (now (joins .exit)) r i (j + 1)) ⌝ }
 {
     let at = MEMBERS * i + j;
-    let order = member_order(store, n, i, j);
-    if is_finer(order) {
+    let a = counts[i];
+    let b = counts[j];
+    if told_finer(n, a, b) {
         meets[at] = i as u8;
         joins[at] = j as u8;
         return size;
     }
-    if is_coarser(order) {
+    if told_finer(n, b, a) {
         meets[at] = j as u8;
         joins[at] = i as u8;
         return size;

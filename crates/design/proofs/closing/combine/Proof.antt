@@ -1,16 +1,15 @@
--- `combine` meets its contract: of two nested members the places are known, and others are combined.
+-- `combine` meets its contract: where the numbers of classes tell the order the places are known, and other pairs are combined.
 -- Assumes nothing.
-use mathlib.Core.Path.{_≡_, sym, ap, _∙_}
+use mathlib.Core.Path.{_≡_, sym, _∙_}
 use mathlib.Core.Logic.{inr}
 use mathlib.Core.Bool.{true}
+use Prim.Native.Nat.{_<_}
 use native.Mathlib.Nat.{le-refl}
+use native.Mathlib.Omega.{arith}
 use denote.Ref.{now}
 use borrow.Author.Needs.{needs}
-use Rattle.rules.specs.Factor.{finer}
-use Rattle.standing.specs.Standing.{saysFiner, saysCoarser}
-use Rattle.standing.proofs.Nesting.{says-finer, says-coarser}
-use Rattle.design.specs.State.{columnIn, on}
-use Rattle.design.proofs.Work.{work-left, work-right, step-as}
+use Rattle.design.specs.State.{on}
+use Rattle.design.proofs.Work.{told-order, work-left, work-right, step-as}
 use Rattle.design.proofs.closing.combine.Statement.{statement}
 use Rattle.design.proofs.closing.combine.Tie as tie
 
@@ -20,11 +19,14 @@ mul-at c = search needs
 add-at : tie.Need-add-at
 add-at c = search needs
 
-member-order-requires : tie.Need-member-order-requires
-member-order-requires c κs = search needs
+element-copy-out-a : tie.Need-element-copy-out-a
+element-copy-out-a c = search needs
 
-is-finer-requires : tie.Need-is-finer-requires
-is-finer-requires c κs = search needs
+element-copy-out-b : tie.Need-element-copy-out-b
+element-copy-out-b c = search needs
+
+told-finer-requires : tie.Need-told-finer-requires
+told-finer-requires c κs = search needs
 
 cast-meets : tie.Need-cast-meets
 cast-meets c = search needs
@@ -38,20 +40,15 @@ cast-joins c = search needs
 element-write-joins : tie.Need-element-write-joins
 element-write-joins c = search needs
 
-same-length : tie.Need-same-length
-same-length c = search needs
-
 returns : tie.Need-returns
 returns c =
-    let m = c .before .before in
-    let s = m .before .before .before in
-    let F = columnIn (s .args .n) (now (s .args .store)) (s .args .i) in
-    let G = columnIn (s .args .n) (now (s .args .store)) (s .args .j) in
-    let e : finer (s .args .n) (columnIn (s .args .n) (now (s .args .store)) (s .args .i)) (columnIn (s .args .n) (now (s .args .store)) (s .args .j)) ≡ true = sym (ap saysFiner (m .member-order .ensures) ∙ says-finer (s .args .n) F G) ∙ sym (c .before .is-finer .ensures) ∙ c .if1 .taken in
+    let s = c .before .before .before .before .before in
+    let j-in : s .args .j < s .args .size = omega (arith, s .pre .1, s .pre .2) in
+    let e = told-order (s .pre .0) (s .pre .1) j-in (sym (c .before .told-finer .ensures) ∙ c .if1 .taken) in
     (inr (s .pre .0, le-refl _), λ Gs w. on (work-left w (s .pre .1) (s .pre .2) e))
 
-is-coarser-requires : tie.Need-is-coarser-requires
-is-coarser-requires c κs = search needs
+told-finer-requires-2 : tie.Need-told-finer-requires-2
+told-finer-requires-2 c κs = search needs
 
 cast-meets-2 : tie.Need-cast-meets-2
 cast-meets-2 c = search needs
@@ -65,23 +62,18 @@ cast-joins-2 c = search needs
 element-write-joins-2 : tie.Need-element-write-joins-2
 element-write-joins-2 c = search needs
 
-same-length-2 : tie.Need-same-length-2
-same-length-2 c = search needs
-
 returns-2 : tie.Need-returns-2
 returns-2 c =
-    let m = c .before .before .before .before in
-    let s = m .before .before .before in
-    let F = columnIn (s .args .n) (now (s .args .store)) (s .args .i) in
-    let G = columnIn (s .args .n) (now (s .args .store)) (s .args .j) in
-    let e : finer (s .args .n) (columnIn (s .args .n) (now (s .args .store)) (s .args .j)) (columnIn (s .args .n) (now (s .args .store)) (s .args .i)) ≡ true = sym (ap saysCoarser (m .member-order .ensures) ∙ says-coarser (s .args .n) F G) ∙ sym (c .before .is-coarser .ensures) ∙ c .if2 .taken in
+    let s = c .before .before .before .before .before .before .before in
+    let j-in : s .args .j < s .args .size = omega (arith, s .pre .1, s .pre .2) in
+    let e = told-order (s .pre .0) j-in (s .pre .1) (sym (c .before .told-finer2 .ensures) ∙ c .if2 .taken) in
     (inr (s .pre .0, le-refl _), λ Gs w. on (work-right w (s .pre .1) (s .pre .2) e))
 
 combine-both-requires : tie.Need-combine-both-requires
 combine-both-requires c κs = search needs
 
-same-length-3 : tie.Need-same-length-3
-same-length-3 c = search needs
+same-length : tie.Need-same-length
+same-length c = search needs
 
 returns-3 : tie.Need-returns-3
 returns-3 c =
@@ -92,8 +84,8 @@ returns-3 c =
 combine-supremum-requires : tie.Need-combine-supremum-requires
 combine-supremum-requires c κs = search needs
 
-same-length-4 : tie.Need-same-length-4
-same-length-4 c = search needs
+same-length-2 : tie.Need-same-length-2
+same-length-2 c = search needs
 
 returns-4 : tie.Need-returns-4
 returns-4 c =
@@ -107,24 +99,23 @@ combine-spec =
     (tie.spec
     mul-at
     add-at
-    member-order-requires
-    is-finer-requires
+    element-copy-out-a
+    element-copy-out-b
+    told-finer-requires
     cast-meets
     element-write-meets
     cast-joins
     element-write-joins
-    same-length
     returns
-    is-coarser-requires
+    told-finer-requires-2
     cast-meets-2
     element-write-meets-2
     cast-joins-2
     element-write-joins-2
-    same-length-2
     returns-2
     combine-both-requires
-    same-length-3
+    same-length
     returns-3
     combine-supremum-requires
-    same-length-4
+    same-length-2
     returns-4)

@@ -1,144 +1,281 @@
 -- `combine_both` meets its contract: the infimum and the supremum are placed, and their places are stored.
 -- Assumes nothing.
-use mathlib.Core.Path.{refl}
+use mathlib.Core.Path.{_≡_, refl, sym, ap, ap₂, _∙_}
 use mathlib.Core.Logic.{inl, inr}
-use Prim.Native.Nat.{_≤_, _<_}
+use mathlib.Core.List.{List}
+use Prim.Native.Nat.{ℕ, _≤_, _<_}
 use native.Mathlib.Omega.{arith}
 use denote.Ref.{now}
-use lib.ListN.{length}
+use lib.ListN.{length, take, replicate, length-take}
 use borrow.Author.Needs.{needs}
-use Rattle.rules.specs.Factor.{infimum, supremum}
+use Rattle.rules.specs.Factor.{Column, classes, infimum, supremum}
 use Rattle.rules.specs.Family.{membersOf}
-use Rattle.design.specs.State.{columnIn, grownTo, over, on}
-use Rattle.design.proofs.Work.{size-members, Stood, stood, stood-as, pair-here, pair-keeps, work-infimum, over-infimum, work-supremum, over-supremum, work-both}
+use Rattle.rules.proofs.Bounds.{length-infimum′, length-supremum′}
+use Rattle.rules.proofs.ClassCount.{classes-most}
+use Rattle.design.specs.State.{columnIn, Placed, grownTo, over, on}
+use Rattle.design.proofs.Common.{overlay-front}
+use Rattle.design.proofs.Start.{held-on, placed-on}
+use Rattle.design.proofs.Work.{size-members, held-length, Stood, stood, stood-as, column-kept, pair-here, pair-keeps, work-infimum, over-infimum, work-supremum, over-supremum, work-both}
 use Rattle.design.proofs.closing.combine_both.Statement.{statement}
 use Rattle.design.proofs.closing.combine_both.Tie as tie
 
 -- the function's entry
-abbrev start : tie.After-place-infimum → tie.Start
-start m = m .before .before .before .before
+abbrev start : tie.After-member-bounds → tie.Start
+start m = m .before .before .before .before .before
+
+-- what an operation makes of the two members
+abbrev made : (Column → Column → Column) → tie.After-member-bounds → Column
+made op m = let s = start m in op (columnIn (s .args .n) (now (s .args .store)) (s .args .i)) (columnIn (s .args .n) (now (s .args .store)) (s .args .j))
+
+module _ (m : tie.After-member-bounds) where
+  abbrev n : ℕ
+  n = start m .args .n
+
+  -- the arrays once both are written
+  abbrev below : List ℕ
+  below = m .member-bounds .last .1 .1 .1 .1 .0
+
+  abbrev above : List ℕ
+  above = m .member-bounds .last .1 .1 .1 .1 .1 .0
+
+  -- both members have n plots
+  i-plots : length (columnIn n (now (start m .args .store)) (start m .args .i)) ≡ n
+  i-plots = held-length (start m .pre .0) (start m .args .i) (start m .pre .1)
+
+  j-plots : length (columnIn n (now (start m .args .store)) (start m .args .j)) ≡ n
+  j-plots = held-length (start m .pre .0) (start m .args .j) (omega (arith, start m .pre .1, start m .pre .2))
+
+  -- so have the infimum and the supremum
+  below-plots : length (made infimum m) ≡ n
+  below-plots = length-infimum′ n _ _ i-plots j-plots
+
+  above-plots : length (made supremum m) ≡ n
+  above-plots = length-supremum′ n _ _ i-plots j-plots
+
+  -- they stand at the front of the arrays
+  below-front : take n below ≡ made infimum m
+  below-front =
+      let l : List ℕ = replicate 240 0 in
+      ap (take n) (m .member-bounds .ensures .1 .1 .0) ∙ overlay-front n l (made infimum m) below-plots
+
+  above-front : take n above ≡ made supremum m
+  above-front =
+      let l : List ℕ = replicate 240 0 in
+      ap (take n) (m .member-bounds .ensures .1 .1 .1) ∙ overlay-front n l (made supremum m) above-plots
+
+  -- as many bytes as there are plots
+  below-length : length (take n below) ≡ n
+  below-length = ap length below-front ∙ below-plots
+
+  above-length : length (take n above) ≡ n
+  above-length = ap length above-front ∙ above-plots
+
+-- where both were written
+abbrev bounds : tie.After-place → tie.After-member-bounds
+bounds p = p .before .before .before .before .before
 
 -- where the infimum was placed
-abbrev first : tie.After-grown → tie.After-place-infimum
+abbrev first : tie.After-grown → tie.After-place
 first g = g .before .before .before .before
 
--- the infimum stands in the store
-placed : (g : tie.After-grown)
-    → let m = first g in
-    let a = start m .args in
-    Stood (a .n) (membersOf (a .n) (now (a .store)) (a .size)) (infimum (columnIn (a .n) (now (a .store)) (a .i)) (columnIn (a .n) (now (a .store)) (a .j))) (m .place-infimum .result) (m .place-infimum .last .0) (m .place-infimum .last .1 .0) (g .grown .result)
-placed g =
-    let m = first g in
-    let s = start m in
-    stood-as (g .grown .ensures) (stood (s .args .size) (size-members (s .pre .0)) (m .place-infimum .ensures) (g .before .if1 .left))
+-- the infimum was placed
+placed : (p : tie.After-place)
+    → let a = start (bounds p) .args in
+    Placed (a .n) (membersOf (a .n) (now (a .store)) (a .size)) (made infimum (bounds p)) (p .place .result) (p .place .last .0) (p .place .last .1 .0)
+placed p =
+    let m = bounds p in
+    placed-on _ (now (start m .args .store)) (start m .args .size) _ _ _ _ _ (below-front m) (below-plots m) (p .place .ensures)
+
+-- it stands in the store
+here : (g : tie.After-grown)
+    → let p = first g in
+    let a = start (bounds p) .args in
+    Stood (a .n) (membersOf (a .n) (now (a .store)) (a .size)) (made infimum (bounds p)) (p .place .result) (p .place .last .0) (p .place .last .1 .0) (g .grown .result)
+here g =
+    let p = first g in
+    let s = start (bounds p) in
+    stood-as (g .grown .ensures) (stood (s .args .size) (size-members (s .pre .0)) (placed p) (g .before .if1 .left))
 
 -- a member of the pair is within the new size
-i-in : (g : tie.After-grown) → start (first g) .args .i < g .grown .result
-i-in g = let s = start (first g) in omega (arith, placed g .more, size-members (s .pre .0), s .pre .1)
+i-in : (g : tie.After-grown) → start (bounds (first g)) .args .i < g .grown .result
+i-in g = let s = start (bounds (first g)) in omega (arith, here g .more, size-members (s .pre .0), s .pre .1)
 
 -- and the other
-j-in : (g : tie.After-grown) → start (first g) .args .j < g .grown .result
-j-in g = let s = start (first g) in omega (arith, i-in g, s .pre .2)
+j-in : (g : tie.After-grown) → start (bounds (first g)) .args .j < g .grown .result
+j-in g = let s = start (bounds (first g)) in omega (arith, i-in g, s .pre .2)
 
--- the supremum stands in the store
-placed-2 : (c : tie.Else2)
-    → let m = c .before .before .before in
-    let g = m .before .before .before in
-    let a = start (first g) .args in
-    let store = first g .place-infimum .last .0 in
-    Stood (a .n) (membersOf (a .n) store (g .grown .result)) (supremum (columnIn (a .n) store (a .i)) (columnIn (a .n) store (a .j))) (m .place-supremum .result) (m .place-supremum .last .0) (m .place-supremum .last .1 .0) (grownTo (g .grown .result) (m .place-supremum .result))
-placed-2 c =
-    let m = c .before .before .before in
-    let g = m .before .before .before in
-    stood (g .grown .result) (size-members (placed g .held)) (m .place-supremum .ensures) (c .if2 .left)
+-- the supremum of the two as they stand now
+abbrev joined : tie.After-grown → Column
+joined g =
+    let a = start (bounds (first g)) .args in
+    supremum (columnIn (a .n) (first g .place .last .0) (a .i)) (columnIn (a .n) (first g .place .last .0) (a .j))
 
-place-infimum-requires : tie.Need-place-infimum-requires
-place-infimum-requires c κs = search needs
+-- it is the one that was written
+joined-is : (g : tie.After-grown) → take (start (bounds (first g)) .args .n) (above (bounds (first g))) ≡ joined g
+joined-is g =
+    let m = bounds (first g) in
+    let s = start m in
+    above-front m ∙ sym (ap₂ supremum (column-kept (s .pre .0) (here g) (s .args .i) (s .pre .1)) (column-kept (s .pre .0) (here g) (s .args .j) (omega (arith, s .pre .1, s .pre .2))))
+
+joined-plots : (g : tie.After-grown) → length (joined g) ≡ start (bounds (first g)) .args .n
+joined-plots g = sym (ap length (joined-is g)) ∙ above-length (bounds (first g))
+
+-- where the size with the infimum was worked out
+abbrev second : tie.After-place2 → tie.After-grown
+second q = q .before .before .before .before .before
+
+-- the supremum was placed
+placed-2 : (q : tie.After-place2)
+    → let g = second q in
+    let a = start (bounds (first g)) .args in
+    Placed (a .n) (membersOf (a .n) (first g .place .last .0) (g .grown .result)) (joined g) (q .place2 .result) (q .place2 .last .0) (q .place2 .last .1 .0)
+placed-2 q =
+    let g = second q in
+    placed-on _ (first g .place .last .0) (g .grown .result) _ _ _ _ _ (joined-is g) (joined-plots g) (q .place2 .ensures)
+
+-- it stands in the store
+here-2 : (c : tie.Else2)
+    → let q = c .before .before .before in
+    let g = second q in
+    let a = start (bounds (first g)) .args in
+    Stood (a .n) (membersOf (a .n) (first g .place .last .0) (g .grown .result)) (joined g) (q .place2 .result) (q .place2 .last .0) (q .place2 .last .1 .0) (grownTo (g .grown .result) (q .place2 .result))
+here-2 c =
+    let q = c .before .before .before in
+    let g = second q in
+    stood (g .grown .result) (size-members (here g .held)) (placed-2 q) (c .if2 .left)
+
+member-bounds-requires : tie.Need-member-bounds-requires
+member-bounds-requires c κs = search needs
+
+array-share-prefix-below : tie.Need-array-share-prefix-below
+array-share-prefix-below c =
+    let m = c .before .before in
+    omega (arith, length-take (n m) (below m), below-length m)
+
+slice-aggregate-place : tie.Need-slice-aggregate-place
+slice-aggregate-place c = sym (below-length (c .before .before .before))
+
+cast-place : tie.Need-cast-place
+cast-place c =
+    let m = c .before .before .before .before in
+    omega (arith, m .member-bounds .ensures .0, classes-most (made infimum m), below-plots m, start m .pre .0 .most)
+
+place-requires : tie.Need-place-requires
+place-requires c κs =
+    let m = c .before .before .before .before in
+    (held-on _ _ _ _ _ _ (below-front m) (below-plots m) (start m .pre .0), m .member-bounds .ensures .0 ∙ ap classes (sym (below-front m)))
 
 same-length : tie.Need-same-length
 same-length c = search needs
 
 returns : tie.Need-returns
 returns c =
-    let m = c .before .before .before in
-    let s = start m in
-    (inl refl, λ Gs w. over refl (over-infimum w (s .pre .1) (s .pre .2) (m .place-infimum .ensures) (c .if1 .taken)))
+    let p = c .before .before .before in
+    let s = start (bounds p) in
+    (inl refl, λ Gs w. over refl (over-infimum w (s .pre .1) (s .pre .2) (placed p) (c .if1 .taken)))
 
 grown-requires : tie.Need-grown-requires
 grown-requires c κs = search needs
 
-place-supremum-requires : tie.Need-place-supremum-requires
-place-supremum-requires c κs =
-    let g = c .before .before in
-    (placed g .held, i-in g, j-in g)
+array-share-prefix-above : tie.Need-array-share-prefix-above
+array-share-prefix-above c =
+    let m = bounds (first (c .before .before)) in
+    omega (arith, length-take (n m) (above m), above-length m)
+
+slice-aggregate-place-2 : tie.Need-slice-aggregate-place-2
+slice-aggregate-place-2 c = sym (above-length (bounds (first (c .before .before .before))))
+
+cast-place-2 : tie.Need-cast-place-2
+cast-place-2 c =
+    let m = bounds (first (c .before .before .before .before)) in
+    omega (arith, m .member-bounds .ensures .1 .0, classes-most (made supremum m), above-plots m, start m .pre .0 .most)
+
+place-requires-2 : tie.Need-place-requires-2
+place-requires-2 c κs =
+    let g = c .before .before .before .before in
+    let m = bounds (first g) in
+    (held-on _ _ _ _ _ _ (joined-is g) (joined-plots g) (here g .held), m .member-bounds .ensures .1 .0 ∙ ap classes (sym (above-front m)))
 
 same-length-2 : tie.Need-same-length-2
 same-length-2 c = search needs
 
 returns-2 : tie.Need-returns-2
 returns-2 c =
-    let m = c .before .before .before in
-    let g = m .before .before .before in
-    let s = start (first g) in (
+    let q = c .before .before .before in
+    let g = second q in
+    let s = start (bounds (first g)) in (
       inl refl,
-      λ Gs w. over refl (over-supremum (work-infimum w (s .pre .1) (s .pre .2) (placed g)) (i-in g) (s .pre .2) (m .place-supremum .ensures) (c .if2 .taken)),
+      λ Gs w. over refl (over-supremum (work-infimum w (s .pre .1) (s .pre .2) (here g)) (i-in g) (s .pre .2) (placed-2 q) (c .if2 .taken)),
     )
 
 mul-at : tie.Need-mul-at
-mul-at c = search needs
+mul-at c =
+    let s = start (bounds (first (second (c .before .before .before)))) in
+    omega (arith, s .pre .1, s .pre .0 .few)
 
 add-at : tie.Need-add-at
-add-at c = search needs
+add-at c =
+    let s = start (bounds (first (second (c .before .before .before)))) in
+    omega (arith, s .pre .1, s .pre .2, s .pre .0 .few)
 
 cast-meets : tie.Need-cast-meets
 cast-meets c =
-    let g = c .before .before .before .before .before .before in
-    omega (arith, placed g .here, placed g .held .few)
+    let g = second (c .before .before .before) in
+    omega (arith, here g .here, here g .held .few)
 
 element-write-meets : tie.Need-element-write-meets
-element-write-meets c = search needs
+element-write-meets c =
+    let s = start (bounds (first (second (c .before .before .before)))) in
+    omega (arith, s .pre .1, s .pre .2, s .pre .0 .few)
 
 cast-joins : tie.Need-cast-joins
-cast-joins c = omega (arith, placed-2 c .here, placed-2 c .held .few)
+cast-joins c = omega (arith, here-2 c .here, here-2 c .held .few)
 
 element-write-joins : tie.Need-element-write-joins
-element-write-joins c = search needs
+element-write-joins c =
+    let s = start (bounds (first (second (c .before .before .before)))) in
+    omega (arith, s .pre .1, s .pre .2, s .pre .0 .few)
 
 grown-requires-2 : tie.Need-grown-requires-2
-grown-requires-2 c κs =
-    let g = c .before .before .before .before .before .before in
-    placed g .held .few
+grown-requires-2 c κs = here (second (c .before .before .before)) .held .few
 
 same-length-3 : tie.Need-same-length-3
 same-length-3 c = search needs
 
 returns-3 : tie.Need-returns-3
 returns-3 c =
-    let m = c .before .before .before .before in
-    let g = m .before .before .before in
-    let s = start (first g) in
+    let q = c .before .before .before .before in
+    let g = second q in
+    let s = start (bounds (first g)) in
     let a = s .args in
-    let p = placed g in
-    let q = placed-2 (c .before) in
-    let size = grownTo (g .grown .result) (m .place-supremum .result) in
-    let more : a .size ≤ size = omega (arith, p .more, size-members (s .pre .0), q .more, size-members (p .held)) in
+    let x = here g in
+    let y = here-2 (c .before) in
+    let size = grownTo (g .grown .result) (q .place2 .result) in
+    let more : a .size ≤ size = omega (arith, x .more, size-members (s .pre .0), y .more, size-members (x .held)) in
     let i-now : a .i < size = omega (arith, s .pre .1, more) in
     let j-first : a .j < a .size = omega (arith, s .pre .1, s .pre .2) in
-    let i-there : a .i < length (membersOf (a .n) (first g .place-infimum .last .0) (g .grown .result)) = omega (arith, i-in g, size-members (p .held)) in
-    let j-there : a .j < length (membersOf (a .n) (first g .place-infimum .last .0) (g .grown .result)) = omega (arith, j-in g, size-members (p .held)) in (
-      inr (rw (c .grown2 .ensures) (q .held, more)),
-      λ Gs w. on (rw (c .grown2 .ensures) (work-both i-now (s .pre .2) (pair-keeps i-there j-there q (pair-here (s .pre .0) (s .pre .1) j-first p)) (pair-here (p .held) (i-in g) (j-in g) q) (work-supremum (work-infimum w (s .pre .1) (s .pre .2) p) (i-in g) (s .pre .2) q))),
+    let i-there : a .i < length (membersOf (a .n) (first g .place .last .0) (g .grown .result)) = omega (arith, i-in g, size-members (x .held)) in
+    let j-there : a .j < length (membersOf (a .n) (first g .place .last .0) (g .grown .result)) = omega (arith, j-in g, size-members (x .held)) in (
+      inr (rw (c .grown2 .ensures) (y .held, more)),
+      λ Gs w. on (rw (c .grown2 .ensures) (work-both i-now (s .pre .2) (pair-keeps i-there j-there y (pair-here (s .pre .0) (s .pre .1) j-first x)) (pair-here (x .held) (i-in g) (j-in g) y) (work-supremum (work-infimum w (s .pre .1) (s .pre .2) x) (i-in g) (s .pre .2) y))),
     )
 
 pub combine-both-spec : {M : Type 1} → statement M
 combine-both-spec =
     tie.close
     (tie.spec
-    place-infimum-requires
+    member-bounds-requires
+    array-share-prefix-below
+    slice-aggregate-place
+    cast-place
+    place-requires
     same-length
     returns
     grown-requires
-    place-supremum-requires
+    array-share-prefix-above
+    slice-aggregate-place-2
+    cast-place-2
+    place-requires-2
     same-length-2
     returns-2
     mul-at
