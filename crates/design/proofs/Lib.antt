@@ -4,6 +4,7 @@ pub mod Order
 pub mod Common
 pub mod Placing
 pub mod Start
+pub mod Extremes
 pub mod Choosing
 pub mod Suprema
 pub mod Work
