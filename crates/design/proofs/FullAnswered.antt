@@ -12,10 +12,10 @@ use Rattle.rules.proofs.Buffer.{length-members, member-is, written-members}
 use mathlib.Core.Logic.{_⊎_, inl, inr}
 use Rattle.design.proofs.Answered.{held-over, held-on}
 use Rattle.design.proofs.Search.{pair-found, cross-found}
-use Rattle.design.specs.Search.{firstPairOf, firstCrossOf}
+use Rattle.design.specs.Search.{firstPairOf, crossFirst, crossSecond}
 use Rattle.design.specs.State.{columnIn}
 use Rattle.design.specs.Closings.{closedIn}
-use Rattle.design.specs.Treatments.{FinalFamily, too-many, listed, FirstFamily, no-first, a-first}
+use Rattle.design.specs.Treatments.{FirstFamily, no-first, a-first, orthogonalAt}
 use mathlib.Core.Path.{_≡_, refl, sym, ap, _∙_, subst, ap₂}
 use mathlib.Core.Bool.{Bool, true}
 use mathlib.Core.List.{List, [], _∷_, List·Memᴰ·head, List·Memᴰ·tail, List·Memᴰ·cases-cons}
@@ -87,23 +87,6 @@ module _ (n : ℕ) (P : Family) where
   unfolding question11
   passed-11 x S e = rw e
 
--- ---- what the families written tell
-
-module _ {R : Family} {before after : List ℕ} {r : ℕ} (f : FinalFamily R before after r) where
-  pub final-exceeds : r ≡ 33 → (32 < length R) × (after ≡ before)
-  final-exceeds e = go f
-    where
-      go : FinalFamily R before after r → (32 < length R) × (after ≡ before)
-      go (too-many q h s) = (h, s)
-      go (listed q h s) = absurd (omega arith)
-
-  pub final-fits : (r ≡ 33 → ⊥) → (r ≡ length R) × (r ≤ 32) × (after ≡ written before 0 R)
-  final-fits ne = go f
-    where
-      go : FinalFamily R before after r → (r ≡ length R) × (r ≤ 32) × (after ≡ written before 0 R)
-      go (too-many q h s) = absurd (ne q)
-      go (listed q h s) = (q, h, s)
-
 -- ---- the pairs found by place are those of the members
 
 module _ (n : ℕ) (small : n ≤ 240) where
@@ -122,15 +105,15 @@ module _ (n : ℕ) (small : n ≤ 240) where
       len = length-members n small b m
 
   pub cross-members : (a : List ℕ) (l : ℕ) (b : List ℕ) (m : ℕ)
-      → (firstCrossOf (λ i j. orthogonal n (columnIn n a i) (columnIn n b j)) l m .first ≡ firstCross (orthogonal n) 1 (membersOf n a l) (membersOf n b m) .first)
-      × (firstCrossOf (λ i j. orthogonal n (columnIn n a i) (columnIn n b j)) l m .second ≡ firstCross (orthogonal n) 1 (membersOf n a l) (membersOf n b m) .second)
+      → (crossFirst (orthogonalAt n a b) l m ≡ firstCross (orthogonal n) 1 (membersOf n a l) (membersOf n b m) .first)
+      × (crossSecond (orthogonalAt n a b) m (crossFirst (orthogonalAt n a b) l m) ≡ firstCross (orthogonal n) 1 (membersOf n a l) (membersOf n b m) .second)
   cross-members a l b m =
       subst (λ (x : ℕ). Agree x m) lenA (subst (λ (y : ℕ). Agree (length (membersOf n a l)) y) lenB
       (cross-found (orthogonal n) (membersOf n b m) test (membersOf n a l) (λ i j h k. let hi : i < l = rw lenA at h in let kj : j < m = rw lenB at k in
       sym (ap₂ (orthogonal n) (member-is n small a l i hi) (member-is n small b m j kj)))))
     where
       test : ℕ → ℕ → Bool
-      test i j = orthogonal n (columnIn n a i) (columnIn n b j)
+      test = orthogonalAt n a b
 
       lenA : length (membersOf n a l) ≡ l
       lenA = length-members n small a l
@@ -139,7 +122,7 @@ module _ (n : ℕ) (small : n ≤ 240) where
       lenB = length-members n small b m
 
       Agree : ℕ → ℕ → Type 0
-      Agree x y = (firstCrossOf test x y .first ≡ firstCross (orthogonal n) 1 (membersOf n a l) (membersOf n b m) .first) × (firstCrossOf test x y .second ≡ firstCross (orthogonal n) 1 (membersOf n a l) (membersOf n b m) .second)
+      Agree x y = (crossFirst test x y ≡ firstCross (orthogonal n) 1 (membersOf n a l) (membersOf n b m) .first) × (crossSecond test y (crossFirst test x y) ≡ firstCross (orthogonal n) 1 (membersOf n a l) (membersOf n b m) .second)
 
 -- ---- the first treatment family as it is written
 

@@ -4,8 +4,7 @@ ghost use Prim.Native.Nat.{_≤_, _<_};
 ghost use lib.ListN.{length};
 ghost use Rattle.rules.specs.Factor.{uniform, orthogonal};
 ghost use Rattle.rules.specs.Family.{membersOf, written};
-ghost use Rattle.rules.specs.Closing.{finalTreatmentFamily};
-ghost use Rattle.rules.specs.Design.{refused, question8, question9, firstFailing, plotBuffer, question11, question12, question13, question14, firstPair, firstCross, treatmentBuffer};
+ghost use Rattle.rules.specs.Design.{refused, question8, question9, firstFailing, plotBuffer, question11, question12, question13, firstPair, firstCross, treatmentBuffer};
 ghost use Rattle.design.specs.Judging.{Judging};
 ghost use Rattle.design.specs.Closings.{closedIn, Ready};
 ghost use Rattle.design.specs.Answers.{plotNumbers, plotNumbersOf, fullNumbers, fullNumbersOf, fullRefusing};
@@ -17,12 +16,14 @@ use crate::Sizes;
 use crate::closed::PlotClosing;
 use crate::closing::PAIRS;
 use crate::closing::TOO_MANY;
-use crate::pairs::first_cross;
+use crate::crossing::cross;
 use crate::pairs::first_pair;
 use crate::questions::first_apart;
 use crate::questions::first_unequal;
+use crate::sorting::sort;
+use crate::sorting::write;
 use crate::treatments::copy_family;
-use crate::treatments::final_family;
+use limits::FAMILY;
 use limits::MEMBERS;
 
 // A refusal that writes nothing.
@@ -181,31 +182,28 @@ fn from_13(
     ensures answer { λ r. ⌜ fullNumbers r ≡ fullNumbersOf (question13 (membersOf n (now («plot_family» .entry)) plot) (membersOf n (now (first .entry)) size) (firstCross (orthogonal n) 1 (membersOf n (now («plot_family» .entry)) plot) (membersOf n (now (first .entry)) size))) ⌝ }
     ensures buffer { λ _. ⌜ now («treatment_family» .exit) ≡ treatmentBuffer (now («treatment_family» .entry)) (question13 (membersOf n (now («plot_family» .entry)) plot) (membersOf n (now (first .entry)) size) (firstCross (orthogonal n) 1 (membersOf n (now («plot_family» .entry)) plot) (membersOf n (now (first .entry)) size))) ⌝ }
 {
-    let pair = first_cross(plot_family, plot, first, size, n);
-    let at = pair.first;
+    let mut store = [0u8; FAMILY];
+    let mut counts = [0u8; MEMBERS];
+    let crossed = cross(plot_family, plot, first, size, n, &mut store, &mut counts);
+    let at = crossed.first;
     if at != 0 {
-        return treatments_refused(13, at, pair.second, plot, first, size, n, treatment_family);
+        return treatments_refused(
+            13,
+            at,
+            crossed.second,
+            plot,
+            first,
+            size,
+            n,
+            treatment_family,
+        );
     }
-    from_14(plot_family, plot, first, size, n, treatment_family)
-}
-
-// Question 14.
-fn from_14(
-    plot_family: &[u8],
-    plot: usize,
-    first: &[u8],
-    size: usize,
-    n: usize,
-    treatment_family: &mut [u8],
-) -> FullDesign
-    requires { ⌜ (1 ≤ n) × (n ≤ 240) × (7680 ≤ length (now «plot_family»)) × (plot ≤ 32) × (7680 ≤ length (now first)) × (size ≤ 32) × (7680 ≤ length (now «treatment_family»)) ⌝ }
-    ensures answer { λ r. ⌜ fullNumbers r ≡ fullNumbersOf (question14 (membersOf n (now («plot_family» .entry)) plot) (membersOf n (now (first .entry)) size) (finalTreatmentFamily (membersOf n (now («plot_family» .entry)) plot) (membersOf n (now (first .entry)) size))) ⌝ }
-    ensures buffer { λ _. ⌜ now («treatment_family» .exit) ≡ treatmentBuffer (now («treatment_family» .entry)) (question14 (membersOf n (now («plot_family» .entry)) plot) (membersOf n (now (first .entry)) size) (finalTreatmentFamily (membersOf n (now («plot_family» .entry)) plot) (membersOf n (now (first .entry)) size))) ⌝ }
-{
-    let last = final_family(plot_family, plot, first, size, n, treatment_family);
+    let last = crossed.size;
     if last == TOO_MANY {
         return treatments_refused(14, 0, 0, plot, first, size, n, treatment_family);
     }
+    let order = sort(&store, &counts, n, last);
+    write(&store, &order, n, last, treatment_family);
     FullDesign::Accepted(Sizes {
         plot,
         treatment: last,
