@@ -5,3 +5,4 @@ pub mod Listing
 pub mod Rules
 pub mod Entry
 pub mod Members
+pub mod Apart

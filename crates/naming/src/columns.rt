@@ -79,6 +79,9 @@ fn outdoes(columns: &[u8], n: usize, above: u32, j: usize, i: usize) -> bool
     if !has(above, j) {
         return false;
     }
+    if j == i {
+        return false;
+    }
     if !column_finer(columns, n, j, i) {
         return false;
     }

@@ -13,6 +13,7 @@ ghost use Rattle.naming.specs.Columns.{Columns, listedBy};
 ghost use Rattle.naming.specs.Listing.{separated};
 ghost use Rattle.naming.specs.Members.{namesWritten, lengthsWritten, nameBy, Slots, extremeName};
 use crate::columns;
+use crate::extremes;
 use limits::Level;
 use limits::NAME;
 use limits::PLOTS;
@@ -114,14 +115,14 @@ fn by_infimum(
 
 // Writes `U` for one class and `E` for a class for each plot; nothing for another member.
 fn put_extreme(n: usize, member: &[u8], out: &mut [u8]) -> usize
+    requires { ⌜ (length (now member) ≡ n) × (n ≤ 240) ⌝ }
     ensures { λ r. ⌜ r ≡ placeAfter (now (out .entry)) 0 (extremeName n (now (member .entry))) ⌝ }
     ensures { λ _. ⌜ now (out .exit) ≡ written (now (out .entry)) 0 (extremeName n (now (member .entry))) ⌝ }
 {
-    let k = factor::classes(member);
-    if k == 1 {
+    if extremes::one_class(member) {
         return decimal::write_bytes(b"U", out, 0);
     }
-    if k == n {
+    if extremes::each_apart(member, n) {
         return decimal::write_bytes(b"E", out, 0);
     }
     0

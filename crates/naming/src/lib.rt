@@ -10,6 +10,7 @@ ghost use Rattle.naming.specs.Members.{familyNameable, memberName, names
 
 mod columns;
 mod compose;
+mod extremes;
 mod kinds;
 mod questions;
 

@@ -6,12 +6,13 @@ use mathlib.Core.List.{List, [], _∷_}
 use Prim.Native.Nat.{ℕ, _+_, _-_, _*_, _≤_, _<_}
 use native.Mathlib.Omega.{arith}
 use lib.Dec.{eqb}
-use lib.ListN.{length, getD, drop}
+use lib.ListN.{length, getD, drop, length-drop}
 use borrow.Author.Tests.{ne-eqb, eqb-true, eqb-false, lt-leb}
 use Rattle.rules.specs.Sheet.{all, digit, decimal, decimalFrom, noLeadingZero, isLevel}
 use Rattle.rules.specs.Limits.{mostLevel}
 use Rattle.rules.proofs.Numbering.{by-cases}
-use Rattle.rules.proofs.Sheet.{decimal-grows, level-leading, level-digit, level-large, level-none, level-is, level-least}
+use Rattle.rules.proofs.Members.{clash}
+use Rattle.rules.proofs.Sheet.{and-left, decimal-grows, level-leading, level-digit, level-large, level-none, level-is, level-least, level-most}
 use Rattle.sheet.specs.Walk.{fieldOf, noLevel, levelAt}
 use Rattle.sheet.specs.declared.field.FieldLevel.{FieldLevel}
 use Rattle.sheet.proofs.Walk.{field-none, field-tab, field-newline, field-on}
@@ -128,3 +129,52 @@ module _ (text : List ℕ) (start at v : ℕ) (d : Digits text start at v) where
           digits = sym (rw (f, b)) ∙ d .digits;
           number = more;
         }
+
+-- ---- the same walk over a level that is there, with a byte after it
+
+module _ (text : List ℕ) (start : ℕ) (l : isLevel (fieldOf (drop start text)) ≡ true) (i : length (fieldOf (drop start text)) < length (drop start text)) where
+  all-digits : all digit (fieldOf (drop start text)) ≡ true
+  all-digits = by-cases (all digit (fieldOf (drop start text))) (λ e. e) (λ e. clash l (level-digit (fieldOf (drop start text)) e))
+
+  pub known-start : Digits text start start 0
+  known-start = record {
+    leading = by-cases (noLeadingZero (fieldOf (drop start text))) (λ e. e) (λ e. clash l (level-leading (fieldOf (drop start text)) e));
+    least = level-least (fieldOf (drop start text)) l;
+    small = omega arith;
+    size = refl;
+    digits = refl;
+    number = refl;
+  }
+
+  module _ (at v : ℕ) (d : Digits text start at v) where
+    pub known-inside : at < length text
+    known-inside = omega (arith, d .size, length-drop start text)
+
+    -- the level is read
+    pub known-end : getD text at 0 < 48 → record { end = at; level = v } ≡ levelAt start (drop start text)
+    unfolding all
+    known-end h =
+        digits-end text start at v d
+        (by-cases (eqb (getD text at 0) 9)
+        (λ e. field-tab text at known-inside (eqb-true _ _ e))
+        (λ e. by-cases (eqb (getD text at 0) 10)
+        (λ k. field-newline text at known-inside (eqb-true _ _ k))
+        (λ k. clash (d .digits ∙ all-digits) (rw (field-on text at known-inside (eqb-false _ _ e) (eqb-false _ _ k), lt-leb 48 (getD text at 0) h)))))
+
+    -- one digit more of it
+    module _ (h : 48 ≤ getD text at 0) where
+      here : fieldOf (drop at text) ≡ getD text at 0 ∷ fieldOf (drop (at + 1) text)
+      here = field-on text at known-inside (λ e. omega arith) (λ e. omega arith)
+
+      is-digit : digit (getD text at 0) ≡ true
+      unfolding all
+      is-digit = and-left (digit (getD text at 0)) (all digit (fieldOf (drop (at + 1) text))) (rw here at (d .digits) ∙ all-digits)
+
+      pub known-small : 10 * v + (getD text at 0 - 48) ≤ mostLevel
+      unfolding decimalFrom
+      known-small =
+          let m : decimalFrom (10 * v + (getD text at 0 - 48)) (fieldOf (drop (at + 1) text)) ≡ decimal (fieldOf (drop start text)) = rw here at (d .number) in
+          omega (arith, m, decimal-grows (10 * v + (getD text at 0 - 48)) (fieldOf (drop (at + 1) text)), level-most (fieldOf (drop start text)) l)
+
+      pub known-on : Digits text start (at + 1) (10 * v + (getD text at 0 - 48))
+      known-on = digits-on text start at v d known-inside (λ e. omega arith) (λ e. omega arith) is-digit known-small

@@ -1,6 +1,7 @@
 pub mod Walk
 pub mod Stops
 pub mod LevelLaws
+pub mod DigitLaws
 pub mod RowLaws
 pub mod StoreLaws
 pub mod HeaderLaws

@@ -6,7 +6,7 @@ use mathlib.Core.Path.{_≡_}
 use Prim.Native.Nat.{ℕ, suc, _+_, _≤_, _<_}
 use lib.Dec.{eqb, ltb}
 use lib.ListN.{length, getD, drop}
-use Rattle.rules.specs.Sheet.{Field, tab, newline, all, upTo, has, fields, lines, isLevel, isRow, isPlotLine, decimal, decimalFrom, plotMark, treatmentMark, header, laterLines, question3, question4}
+use Rattle.rules.specs.Sheet.{Field, tab, newline, digit, all, upTo, has, fields, lines, isLevel, isRow, isPlotLine, decimal, decimalFrom, plotMark, treatmentMark, header, laterLines, question3, question4}
 use Rattle.rules.specs.Limits.{tableCells, mostPlots, mostFields}
 use Rattle.sheet.specs.declared.field.FieldLevel.{FieldLevel}
 
@@ -14,6 +14,11 @@ use Rattle.sheet.specs.declared.field.FieldLevel.{FieldLevel}
 unfoldable pub fieldOf : List ℕ → Field
 fieldOf [] = []
 fieldOf (x ∷ xs) = elim (eqb x tab || eqb x newline) [ true ↦ [] | false ↦ x ∷ fieldOf xs ]
+
+-- the digits that xs starts with
+unfoldable pub digitsOf : List ℕ → List ℕ
+digitsOf [] = []
+digitsOf (x ∷ xs) = elim (digit x) [ true ↦ x ∷ digitsOf xs | false ↦ [] ]
 
 abbrev pub noLevel : FieldLevel
 noLevel = record { end = 0; level = 0 }

@@ -1,10 +1,11 @@
 // Fields: where one ends, and whether it is a level, a name or a column.
 ghost use mathlib.Core.Path.{_≡_};
-ghost use Prim.Native.Nat.{_+_, _≤_};
+ghost use mathlib.Core.Bool.{true};
+ghost use Prim.Native.Nat.{_+_, _≤_, _<_};
 ghost use lib.ListN.{length, drop};
 ghost use lib.Seq.{slice};
-ghost use Rattle.rules.specs.Sheet.{letter as isLetter, letterOrDigit, isName, isColumn, sameBytes};
-ghost use Rattle.sheet.specs.Walk.{fieldOf, levelAt, noLevel, isMark};
+ghost use Rattle.rules.specs.Sheet.{all, digit, isLevel, letter as isLetter, letterOrDigit, isName, isColumn, sameBytes};
+ghost use Rattle.sheet.specs.Walk.{fieldOf, digitsOf, levelAt, noLevel, isMark};
 use limits::LEVEL;
 
 // The end of the field that starts at `at`: the place of the next byte 9 or 10, or the text's length.
@@ -19,6 +20,24 @@ pub fn end_of(text: &[u8], start: usize) -> usize
         }
         if x == b'\n' {
             return at;
+        }
+        at += 1;
+    }
+    at
+}
+
+// The end of the digits that start at `start`: the place of the next byte that is no digit, or the text's length.
+pub fn digits_end(text: &[u8], start: usize) -> usize
+    ensures { λ r. ⌜ r ≡ start + length (digitsOf (drop start (now (text .entry)))) ⌝ }
+{
+    let mut at = start;
+    while at < text.len() {
+        let x = text[at];
+        if x < b'0' {
+            break;
+        }
+        if b'9' < x {
+            break;
         }
         at += 1;
     }
@@ -74,6 +93,43 @@ fn no_level() -> FieldLevel
     ensures { λ r. ⌜ r ≡ noLevel ⌝ }
 {
     FieldLevel { end: 0, level: 0 }
+}
+
+// Whether the field from `start` to `stop`, which is digits alone, is a level. The number is read only where it has digits enough to
+// be too large.
+pub fn is_level(text: &[u8], start: usize, stop: usize) -> bool
+    requires { ⌜ (stop ≤ length (now text)) × (stop ≡ start + length (fieldOf (drop start (now text)))) × (all digit (fieldOf (drop start (now text))) ≡ true) ⌝ }
+    ensures { λ r. ⌜ r ≡ isLevel (fieldOf (drop start (now (text .entry)))) ⌝ }
+{
+    if stop <= start {
+        return false;
+    }
+    if text[start] == b'0' {
+        return false;
+    }
+    if stop - start < 5 {
+        return true;
+    }
+    let found = read_level(text, start);
+    found.level != 0
+}
+
+// Reads the level that starts at `start`, where there is one and a byte after it: the first byte below the digits ends it.
+pub fn known_level(text: &[u8], start: usize) -> FieldLevel
+    requires { ⌜ (isLevel (fieldOf (drop start (now text))) ≡ true) × (length (fieldOf (drop start (now text))) < length (drop start (now text))) ⌝ }
+    ensures { λ r. ⌜ r ≡ levelAt start (drop start (now (text .entry))) ⌝ }
+{
+    let mut at = start;
+    let mut v: u32 = 0;
+    loop {
+        let x = text[at];
+        if x < b'0' {
+            let level = v as u16;
+            return FieldLevel { end: at, level };
+        }
+        v = 10 * v + (x - b'0') as u32;
+        at += 1;
+    }
 }
 
 // Whether a byte is a letter.

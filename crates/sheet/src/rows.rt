@@ -1,9 +1,11 @@
 // The later lines.
 use crate::field;
 ghost use mathlib.Core.Path.{_≡_};
+ghost use mathlib.Core.Bool.{true, _||_};
 ghost use Prim.Native.Nat.{suc, _+_, _≤_};
+ghost use lib.Dec.{eqb};
 ghost use lib.ListN.{length, take, drop};
-ghost use Rattle.rules.specs.Sheet.{newline, upTo, fields, lines, withPlot, withPlots};
+ghost use Rattle.rules.specs.Sheet.{tab, newline, upTo, fields, lines, withPlot, withPlots};
 ghost use Rattle.sheet.specs.Walk.{levelEnd, rowEnd, StoreAll, StoreRow};
 ghost use Rattle.sheet.specs.Answers.{judged};
 use limits::PLOTS;
@@ -51,18 +53,17 @@ fn row_end(text: &[u8], start: usize, n: usize) -> usize
 
 // The place after the level that starts at `start` and the byte `stop` after it; 0 where these are not there.
 fn level_end(text: &[u8], start: usize, stop: u8) -> usize
+    requires { ⌜ (eqb stop tab || eqb stop newline) ≡ true ⌝ }
     ensures { λ r. ⌜ r ≡ levelEnd stop start (drop start (now (text .entry))) ⌝ }
 {
-    let found = field::read_level(text, start);
-    let level = found.level;
-    if level == 0 {
-        return 0;
-    }
-    let e = found.end;
+    let e = field::digits_end(text, start);
     if text.len() <= e {
         return 0;
     }
     if text[e] != stop {
+        return 0;
+    }
+    if !field::is_level(text, start, e) {
         return 0;
     }
     e + 1
@@ -101,7 +102,7 @@ fn store_row(
 {
     let mut at = start;
     for i in 0..n {
-        let found = field::read_level(text, at);
+        let found = field::known_level(text, at);
         let level = found.level;
         let column = columns[i];
         levels[PLOTS * column + u] = level;

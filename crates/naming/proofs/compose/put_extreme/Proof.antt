@@ -1,4 +1,4 @@
--- `put_extreme` meets its contract: the number of classes tells U and E.
+-- `put_extreme` meets its contract: the tests tell U and E.
 -- Assumes nothing.
 use mathlib.Core.Path.{sym, ap, _∙_}
 use denote.Ref.{now}
@@ -6,11 +6,15 @@ use Rattle.decimal.specs.Writing.{written, placeAfter}
 use Rattle.decimal.proofs.Writing.{written-nil, place-nil}
 use Rattle.naming.proofs.Members.{extreme-one, extreme-all, extreme-no}
 use borrow.Author.Needs.{needs}
+use borrow.Author.Tests.{eqb-true, eqb-false}
 use Rattle.naming.proofs.compose.put_extreme.Statement.{statement}
 use Rattle.naming.proofs.compose.put_extreme.Tie as tie
 
-classes-requires : tie.Need-classes-requires
-classes-requires c κs = search needs
+one-class-requires : tie.Need-one-class-requires
+one-class-requires c κs = search needs
+
+each-apart-requires : tie.Need-each-apart-requires
+each-apart-requires c κs = c .before .before .before .before .pre
 
 slice-aggregate-write-bytes : tie.Need-slice-aggregate-write-bytes
 slice-aggregate-write-bytes c = search needs
@@ -25,8 +29,8 @@ returns : tie.Need-returns
 returns c =
     let a = c .before .before .before .before .before .before .before .before .before .args in
     let out = now (a .out) in
-    let k = c .before .before .before .before .before .before .classes in
-    let q = sym (extreme-one (a .n) (now (a .member)) (sym (k .ensures) ∙ c .before .before .before .before .before .if1 .taken)) in
+    let e = sym (c .before .before .before .before .before .before .one-class .ensures) ∙ c .before .before .before .before .before .if1 .taken in
+    let q = sym (extreme-one (a .n) (now (a .member)) (eqb-true _ _ e)) in
     let w = c .before .before .write-bytes .ensures in
     (w .0 ∙ ap (placeAfter out 0) q, w .1 ∙ ap (written out 0) q)
 
@@ -41,30 +45,33 @@ same-length-2 c = search needs
 
 returns-2 : tie.Need-returns-2
 returns-2 c =
-    let a = c .before .before .before .before .before .before .before .before .before .before .args in
+    let a = c .before .before .before .before .before .before .before .before .before .before .before .args in
     let out = now (a .out) in
-    let k = c .before .before .before .before .before .before .before .classes in
-    let q = sym (extreme-all (a .n) (now (a .member)) (λ z. c .before .before .before .before .before .before .if1 .left (k .ensures ∙ z)) (sym (k .ensures) ∙ c .before .before .before .before .before .if2 .taken)) in
+    let d = sym (c .before .before .before .before .before .before .before .before .one-class .ensures) ∙ c .before .before .before .before .before .before .before .if1 .left in
+    let e = sym (c .before .before .before .before .before .before .each-apart .ensures) ∙ c .before .before .before .before .before .if2 .taken in
+    let q = sym (extreme-all (a .n) (now (a .member)) (eqb-false _ _ d) (eqb-true _ _ e)) in
     let w = c .before .before .write-bytes2 .ensures in
     (w .0 ∙ ap (placeAfter out 0) q, w .1 ∙ ap (written out 0) q)
 
 returns-3 : tie.Need-returns-3
 returns-3 c =
-    let a = c .before .before .before .before .before .args in
+    let a = c .before .before .before .before .before .before .args in
     let out = now (a .out) in
-    let k = c .before .before .classes in
-    let q = extreme-no (a .n) (now (a .member)) (λ z. c .before .if1 .left (k .ensures ∙ z)) (λ z. c .if2 .left (k .ensures ∙ z)) in
+    let d = sym (c .before .before .before .one-class .ensures) ∙ c .before .before .if1 .left in
+    let e = sym (c .before .each-apart .ensures) ∙ c .if2 .left in
+    let q = extreme-no (a .n) (now (a .member)) (eqb-false _ _ d) (eqb-false _ _ e) in
     (sym (ap (placeAfter out 0) q ∙ place-nil out 0), sym (ap (written out 0) q ∙ written-nil out 0))
 
 pub put-extreme-spec : {M : Type 1} → statement M
 put-extreme-spec =
     tie.close
     (tie.spec
-    classes-requires
+    one-class-requires
     slice-aggregate-write-bytes
     write-bytes-requires
     same-length
     returns
+    each-apart-requires
     slice-aggregate-write-bytes-2
     write-bytes-requires-2
     same-length-2

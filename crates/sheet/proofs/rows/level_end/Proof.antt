@@ -1,77 +1,102 @@
 -- `sheet::rows::level_end` meets its contract.
 -- Assumes nothing.
 use Prim.Native.Nat.{ℕ, _+_}
-use mathlib.Core.Path.{_≡_, sym}
-use mathlib.Core.Bool.{true}
+use mathlib.Core.Path.{_≡_, refl, sym, ap, _∙_}
+use mathlib.Core.Bool.{true, _||_}
 use mathlib.Core.List.{List}
 use native.Mathlib.Omega.{arith}
 use borrow.Author.Needs.{needs}
+use borrow.Author.Tests.{not-true, not-false}
 use denote.Ref.{now}
-use lib.ListN.{length, drop}
-use Rattle.rules.specs.Sheet.{isLevel}
-use Rattle.sheet.specs.Walk.{fieldOf}
-use Rattle.sheet.proofs.LevelLaws.{level-not, level-yes, level-ends}
+use lib.Dec.{eqb}
+use lib.ListN.{length, getD, drop}
+use Rattle.rules.specs.Sheet.{all, digit}
+use Rattle.rules.proofs.Numbering.{by-cases}
+use Rattle.sheet.specs.Walk.{fieldOf, digitsOf, levelThere}
+use Rattle.sheet.proofs.DigitLaws.{digits-all, digits-far, digits-stop, digits-other}
 use Rattle.sheet.proofs.RowLaws.{level-bad, level-far, level-other, level-good, level-end-off, level-end-at}
 use Rattle.sheet.proofs.rows.level_end.Statement.{statement}
 use Rattle.sheet.proofs.rows.level_end.Tie as tie
 
--- there is a level
-module _ (c : tie.Else1) where
+-- where the digits end
+module _ (c : tie.After-digits-end) where
   abbrev text : List ℕ
-  text = now (c .before .before .before .args .text)
+  text = now (c .before .before .args .text)
 
   abbrev start : ℕ
-  start = c .before .before .before .args .start
+  start = c .before .before .args .start
 
-  found : isLevel (fieldOf (drop start text)) ≡ true
-  found = level-yes start (drop start text) (c .before .read-level .result) (c .before .read-level .ensures) (c .if1 .left)
+  abbrev stop : ℕ
+  stop = c .before .before .args .stop
 
-  place : c .before .read-level .result .end ≡ start + length (fieldOf (drop start text))
-  place = level-ends start (drop start text) (c .before .read-level .result) (c .before .read-level .ensures) found
+  abbrev end : ℕ
+  end = c .digits-end .result
 
-read-level-requires : tie.Need-read-level-requires
-read-level-requires c κs = search needs
+  -- the field ends there too
+  whole : fieldOf (drop start text) ≡ digitsOf (drop start text) → end ≡ start + length (fieldOf (drop start text))
+  whole e = c .digits-end .ensures ∙ ap (λ (f : List ℕ). start + length f) (sym e)
+
+digits-end-requires : tie.Need-digits-end-requires
+digits-end-requires c κs = search needs
 
 returns : tie.Need-returns
 returns c =
-    let s = c .before .before .before .args in
-    let xs = drop (s .start) (now (s .text)) in
-    sym (level-end-off (s .stop) (s .start) xs (level-bad (s .stop) (s .start) xs (level-not (s .start) xs (c .before .read-level .result) (c .before .read-level .ensures) (c .if1 .taken))))
+    let d = c .before in
+    let e = whole d (digits-far (text d) (start d) (end d) (d .digits-end .ensures) (omega arith)) in
+    sym (level-end-off (stop d) (start d) (drop (start d) (text d)) (level-far (text d) (start d) (end d) (stop d) e (omega arith)))
+
+shared-slice-read-if2 : tie.Need-shared-slice-read-if2
+shared-slice-read-if2 c = omega arith
 
 returns-2 : tie.Need-returns-2
 returns-2 c =
-    let d = c .before in
-    let s = d .before .before .before .args in
-    sym (level-end-off (s .stop) (s .start) (drop (s .start) (text d)) (level-far (text d) (s .start) (d .before .read-level .result .end) (s .stop) (place d) (omega arith)))
+    let d = c .before .before .before in
+    let xs = drop (start d) (text d) in
+    sym (level-end-off (stop d) (start d) xs
+    (by-cases (eqb (getD (text d) (end d) 0) 9 || eqb (getD (text d) (end d) 0) 10)
+    (λ b. level-other (text d) (start d) (end d) (stop d) (whole d (digits-stop (text d) (start d) (end d) (d .digits-end .ensures) b)) (c .if2 .taken))
+    (λ b. level-bad (stop d) (start d) xs (digits-other (text d) (start d) (end d) (d .digits-end .ensures) (omega arith) b))))
 
-shared-slice-read-if3 : tie.Need-shared-slice-read-if3
-shared-slice-read-if3 c = omega arith
+-- the byte after the digits ends the field
+module _ (c : tie.Else2) where
+  ends : fieldOf (drop (start (c .before .before .before)) (text (c .before .before .before))) ≡ digitsOf (drop (start (c .before .before .before)) (text (c .before .before .before)))
+  ends =
+      let d = c .before .before .before in
+      digits-stop (text d) (start d) (end d) (d .digits-end .ensures) (rw (c .if2 .left) (d .before .before .pre))
+
+  place : end (c .before .before .before) ≡ start (c .before .before .before) + length (fieldOf (drop (start (c .before .before .before)) (text (c .before .before .before))))
+  place = whole (c .before .before .before) ends
+
+is-level-requires : tie.Need-is-level-requires
+is-level-requires c κs = (omega arith, place c, rw (ends c) (digits-all (drop (start (c .before .before .before)) (text (c .before .before .before)))))
 
 returns-3 : tie.Need-returns-3
 returns-3 c =
-    let d = c .before .before .before in
-    let s = d .before .before .before .args in
-    sym (level-end-off (s .stop) (s .start) (drop (s .start) (text d)) (level-other (text d) (s .start) (d .before .read-level .result .end) (s .stop) (place d) (c .if3 .taken)))
+    let d = c .before .before .before .before .before in
+    let xs = drop (start d) (text d) in
+    sym (level-end-off (stop d) (start d) xs (level-bad (stop d) (start d) xs (sym (c .before .is-level .ensures) ∙ not-true _ (c .if3 .taken))))
 
 add-result : tie.Need-add-result
 add-result c = omega arith
 
 returns-4 : tie.Need-returns-4
 returns-4 c =
-    let d = c .before .before .before in
-    let s = d .before .before .before .args in
-    let g = level-good (text d) (s .start) (d .before .read-level .result .end) (s .stop) (place d) (omega arith) (c .if3 .left) (found d) in
-    let e = level-end-at (s .stop) (s .start) (drop (s .start) (text d)) g in
-    omega (arith, e, place d)
+    let b = c .before .before in
+    let d = b .before .before .before in
+    let found = sym (c .before .is-level .ensures) ∙ not-false _ (c .if3 .left) in
+    let g = level-good (text d) (start d) (end d) (stop d) (place b) (omega arith) (b .if2 .left) found in
+    let e = level-end-at (stop d) (start d) (drop (start d) (text d)) g in
+    omega (arith, e, place b)
 
 pub level-end-spec : {M : Type 1} → statement M
 level-end-spec =
     tie.close
     (tie.spec
-    read-level-requires
+    digits-end-requires
     returns
+    shared-slice-read-if2
     returns-2
-    shared-slice-read-if3
+    is-level-requires
     returns-3
     add-result
     returns-4)

@@ -1,9 +1,8 @@
 -- `sheet::rows::row_end` meets its contract. The loop's invariant: the line ends where the rest of it does.
 -- Assumes nothing.
 use Prim.Native.Nat.{suc, _+_, _-_, _≤_}
-use mathlib.Core.Path.{_≡_, sym, _∙_}
+use mathlib.Core.Path.{_≡_, refl, sym, _∙_}
 use native.Mathlib.Omega.{arith}
-use borrow.Author.Needs.{needs}
 use denote.Ref.{now}
 use lib.ListN.{drop}
 use Rattle.sheet.specs.Walk.{rowEnd}
@@ -24,7 +23,7 @@ loop-holds c =
     (omega arith, omega arith, rw e)
 
 level-end-requires : tie.Need-level-end-requires Inv-loop μ-loop
-level-end-requires c κs = search needs
+level-end-requires c κs = refl
 
 returns : tie.Need-returns Inv-loop μ-loop
 returns c =
@@ -52,7 +51,7 @@ loop-again c =
     (omega arith, omega arith, sym r ∙ (rw m at (b .loop .inv .2)))
 
 level-end-requires-2 : tie.Need-level-end-requires-2 Inv-loop μ-loop
-level-end-requires-2 c κs = search needs
+level-end-requires-2 c κs = refl
 
 returns-2 : tie.Need-returns-2 Inv-loop μ-loop
 returns-2 c =

@@ -26,7 +26,7 @@ abbrev μ-loop : tie.MeasureT-loop
 μ-loop text start columns n u levels₀ at₀ i₀ levels at i = n - i
 
 -- the field at hand is a level inside the text
-module _ (c : tie.After-read-level Inv-loop μ-loop) where
+module _ (c : tie.After-known-level Inv-loop μ-loop) where
   abbrev text : List ℕ
   text = now (c .before .before .before .before .before .before .args .text)
 
@@ -43,17 +43,17 @@ module _ (c : tie.After-read-level Inv-loop μ-loop) where
   found : isLevel (fieldOf (drop at text)) ≡ true
   found = left-level _ (drop at text) here
 
-  place-after : c .read-level .result .end ≡ at + length (fieldOf (drop at text))
-  place-after = level-ends at (drop at text) (c .read-level .result) (c .read-level .ensures) found
+  place-after : c .known-level .result .end ≡ at + length (fieldOf (drop at text))
+  place-after = level-ends at (drop at text) (c .known-level .result) (c .known-level .ensures) found
 
-  number : c .read-level .result .level ≡ decimal (fieldOf (drop at text))
-  number = level-number at (drop at text) (c .read-level .result) (c .read-level .ensures) found
+  number : c .known-level .result .level ≡ decimal (fieldOf (drop at text))
+  number = level-number at (drop at text) (c .known-level .result) (c .known-level .ensures) found
 
-  inside : c .read-level .result .end < length text
+  inside : c .known-level .result .end < length text
   inside = let k = left-inside _ (drop at text) here in omega (arith, place-after, length-drop at text)
 
 -- there is a column for each field
-columns-fit : (c : tie.After-read-level Inv-loop μ-loop) → c .before .before .before .before .before .before .args .n ≤ length (now (c .before .before .before .before .before .before .args .columns))
+columns-fit : (c : tie.After-known-level Inv-loop μ-loop) → c .before .before .before .before .before .before .args .n ≤ length (now (c .before .before .before .before .before .before .args .columns))
 columns-fit c =
     let s = c .before .before .before .before .before .before in
     omega (arith, s .pre .size, length-take (s .args .n) (now (s .args .columns)))
@@ -74,8 +74,13 @@ loop-holds c =
     let l = left-start (a .n) (take (a .n) (now (a .columns))) (a .u) (drop (a .start) (now (a .text))) (a .start) (now (a .levels)) (s .pre .some) (s .pre .form) in
     (omega arith, refl, rw sub-zero l)
 
-read-level-requires : tie.Need-read-level-requires Inv-loop μ-loop
-read-level-requires c κs = search needs
+known-level-requires : tie.Need-known-level-requires Inv-loop μ-loop
+known-level-requires c κs =
+    let b = c .before in
+    let a = b .before .before .before .before .args in
+    let m : a .n - b .loop .i ≡ suc (a .n - (b .loop .i + 1)) = omega arith in
+    let here = (rw m at (b .loop .inv .2)) .0 in
+    (left-level _ (drop (b .loop .at) (now (a .text))) here, left-inside _ (drop (b .loop .at) (now (a .text))) here)
 
 mul-column : tie.Need-mul-column Inv-loop μ-loop
 mul-column c = let e = columns-fit c in omega arith
@@ -118,7 +123,7 @@ loop-again c =
     let d : drop i cs ≡ getD (now (a .columns)) i 0 ∷ drop (i + 1) cs = rw (add-one, ← v) (drop-cons cs i 0 h) in
     let m : a .n - i ≡ suc (a .n - (i + 1)) = omega arith in
     let l = rw (m, d) at (b .loop .inv .2) in
-    let r = left-turn (getD (now (a .columns)) i 0) (drop (i + 1) cs) (a .u) (now (a .text)) (b .loop .at) (c .before .before .read-level .result .end) (b .loop .levels)
+    let r = left-turn (getD (now (a .columns)) i 0) (drop (i + 1) cs) (a .u) (now (a .text)) (b .loop .at) (c .before .before .known-level .result .end) (b .loop .levels)
     (withPlot cs (a .u) (fields (upTo 10 (drop (a .start) (now (a .text))))) (now (a .levels))) (a .start + suc (length (upTo 10 (drop (a .start) (now (a .text))))))
     (place-after (c .before .before)) (a .n - (i + 1)) l in
     (omega arith, simp length-set (b .loop .inv .1), rw (number (c .before .before)) r)
@@ -141,7 +146,7 @@ store-row-spec =
     Inv-loop
     μ-loop
     loop-holds
-    read-level-requires
+    known-level-requires
     mul-column
     shared-slice-read-column
     mul-levels

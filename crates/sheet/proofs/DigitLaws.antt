@@ -1,0 +1,179 @@
+-- Laws of a walk over digits: how they stand to the field, and how many are sure to be a level.
+-- Assumes nothing.
+use mathlib.Core.Path.{_≡_, refl, sym, ap, _∙_}
+use mathlib.Core.Bool.{Bool, true, false, _&&_, _||_}
+use mathlib.Core.List.{List, [], _∷_}
+use Prim.Native.Nat.{ℕ, suc, _+_, _-_, _*_, _≤_, _<_}
+use native.Mathlib.Omega.{arith}
+use native.Mathlib.Nat.{le-of-suc-le-suc, not-suc-le-zero}
+use native.Mathlib.Numerals.{add-one}
+use lib.Dec.{eqb, leb}
+use lib.ListN.{length, getD, drop, drop-of-length-le, length-drop}
+use lib.Seq.{drop-cons, getD-drop}
+use borrow.Author.Tests.{ne-eqb, eqb-true, eqb-false, leb-true}
+use Rattle.rules.specs.Sheet.{all, digit, decimal, decimalFrom, noLeadingZero, isLevel}
+use Rattle.rules.specs.Limits.{mostLevel}
+use Rattle.rules.proofs.Numbering.{by-cases}
+use Rattle.rules.proofs.Members.{clash}
+use Rattle.rules.proofs.Sheet.{and-left, and-right, decimal-grows, level-leading, level-digit, level-none, level-is}
+use Rattle.sheet.specs.Walk.{fieldOf, digitsOf}
+use Rattle.sheet.proofs.Walk.{field-tab, field-newline, field-on}
+
+-- ---- a digit more
+
+module _ (xs : List ℕ) (at : ℕ) where
+  pub digits-none : length xs ≤ at → digitsOf (drop at xs) ≡ []
+  unfolding digitsOf
+  digits-none h = rw (drop-of-length-le xs h)
+
+  pub digits-off : at < length xs → digit (getD xs at 0) ≡ false → digitsOf (drop at xs) ≡ []
+  unfolding digitsOf
+  digits-off h e = rw (drop-cons xs at 0 h, e, digitsOf)
+
+  pub digits-more : at < length xs → digit (getD xs at 0) ≡ true → digitsOf (drop at xs) ≡ getD xs at 0 ∷ digitsOf (drop (at + 1) xs)
+  unfolding digitsOf
+  digits-more h e = rw (add-one, drop-cons xs at 0 h, e, digitsOf)
+
+-- a digit is from 48 to 57
+pub digit-least : (x : ℕ) → digit x ≡ true → 48 ≤ x
+digit-least x e = leb-true 48 x (and-left (leb 48 x) (leb x 57) e)
+
+pub digit-most : (x : ℕ) → digit x ≡ true → x ≤ 57
+digit-most x e = leb-true x 57 (and-right (leb 48 x) (leb x 57) e)
+
+-- ---- digits and the field
+
+pub digits-all : (xs : List ℕ) → all digit (digitsOf xs) ≡ true
+unfolding digitsOf all
+digits-all [] = refl
+digits-all (x ∷ xs) = go (digit x) refl (digits-all xs)
+  where
+    go : (b : Bool) → digit x ≡ b → all digit (digitsOf xs) ≡ true → all digit (digitsOf (x ∷ xs)) ≡ true
+    go true e h = rw (e, digitsOf, all, e) h
+    go false e h = rw (e, digitsOf)
+
+-- no byte of a field is after the digits
+pub digits-field : (xs : List ℕ) → (length (digitsOf xs) < length xs → (eqb (getD xs (length (digitsOf xs)) 0) 9 || eqb (getD xs (length (digitsOf xs)) 0) 10) ≡ true) → fieldOf xs ≡ digitsOf xs
+unfolding digitsOf fieldOf
+digits-field [] n = refl
+digits-field (x ∷ xs) n = go (digit x) refl (digits-field xs)
+  where
+    go : (b : Bool) → digit x ≡ b
+        → ((length (digitsOf xs) < length xs → (eqb (getD xs (length (digitsOf xs)) 0) 9 || eqb (getD xs (length (digitsOf xs)) 0) 10) ≡ true) → fieldOf xs ≡ digitsOf xs)
+        → fieldOf (x ∷ xs) ≡ digitsOf (x ∷ xs)
+    go true e h =
+        let l = digit-least x e in
+        let d : digitsOf (x ∷ xs) ≡ x ∷ digitsOf xs = rw (e, digitsOf) in
+        let f : fieldOf (x ∷ xs) ≡ x ∷ fieldOf xs = rw (ne-eqb x 9 (λ z. omega arith), ne-eqb x 10 (λ z. omega arith), fieldOf) in
+        f ∙ ap (λ (r : List ℕ). x ∷ r) (h (λ k. (rw d at n) (omega arith))) ∙ sym d
+    go false e h =
+        let d : digitsOf (x ∷ xs) ≡ [] = rw (e, digitsOf) in
+        let k : (eqb x 9 || eqb x 10) ≡ true = (rw d at n) (omega arith) in
+        rw (k, fieldOf) (sym d)
+
+-- another byte is after them
+pub digits-then : (xs : List ℕ) → length (digitsOf xs) < length xs → (getD xs (length (digitsOf xs)) 0 ≡ 9 → ⊥) → (getD xs (length (digitsOf xs)) 0 ≡ 10 → ⊥) → all digit (fieldOf xs) ≡ false
+unfolding digitsOf fieldOf all
+digits-then [] l p q = absurd (not-suc-le-zero l)
+digits-then (x ∷ xs) l p q = go (digit x) refl (digits-then xs)
+  where
+    go : (b : Bool) → digit x ≡ b
+        → (length (digitsOf xs) < length xs → (getD xs (length (digitsOf xs)) 0 ≡ 9 → ⊥) → (getD xs (length (digitsOf xs)) 0 ≡ 10 → ⊥) → all digit (fieldOf xs) ≡ false)
+        → all digit (fieldOf (x ∷ xs)) ≡ false
+    go true e h =
+        let k = digit-least x e in
+        let d : digitsOf (x ∷ xs) ≡ x ∷ digitsOf xs = rw (e, digitsOf) in
+        let f : fieldOf (x ∷ xs) ≡ x ∷ fieldOf xs = rw (ne-eqb x 9 (λ z. omega arith), ne-eqb x 10 (λ z. omega arith), fieldOf) in
+        rw (f, all, e) (h (le-of-suc-le-suc (rw d at l)) (rw d at p) (rw d at q))
+    go false e h =
+        let d : digitsOf (x ∷ xs) ≡ [] = rw (e, digitsOf) in
+        let f : fieldOf (x ∷ xs) ≡ x ∷ fieldOf xs = rw (ne-eqb x 9 (rw d at p), ne-eqb x 10 (rw d at q), fieldOf) in
+        rw (f, all, e)
+
+-- ---- levels of few digits
+
+module _ (x : ℕ) (f : List ℕ) (e : all digit (x ∷ f) ≡ true) where
+  all-first : digit x ≡ true
+  unfolding all
+  all-first = and-left (digit x) (all digit f) e
+
+  all-rest : all digit f ≡ true
+  unfolding all
+  all-rest = and-right (digit x) (all digit f) e
+
+-- a number of k digits more grows at most so
+grown : (v : ℕ) (f : List ℕ) → all digit f ≡ true → length f ≤ 3 → v ≤ 9 → decimalFrom v f ≤ 9999
+unfolding decimalFrom
+grown v [] e l h = omega arith
+grown v (a ∷ []) e l h = omega (arith, digit-most a (all-first a [] e))
+grown v (a ∷ b ∷ []) e l h =
+    let r = all-rest a (b ∷ []) e in
+    omega (arith, digit-most a (all-first a (b ∷ []) e), digit-most b (all-first b [] r))
+grown v (a ∷ b ∷ c ∷ []) e l h =
+    let r = all-rest a (b ∷ c ∷ []) e in
+    let s = all-rest b (c ∷ []) r in
+    omega (arith, digit-most a (all-first a (b ∷ c ∷ []) e), digit-most b (all-first b (c ∷ []) r), digit-most c (all-first c [] s))
+grown v (a ∷ b ∷ c ∷ d ∷ f) e l h = absurd (not-suc-le-zero (le-of-suc-le-suc (le-of-suc-le-suc (le-of-suc-le-suc l))))
+
+-- one to four digits, the first not 0
+pub digits-few : (x : ℕ) (f : List ℕ) → all digit (x ∷ f) ≡ true → (x ≡ 48 → ⊥) → length f ≤ 3 → isLevel (x ∷ f) ≡ true
+unfolding noLeadingZero decimalFrom
+digits-few x f e n l =
+    let d = all-first x f e in
+    let low = digit-least x d in
+    let high = digit-most x d in
+    let first : 1 ≤ 10 * 0 + (x - 48) = first-least low in
+    level-is (x ∷ f) (rw (ne-eqb x 48 n)) e (omega (arith, decimal-grows (10 * 0 + (x - 48)) f)) (omega (arith, grown (10 * 0 + (x - 48)) f (all-rest x f e) l (omega arith)))
+  where
+    first-least : 48 ≤ x → 1 ≤ 10 * 0 + (x - 48)
+    first-least h = by-cases (eqb x 48) (λ z. absurd (n (eqb-true x 48 z))) (λ z. let y = eqb-false x 48 z in omega arith)
+
+-- ---- a field of digits, by its length
+
+pub level-empty : (f : List ℕ) → length f ≡ 0 → isLevel f ≡ false
+unfolding decimalFrom
+level-empty [] e = level-none [] refl
+level-empty (x ∷ f) e = absurd (no e)
+  where
+    no : suc (length f) ≡ 0 → ⊥
+    no e = omega arith
+
+module _ (text : List ℕ) (start : ℕ) (h : start < length text) (some : 1 ≤ length (fieldOf (drop start text))) where
+  first : fieldOf (drop start text) ≡ getD text start 0 ∷ fieldOf (drop (start + 1) text)
+  first = field-on text start h (λ e. omega (arith, ap length (field-tab text start h e))) (λ e. omega (arith, ap length (field-newline text start h e)))
+
+  pub level-zero : getD text start 0 ≡ 48 → isLevel (fieldOf (drop start text)) ≡ false
+  unfolding noLeadingZero
+  level-zero e = level-leading (fieldOf (drop start text)) (rw (first, e))
+
+  pub level-few : all digit (fieldOf (drop start text)) ≡ true → (getD text start 0 ≡ 48 → ⊥) → length (fieldOf (drop start text)) < 5 → isLevel (fieldOf (drop start text)) ≡ true
+  level-few a n l =
+      let f = fieldOf (drop (start + 1) text) in
+      rw first (digits-few (getD text start 0) f (rw first at a) n (omega (arith, ap length first)))
+
+-- ---- the end of the digits and the end of the field
+
+module _ (text : List ℕ) (start e : ℕ) (d : e ≡ start + length (digitsOf (drop start text))) where
+  after : getD text e 0 ≡ getD (drop start text) (length (digitsOf (drop start text))) 0
+  after = rw d (sym (getD-drop start text (length (digitsOf (drop start text))) 0))
+
+  pub digits-far : length text ≤ e → fieldOf (drop start text) ≡ digitsOf (drop start text)
+  digits-far h = digits-field (drop start text) (λ l. absurd (no l))
+    where
+      no : length (digitsOf (drop start text)) < length (drop start text) → ⊥
+      no l = omega (arith, length-drop start text)
+
+  pub digits-stop : (eqb (getD text e 0) 9 || eqb (getD text e 0) 10) ≡ true → fieldOf (drop start text) ≡ digitsOf (drop start text)
+  digits-stop b = digits-field (drop start text) (λ l. rw after at b)
+
+  pub digits-other : e < length text → (eqb (getD text e 0) 9 || eqb (getD text e 0) 10) ≡ false → isLevel (fieldOf (drop start text)) ≡ false
+  digits-other h b =
+      let l : length (digitsOf (drop start text)) < length (drop start text) = omega (arith, length-drop start text) in
+      level-digit (fieldOf (drop start text))
+      (digits-then (drop start text) l (λ z. clash (or-tab (after ∙ z)) b) (λ z. clash (or-newline (after ∙ z)) b))
+    where
+      or-tab : getD text e 0 ≡ 9 → (eqb (getD text e 0) 9 || eqb (getD text e 0) 10) ≡ true
+      or-tab z = rw z
+
+      or-newline : getD text e 0 ≡ 10 → (eqb (getD text e 0) 9 || eqb (getD text e 0) 10) ≡ true
+      or-newline z = rw z

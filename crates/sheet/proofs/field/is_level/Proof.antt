@@ -1,0 +1,61 @@
+-- `sheet::field::is_level` meets its contract.
+-- Assumes nothing.
+use mathlib.Core.Path.{sym}
+use native.Mathlib.Omega.{arith}
+use borrow.Author.Needs.{needs}
+use borrow.Author.Tests.{eqb-true, eqb-false}
+use denote.Ref.{now}
+use lib.Dec.{eqb}
+use lib.ListN.{drop}
+use Rattle.sheet.specs.Walk.{fieldOf}
+use Rattle.rules.proofs.Numbering.{by-cases}
+use Rattle.sheet.proofs.LevelLaws.{level-not, level-yes}
+use Rattle.sheet.proofs.DigitLaws.{level-empty, level-zero, level-few}
+use Rattle.sheet.proofs.field.is_level.Statement.{statement}
+use Rattle.sheet.proofs.field.is_level.Tie as tie
+
+returns : tie.Need-returns
+returns c =
+    let s = c .before .before in
+    sym (level-empty (fieldOf (drop (s .args .start) (now (s .args .text)))) (omega arith))
+
+shared-slice-read-if2 : tie.Need-shared-slice-read-if2
+shared-slice-read-if2 c = search needs
+
+returns-2 : tie.Need-returns-2
+returns-2 c =
+    let s = c .before .before .before .before in
+    sym (level-zero (now (s .args .text)) (s .args .start) (omega arith) (omega arith) (c .if2 .taken))
+
+sub-if3 : tie.Need-sub-if3
+sub-if3 c = search needs
+
+returns-3 : tie.Need-returns-3
+returns-3 c =
+    let b = c .before in
+    let s = b .before .before .before .before in
+    sym (level-few (now (s .args .text)) (s .args .start) (omega arith) (omega arith) (s .pre .2) (b .if2 .left) (omega arith))
+
+read-level-requires : tie.Need-read-level-requires
+read-level-requires c κs = search needs
+
+returns-4 : tie.Need-returns-4
+returns-4 c =
+    let s = c .before .before .before .before .before .before .before .args in
+    let xs = drop (s .start) (now (s .text)) in
+    let r = c .before .read-level .result in
+    by-cases (eqb (r .level) 0)
+    (λ e. rw (e, level-not (s .start) xs r (c .before .read-level .ensures) (eqb-true (r .level) 0 e)))
+    (λ e. rw (e, level-yes (s .start) xs r (c .before .read-level .ensures) (eqb-false (r .level) 0 e)))
+
+pub is-level-spec : {M : Type 1} → statement M
+is-level-spec =
+    tie.close
+    (tie.spec
+    returns
+    shared-slice-read-if2
+    returns-2
+    sub-if3
+    returns-3
+    read-level-requires
+    returns-4)
