@@ -14,9 +14,8 @@ use crate::cells::entry_sizes;
 use crate::cells::even_cells;
 use crate::join::join_labels;
 use crate::join::number_joins;
-use crate::join::supremum;
 use crate::labels::past_labels;
-use crate::meet::infimum;
+use crate::meet::number_cells;
 use crate::sizes::sizes;
 use factor::common_plots;
 use limits::PLOTS;
@@ -40,8 +39,60 @@ pub fn bounds_of(f: &[u8], g: &[u8], below: &mut [u8; PLOTS], above: &mut [u8; P
     ensures below { λ _. ⌜ now (below .exit) ≡ overlay (now (below .entry)) (onCommon infimum (now (f .entry)) (now (g .entry))) ⌝ }
     ensures above { λ _. ⌜ now (above .exit) ≡ overlay (now (above .entry)) (onCommon supremum (now (f .entry)) (now (g .entry))) ⌝ }
 {
-    let k = infimum(f, g, below);
-    let m = supremum(f, g, above);
+    let n = common_plots(f.len(), g.len());
+    let a = past_labels(&f[..n]);
+    let b = past_labels(&g[..n]);
+    if b < a {
+        return bounds_whole(&g[..n], &f[..n], b, a, below, above);
+    }
+    bounds_whole(&f[..n], &g[..n], a, b, below, above)
+}
+
+// The same for two columns of one length; the labels of `f` are below `a`, those of `g` below `w`.
+fn bounds_whole(
+    f: &[u8],
+    g: &[u8],
+    a: usize,
+    w: usize,
+    below: &mut [u8; PLOTS],
+    above: &mut [u8; PLOTS],
+) -> Bounds
+    requires { ⌜ (length (now f) ≤ 240) × (length (now g) ≡ length (now f)) × (a ≤ 256) × (w ≤ 256) × Below a (now f) × Below w (now g) ⌝ }
+    ensures infimum { λ r. ⌜ r .infimum ≡ classes (infimum (now (f .entry)) (now (g .entry))) ⌝ }
+    ensures supremum { λ r. ⌜ r .supremum ≡ classes (supremum (now (f .entry)) (now (g .entry))) ⌝ }
+    ensures below { λ _. ⌜ now (below .exit) ≡ overlay (now (below .entry)) (infimum (now (f .entry)) (now (g .entry))) ⌝ }
+    ensures above { λ _. ⌜ now (above .exit) ≡ overlay (now (above .entry)) (supremum (now (f .entry)) (now (g .entry))) ⌝ }
+{
+    if a * w <= CELLS {
+        let mut few = [0u8; CELLS];
+        return bounds_cells(f, g, a, w, &mut few, below, above);
+    }
+    let mut numbers = [0u8; ALL_CELLS];
+    bounds_cells(f, g, a, w, &mut numbers, below, above)
+}
+
+// The same with a table of zeros that has room for the cells. Plots of one cell have the same labels, so one of each cell is looked at.
+fn bounds_cells(
+    f: &[u8],
+    g: &[u8],
+    a: usize,
+    w: usize,
+    numbers: &mut [u8],
+    below: &mut [u8; PLOTS],
+    above: &mut [u8; PLOTS],
+) -> Bounds
+    requires { ⌜ (length (now f) ≤ 240) × (length (now g) ≡ length (now f)) × (a ≤ 256) × (w ≤ 256) × Below a (now f) × Below w (now g) × (a * w ≤ length (now numbers)) × (length (now numbers) ≤ 65536) × (now numbers ≡ replicate (length (now numbers)) 0) ⌝ }
+    ensures infimum { λ r. ⌜ r .infimum ≡ classes (infimum (now (f .entry)) (now (g .entry))) ⌝ }
+    ensures supremum { λ r. ⌜ r .supremum ≡ classes (supremum (now (f .entry)) (now (g .entry))) ⌝ }
+    ensures below { λ _. ⌜ now (below .exit) ≡ overlay (now (below .entry)) (infimum (now (f .entry)) (now (g .entry))) ⌝ }
+    ensures above { λ _. ⌜ now (above .exit) ≡ overlay (now (above .entry)) (supremum (now (f .entry)) (now (g .entry))) ⌝ }
+{
+    let mut cell_f = [0u8; PLOTS];
+    let mut cell_g = [0u8; PLOTS];
+    let k = number_cells(f, g, w, numbers, &mut cell_f, &mut cell_g, below);
+    let mut table = [0u8; 256];
+    let one = join_labels(&cell_f[..k], &cell_g[..k], a, &mut table);
+    let m = number_joins(&table, f, one, above);
     Bounds {
         infimum: k,
         supremum: m,
@@ -72,24 +123,14 @@ fn crossing_whole(f: &[u8], g: &[u8], a: usize, w: usize, above: &mut [u8; PLOTS
     ensures above { λ _. ⌜ now (above .exit) ≡ overlay (now (above .entry)) (supremum (now (f .entry)) (now (g .entry))) ⌝ }
 {
     if a * w <= CELLS {
-        let mut in_cells = [0u8; CELLS];
-        return crossing_cells(f, g, a, w, &mut in_cells, above);
+        let mut few = [0u8; CELLS];
+        return crossing_cells(f, g, a, w, &mut few, above);
     }
-    crossing_many(f, g, a, w, above)
-}
-
-// The same for any labels.
-fn crossing_many(f: &[u8], g: &[u8], a: usize, w: usize, above: &mut [u8; PLOTS]) -> Crossing
-    requires { ⌜ (length (now f) ≤ 240) × (length (now g) ≡ length (now f)) × (a ≤ 256) × (w ≤ 256) × Below a (now f) × Below w (now g) ⌝ }
-    ensures supremum { λ r. ⌜ r .supremum ≡ classes (supremum (now (f .entry)) (now (g .entry))) ⌝ }
-    ensures orthogonal { λ r. ⌜ r .orthogonal ≡ orthogonal (length (now (f .entry))) (now (f .entry)) (now (g .entry)) ⌝ }
-    ensures above { λ _. ⌜ now (above .exit) ≡ overlay (now (above .entry)) (supremum (now (f .entry)) (now (g .entry))) ⌝ }
-{
     let mut in_cells = [0u8; ALL_CELLS];
     crossing_cells(f, g, a, w, &mut in_cells, above)
 }
 
-// The same with a table of no plots that has room for the cells. Plots of one cell have the same labels, so one of each cell is looked at.
+// The same with a table of zeros that has room for the cells.
 fn crossing_cells(
     f: &[u8],
     g: &[u8],

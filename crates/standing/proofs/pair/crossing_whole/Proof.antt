@@ -1,5 +1,6 @@
--- `crossing_whole` meets its contract.
+-- `crossing_whole` meets its contract: there is room for all cells.
 -- Assumes nothing.
+use mathlib.Core.Path.{refl}
 use native.Mathlib.Omega.{arith}
 use native.Mathlib.Nat.{mul-le-mul}
 use borrow.Author.Needs.{needs}
@@ -20,8 +21,13 @@ crossing-cells-requires c κs = search needs
 returns : tie.Need-returns
 returns c = search needs
 
-crossing-many-requires : tie.Need-crossing-many-requires
-crossing-many-requires c κs = search needs
+slice-aggregate-crossing-cells-2 : tie.Need-slice-aggregate-crossing-cells-2
+slice-aggregate-crossing-cells-2 c = search needs
+
+crossing-cells-requires-2 : tie.Need-crossing-cells-requires-2
+crossing-cells-requires-2 c κs =
+    let s = c .before .before .before .before .before in
+    (s .pre .0, s .pre .1, s .pre .2, s .pre .3, s .pre .4, s .pre .5, mul-le-mul (s .pre .2) (s .pre .3), omega arith, refl)
 
 returns-2 : tie.Need-returns-2
 returns-2 c = search needs
@@ -34,5 +40,6 @@ crossing-whole-spec =
     slice-aggregate-crossing-cells
     crossing-cells-requires
     returns
-    crossing-many-requires
+    slice-aggregate-crossing-cells-2
+    crossing-cells-requires-2
     returns-2)
