@@ -1,9 +1,9 @@
 -- Cells: a cell is what a class of F and a class of G have in common. It is known by the two labels.
 -- Assumes nothing.
 use mathlib.Core.Path.{_≡_}
-use mathlib.Core.Bool.{Bool, _&&_}
+use mathlib.Core.Bool.{Bool, true, false, _&&_}
 use mathlib.Core.List.{List, []}
-use Prim.Native.Nat.{ℕ, _+_, _*_, _≤_, _<_}
+use Prim.Native.Nat.{ℕ, zero, suc, _+_, _*_, _≤_, _<_}
 use lib.Dec.{eqb}
 use lib.ListN.{length, take}
 use Rattle.rules.specs.Factor.{Column, at, labels, every, count, classSize}
@@ -75,3 +75,12 @@ unfoldable pub evenCells : ℕ → List ℕ → List ℕ → List ℕ → List �
 unfolding every
 evenCells w cells t inK inF inG X Y =
     every (length X) (λ i. eqb (at cells (w * at X i + at Y i) * at inK (at t (at X i))) (at inF (at X i) * at inG (at Y i)))
+
+-- the plots of the cell with the i-th labels of X and Y
+abbrev pub cellSize : ℕ → List ℕ → Column → Column → ℕ → ℕ
+cellSize w cells X Y i = at cells (w * at X i + at Y i)
+
+-- the sum of t over those of the first i places where H has the label x
+unfoldable pub sumAt : (ℕ → ℕ) → Column → ℕ → ℕ → ℕ
+sumAt t H zero x = 0
+sumAt t H (suc i) x = sumAt t H i x + elim (eqb x (at H i)) [ true ↦ t i | false ↦ 0 ]

@@ -12,11 +12,11 @@ use crate::cells::CELLS;
 use crate::cells::count_cells;
 use crate::cells::entry_sizes;
 use crate::cells::even_cells;
+use crate::cells::sum_cells;
 use crate::join::join_labels;
 use crate::join::number_joins;
 use crate::labels::past_labels;
 use crate::meet::number_cells;
-use crate::sizes::sizes;
 use factor::common_plots;
 use limits::PLOTS;
 
@@ -168,8 +168,9 @@ fn crossing_listed(
 {
     let mut table = [0u8; 256];
     let one = join_labels(x, y, a, &mut table);
-    let in_f = sizes(f);
-    let in_g = sizes(g);
+    let mut in_f = [0u8; 256];
+    let mut in_g = [0u8; 256];
+    sum_cells(w, in_cells, x, y, &mut in_f, &mut in_g);
     let in_k = entry_sizes(&table, f, &in_f, a, one);
     let level = even_cells(w, in_cells, &table, &in_k, &in_f, &in_g, x, y);
     let k = number_joins(&table, f, one, above);
