@@ -9,9 +9,12 @@ ghost use Rattle.standing.specs.Cells.{Inside, CellSizes, Cover, LabelSi
 use crate::sizes::product;
 use limits::PLOTS;
 
-// Labels x of the one factor and y of the other, below w, make cell w × x + y. Most pairs of factors have few cells: a small table is
-// cleared in less time.
+// Labels x of the one factor and y of the other, below w, make cell w × x + y. A small table is cleared in less time, and most pairs of
+// factors have few cells.
 pub(crate) const CELLS: usize = 2048;
+
+// The cells of two factors of 120 classes each, and of one of 240 with one of 60.
+pub(crate) const MANY_CELLS: usize = 16384;
 
 // The cells of any labels.
 pub(crate) const ALL_CELLS: usize = 65536;

@@ -9,6 +9,7 @@ ghost use Rattle.standing.specs.Cells.{Inside, CellSizes, Listed};
 ghost use Rattle.standing.specs.Standing.{testCommon};
 use crate::cells::ALL_CELLS;
 use crate::cells::CELLS;
+use crate::cells::MANY_CELLS;
 use crate::cells::count_cells;
 use crate::cells::entry_sizes;
 use crate::cells::even_cells;
@@ -63,9 +64,14 @@ fn bounds_whole(
     ensures below { λ _. ⌜ now (below .exit) ≡ overlay (now (below .entry)) (infimum (now (f .entry)) (now (g .entry))) ⌝ }
     ensures above { λ _. ⌜ now (above .exit) ≡ overlay (now (above .entry)) (supremum (now (f .entry)) (now (g .entry))) ⌝ }
 {
-    if a * w <= CELLS {
+    let cells = a * w;
+    if cells <= CELLS {
         let mut few = [0u8; CELLS];
         return bounds_cells(f, g, a, w, &mut few, below, above);
+    }
+    if cells <= MANY_CELLS {
+        let mut many = [0u8; MANY_CELLS];
+        return bounds_cells(f, g, a, w, &mut many, below, above);
     }
     let mut numbers = [0u8; ALL_CELLS];
     bounds_cells(f, g, a, w, &mut numbers, below, above)
@@ -122,9 +128,14 @@ fn crossing_whole(f: &[u8], g: &[u8], a: usize, w: usize, above: &mut [u8; PLOTS
     ensures orthogonal { λ r. ⌜ r .orthogonal ≡ orthogonal (length (now (f .entry))) (now (f .entry)) (now (g .entry)) ⌝ }
     ensures above { λ _. ⌜ now (above .exit) ≡ overlay (now (above .entry)) (supremum (now (f .entry)) (now (g .entry))) ⌝ }
 {
-    if a * w <= CELLS {
+    let cells = a * w;
+    if cells <= CELLS {
         let mut few = [0u8; CELLS];
         return crossing_cells(f, g, a, w, &mut few, above);
+    }
+    if cells <= MANY_CELLS {
+        let mut many = [0u8; MANY_CELLS];
+        return crossing_cells(f, g, a, w, &mut many, above);
     }
     let mut in_cells = [0u8; ALL_CELLS];
     crossing_cells(f, g, a, w, &mut in_cells, above)

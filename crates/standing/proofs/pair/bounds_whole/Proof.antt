@@ -7,8 +7,8 @@ use borrow.Author.Needs.{needs}
 use Rattle.standing.proofs.pair.bounds_whole.Statement.{statement}
 use Rattle.standing.proofs.pair.bounds_whole.Tie as tie
 
-mul-if1 : tie.Need-mul-if1
-mul-if1 c =
+mul-cells : tie.Need-mul-cells
+mul-cells c =
     let s = c .before .before in
     omega (arith, mul-le-mul (s .pre .2) (s .pre .3))
 
@@ -26,20 +26,34 @@ slice-aggregate-bounds-cells-2 c = search needs
 
 bounds-cells-requires-2 : tie.Need-bounds-cells-requires-2
 bounds-cells-requires-2 c κs =
-    let s = c .before .before .before .before .before .before in
-    (s .pre .0, s .pre .1, s .pre .2, s .pre .3, s .pre .4, s .pre .5, mul-le-mul (s .pre .2) (s .pre .3), omega arith, refl)
+    let s = c .before .before .before .before .before .before .before in
+    (s .pre .0, s .pre .1, s .pre .2, s .pre .3, s .pre .4, s .pre .5, c .before .before .before .if2 .taken, omega arith, refl)
 
 returns-2 : tie.Need-returns-2
 returns-2 c = search needs
+
+slice-aggregate-bounds-cells-3 : tie.Need-slice-aggregate-bounds-cells-3
+slice-aggregate-bounds-cells-3 c = search needs
+
+bounds-cells-requires-3 : tie.Need-bounds-cells-requires-3
+bounds-cells-requires-3 c κs =
+    let s = c .before .before .before .before .before .before .before in
+    (s .pre .0, s .pre .1, s .pre .2, s .pre .3, s .pre .4, s .pre .5, mul-le-mul (s .pre .2) (s .pre .3), omega arith, refl)
+
+returns-3 : tie.Need-returns-3
+returns-3 c = search needs
 
 pub bounds-whole-spec : {M : Type 1} → statement M
 bounds-whole-spec =
     tie.close
     (tie.spec
-    mul-if1
+    mul-cells
     slice-aggregate-bounds-cells
     bounds-cells-requires
     returns
     slice-aggregate-bounds-cells-2
     bounds-cells-requires-2
-    returns-2)
+    returns-2
+    slice-aggregate-bounds-cells-3
+    bounds-cells-requires-3
+    returns-3)
