@@ -9,7 +9,7 @@ use native.Mathlib.Numerals.{add-one}
 use native.Mathlib.Omega.{arith}
 use lib.Dec.{eqb}
 use lib.ListN.{length, take, drop, set, length-map, replicate, take-append-drop}
-use lib.Seq.{getD-set-same, getD-set-other, drop-cons, getD-at, length-take-le}
+use lib.Seq.{getD-set-same, getD-set-other, drop-cons, getD-at, length-take-le, ext-getD}
 use borrow.Author.Tests.{eqb-true, eqb-false, eq-eqb, ne-eqb}
 use Rattle.rules.specs.Factor.{Column, at, Same, Equivalent, indexOf, relabel, number, classes, universal, supremum}
 use Rattle.rules.proofs.Numbering.{by-cases, eqb-self, has-getD, getD-place}
@@ -47,6 +47,10 @@ at-map f (x ∷ L) (suc u) h = at-map f L u (le-of-suc-le-suc h)
 pub spread-at : (t : List ℕ) (F : Column) (u : ℕ) → u < length F → at (spread t F) u ≡ at t (at F u)
 unfolding spread
 spread-at t F u h = at-map (at t) F u h
+
+-- where each label is its own entry, the entries are the column
+pub spread-own : (t : List ℕ) (F : Column) → Own F t → spread t F ≡ F
+spread-own t F own = ext-getD 0 (spread t F) F (length-spread t F) (λ u h. spread-at t F u (rw (length-spread t F) at h) ∙ own u (rw (length-spread t F) at h))
 
 -- ---- relabelling a table
 

@@ -149,7 +149,17 @@ fn join(table: &mut [u8; 256], f: &[u8], g: &[u8], top: usize) -> bool
     false
 }
 
-// The same for any entries.
+// Numbers the classes of a column whose labels are below `top`; answers how many there are.
+pub(crate) fn number_column(f: &[u8], top: usize, out: &mut [u8; PLOTS]) -> usize
+    requires { ⌜ (length (now f) ≤ 240) × (top ≤ 256) × Below top (now f) ⌝ }
+    ensures answer { λ r. ⌜ r ≡ classes (now (f .entry)) ⌝ }
+    ensures numbers { λ _. ⌜ now (out .exit) ≡ overlay (now (out .entry)) (number (now (f .entry))) ⌝ }
+{
+    let table = own_labels(least_label(f), top);
+    number_entries(&table, f, out)
+}
+
+// `number_joins` for any entries.
 fn number_entries(table: &[u8], f: &[u8], out: &mut [u8; PLOTS]) -> usize
     requires { ⌜ (length (now table) ≡ 256) × (length (now f) ≤ 240) ⌝ }
     ensures answer { λ r. ⌜ r ≡ classes (spread (now (table .entry)) (now (f .entry))) ⌝ }

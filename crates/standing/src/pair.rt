@@ -15,9 +15,11 @@ use crate::cells::entry_sizes;
 use crate::cells::even_cells;
 use crate::cells::sum_cells;
 use crate::join::join_labels;
+use crate::join::number_column;
 use crate::join::number_joins;
 use crate::labels::past_labels;
 use crate::meet::number_cells;
+use crate::orders::agrees;
 use factor::common_plots;
 use limits::PLOTS;
 
@@ -49,7 +51,8 @@ pub fn bounds_of(f: &[u8], g: &[u8], below: &mut [u8; PLOTS], above: &mut [u8; P
     bounds_whole(&f[..n], &g[..n], a, b, below, above)
 }
 
-// The same for two columns of one length; the labels of `f` are below `a`, those of `g` below `w`.
+// The same for two columns of one length; the labels of `f` are below `a`, those of `g` below `w`. Of nested factors the one with more
+// labels is the finer, unless labels are left out; that it is finer a walk tells which ends at the first plot that denies it.
 fn bounds_whole(
     f: &[u8],
     g: &[u8],
@@ -64,6 +67,14 @@ fn bounds_whole(
     ensures below { λ _. ⌜ now (below .exit) ≡ overlay (now (below .entry)) (infimum (now (f .entry)) (now (g .entry))) ⌝ }
     ensures above { λ _. ⌜ now (above .exit) ≡ overlay (now (above .entry)) (supremum (now (f .entry)) (now (g .entry))) ⌝ }
 {
+    if agrees(g, f) {
+        let k = number_column(g, w, below);
+        let m = number_column(f, a, above);
+        return Bounds {
+            infimum: k,
+            supremum: m,
+        };
+    }
     let cells = a * w;
     if cells <= CELLS {
         let mut few = [0u8; CELLS];
@@ -121,13 +132,21 @@ pub fn crossing_of(f: &[u8], g: &[u8], above: &mut [u8; PLOTS]) -> Crossing
     crossing_whole(&f[..n], &g[..n], a, b, above)
 }
 
-// The same for two columns of one length; the labels of `f` are below `a`, those of `g` below `w`.
+// The same for two columns of one length; the labels of `f` are below `a`, those of `g` below `w`. Of nested factors the one with more
+// labels is the finer, unless labels are left out; that it is finer a walk tells which ends at the first plot that denies it.
 fn crossing_whole(f: &[u8], g: &[u8], a: usize, w: usize, above: &mut [u8; PLOTS]) -> Crossing
     requires { ⌜ (length (now f) ≤ 240) × (length (now g) ≡ length (now f)) × (a ≤ 256) × (w ≤ 256) × Below a (now f) × Below w (now g) ⌝ }
     ensures supremum { λ r. ⌜ r .supremum ≡ classes (supremum (now (f .entry)) (now (g .entry))) ⌝ }
     ensures orthogonal { λ r. ⌜ r .orthogonal ≡ orthogonal (length (now (f .entry))) (now (f .entry)) (now (g .entry)) ⌝ }
     ensures above { λ _. ⌜ now (above .exit) ≡ overlay (now (above .entry)) (supremum (now (f .entry)) (now (g .entry))) ⌝ }
 {
+    if agrees(g, f) {
+        let k = number_column(f, a, above);
+        return Crossing {
+            supremum: k,
+            orthogonal: true,
+        };
+    }
     let cells = a * w;
     if cells <= CELLS {
         let mut few = [0u8; CELLS];
