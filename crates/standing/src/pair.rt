@@ -68,11 +68,11 @@ fn bounds_whole(
     ensures above { λ _. ⌜ now (above .exit) ≡ overlay (now (above .entry)) (supremum (now (f .entry)) (now (g .entry))) ⌝ }
 {
     if agrees(g, f) {
-        let k = number_column(g, w, below);
-        let m = number_column(f, a, above);
+        let fine = number_column(g, w, below);
+        let coarse = number_column(f, a, above);
         return Bounds {
-            infimum: k,
-            supremum: m,
+            infimum: fine,
+            supremum: coarse,
         };
     }
     let cells = a * w;
