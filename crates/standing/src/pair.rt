@@ -109,7 +109,7 @@ fn bounds_cells(
     let k = number_cells(f, g, w, numbers, &mut cell_f, &mut cell_g, below);
     let mut table = [0u8; 256];
     let one = join_labels(&cell_f[..k], &cell_g[..k], a, &mut table);
-    let m = number_joins(&table, f, one, above);
+    let m = number_joins(&table, f, &cell_f[..k], one, above);
     Bounds {
         infimum: k,
         supremum: m,
@@ -203,7 +203,7 @@ fn crossing_listed(
     sum_cells(w, in_cells, x, y, &mut in_f, &mut in_g);
     let in_k = entry_sizes(&table, f, &in_f, a, one);
     let level = even_cells(w, in_cells, &table, &in_k, &in_f, &in_g, x, y);
-    let k = number_joins(&table, f, one, above);
+    let k = number_joins(&table, f, x, one, above);
     Crossing {
         supremum: k,
         orthogonal: level,

@@ -1,6 +1,6 @@
 -- `bounds_cells` meets its contract: the listed cells stand for all plots.
 -- Assumes nothing.
-use mathlib.Core.Path.{refl, sym, ap, _∙_}
+use mathlib.Core.Path.{_≡_, sym, ap, _∙_}
 use mathlib.Core.List.{List}
 use Prim.Native.Nat.{ℕ, _≤_}
 use native.Mathlib.Omega.{arith}
@@ -12,7 +12,7 @@ use Rattle.factor.specs.Lent.{overlay}
 use Rattle.standing.specs.Cells.{Listed}
 use Rattle.standing.proofs.CellTable.{inside-below}
 use Rattle.standing.proofs.Joining.{one-entry, joins-supremum, number-spread, classes-spread}
-use Rattle.standing.proofs.Listing.{cover-none, cover-listed, listed-below}
+use Rattle.standing.proofs.Listing.{cover-none, cover-listed, listed-below, stands-among}
 use borrow.Author.Needs.{needs}
 use Rattle.standing.proofs.pair.bounds_cells.Statement.{statement}
 use Rattle.standing.proofs.pair.bounds_cells.Tie as tie
@@ -56,6 +56,9 @@ module _ (c : tie.After-number-cells) where
   few-y : m ≤ length cell-g
   few-y = omega (arith, c .number-cells .ensures .1 .0 .few, c .number-cells .ensures .1 .0 .y-room)
 
+  long-x : length X ≡ m
+  long-x = length-take-le m cell-f few-x
+
   listed : Listed F G X Y
   listed = cover-listed F G cell-f cell-g m (c .number-cells .ensures .1 .0) (start .pre .0)
 
@@ -63,7 +66,7 @@ array-share-prefix-cell-f : tie.Need-array-share-prefix-cell-f
 array-share-prefix-cell-f c = few-x (c .before .before)
 
 slice-aggregate-join-labels : tie.Need-slice-aggregate-join-labels
-slice-aggregate-join-labels c = sym (length-take-le (m (c .before .before .before)) (cell-f (c .before .before .before)) (few-x (c .before .before .before)))
+slice-aggregate-join-labels c = sym (long-x (c .before .before .before))
 
 array-share-prefix-cell-g : tie.Need-array-share-prefix-cell-g
 array-share-prefix-cell-g c = few-y (c .before .before .before)
@@ -80,19 +83,25 @@ join-labels-requires c κs =
 slice-aggregate-number-joins : tie.Need-slice-aggregate-number-joins
 slice-aggregate-number-joins c = search needs
 
+array-share-prefix-cell-f-2 : tie.Need-array-share-prefix-cell-f-2
+array-share-prefix-cell-f-2 c = few-x (c .before .before .before .before .before .before .before)
+
+slice-aggregate-number-joins-2 : tie.Need-slice-aggregate-number-joins-2
+slice-aggregate-number-joins-2 c = sym (long-x (c .before .before .before .before .before .before .before .before))
+
 number-joins-requires : tie.Need-number-joins-requires
 number-joins-requires c κs =
-    let j = c .before .before in
+    let j = c .before .before .before in
     let k = j .before .before .before .before .before .before in
     let s = start k in
-    (j .join-labels .ensures .1 .0, s .pre .0, λ e. let one = j .join-labels .ensures .0 e in (omega (arith, one .0, listed k .few), one-entry (F k) (G k) (s .pre .1) (s .args .a) (j .join-labels .last .1 .1 .1 .0) (s .pre .4) (one .1)))
+    (j .join-labels .ensures .1 .0, s .pre .0, omega (arith, listed k .few, s .pre .0), stands-among (F k) (G k) (X k) (Y k) (listed k .stands), listed k .order, λ e. let one = j .join-labels .ensures .0 e in (omega (arith, one .0, listed k .few), one-entry (F k) (G k) (s .pre .1) (s .args .a) (j .join-labels .last .1 .1 .1 .0) (s .pre .4) (one .1)))
 
 same-length : tie.Need-same-length
 same-length c = search needs
 
 returns : tie.Need-returns
 returns c =
-    let j = c .before .before .before in
+    let j = c .before .before .before .before in
     let k = j .before .before .before .before .before .before in
     let s = start k in
     let t = j .join-labels .last .1 .1 .1 .0 in
@@ -111,6 +120,8 @@ bounds-cells-spec =
     slice-aggregate-join-labels-2
     join-labels-requires
     slice-aggregate-number-joins
+    array-share-prefix-cell-f-2
+    slice-aggregate-number-joins-2
     number-joins-requires
     same-length
     returns)

@@ -13,7 +13,7 @@ use Rattle.standing.specs.Joining.{spread}
 use Rattle.standing.specs.Cells.{Inside, Listed, LabelSizes, cellSize, sumAt}
 use Rattle.standing.proofs.SizeTable.{labelled-le}
 use Rattle.standing.proofs.Joining.{one-entry, joins-supremum, number-spread, classes-spread}
-use Rattle.standing.proofs.Listing.{listed-below, listed-inside}
+use Rattle.standing.proofs.Listing.{listed-below, listed-inside, stands-among}
 use Rattle.standing.proofs.CellTable.{cells-orthogonal}
 use Rattle.standing.proofs.CellSums.{sums-first, sums-second}
 use borrow.Author.Needs.{needs}
@@ -110,7 +110,7 @@ number-joins-requires : tie.Need-number-joins-requires
 number-joins-requires c κs =
     let k = c .before .before .before .before .before .before .before .before .before .before .before .before .before in
     let s = start k in
-    (k .join-labels .ensures .1 .0, s .pre .0, λ e. let one = k .join-labels .ensures .0 e in (omega (arith, one .0, listed k .few), one-entry (F k) (G k) (s .pre .1) (s .args .a) (table k) (s .pre .4) (one .1)))
+    (k .join-labels .ensures .1 .0, s .pre .0, omega (arith, listed k .few, s .pre .0), stands-among (F k) (G k) (X k) (Y k) (listed k .stands), listed k .order, λ e. let one = k .join-labels .ensures .0 e in (omega (arith, one .0, listed k .few), one-entry (F k) (G k) (s .pre .1) (s .args .a) (table k) (s .pre .4) (one .1)))
 
 returns : tie.Need-returns
 returns c =
