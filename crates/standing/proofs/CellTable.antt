@@ -99,17 +99,17 @@ count-all zero p h = refl
 count-all (suc k) p h = count-yes k p (h k (le-refl _)) ∙ ap suc (count-all k p (λ v hv. h v (omega arith)))
 
 -- a test that no plot passes
-count-none : (n : ℕ) (p : ℕ → Bool) → ((v : ℕ) → v < n → p v ≡ false) → count n p ≡ 0
+pub count-none : (n : ℕ) (p : ℕ → Bool) → ((v : ℕ) → v < n → p v ≡ false) → count n p ≡ 0
 unfolding count
 count-none zero p h = refl
 count-none (suc k) p h = count-no k p (h k (le-refl _)) ∙ count-none k p (λ v hv. h v (omega arith))
 
 -- of three tests the third passes where one of the others does, and they never do both
-data Split (a b c : Bool) : Type 0 where
+pub data Split (a b c : Bool) : Type 0 where
   stays : b ≡ false → c ≡ a → Split a b c
   added : a ≡ false → b ≡ true → c ≡ true → Split a b c
 
-count-split : (n : ℕ) (p q r : ℕ → Bool) → ((v : ℕ) → v < n → Split (p v) (q v) (r v)) → count n r ≡ count n p + count n q
+pub count-split : (n : ℕ) (p q r : ℕ → Bool) → ((v : ℕ) → v < n → Split (p v) (q v) (r v)) → count n r ≡ count n p + count n q
 unfolding count
 count-split zero p q r h = refl
 count-split (suc k) p q r h = go (count-split k p q r (λ v hv. h v (omega arith))) (h k (le-refl _))
@@ -121,7 +121,7 @@ count-split (suc k) p q r h = go (count-split k p q r (λ v hv. h v (omega arith
         (λ e. let x = count-no k p e in let y = count-no k q b in let z = count-no k r (c ∙ e) in omega arith)
     go below (added a b c) = let x = count-no k p a in let y = count-yes k q b in let z = count-yes k r c in omega arith
 
-and-false : (a : Bool) → a && false ≡ false
+pub and-false : (a : Bool) → a && false ≡ false
 and-false true = refl
 and-false false = refl
 

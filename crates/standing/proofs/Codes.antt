@@ -7,7 +7,8 @@ use native.Mathlib.Omega.{arith}
 use lib.ListN.{length, getD, length-map, List·getD-map}
 use Rattle.rules.specs.Factor.{Column, at, Equivalent, Pair, pairs, number, classes, infimum}
 use Rattle.rules.proofs.Numbering.{length-pairs, pairs-at, length-infimum, infimum-same, number-infimum, number-unique}
-use Rattle.rules.proofs.Columns.{classes-equivalent}
+use Rattle.rules.proofs.Columns.{Tells, number-positive, classes-equivalent}
+use Rattle.standing.specs.Cells.{Plot}
 use Rattle.standing.proofs.CellTable.{cell-unique}
 
 abbrev code : ℕ → Pair → ℕ
@@ -47,3 +48,18 @@ module _ (w : ℕ) (F G : Column) (l : length F ≡ length G) where
 
     pub classes-codes : classes (codesOf w F G) ≡ classes (infimum F G)
     classes-codes = classes-equivalent (codesOf w F G) (infimum F G) (length-codes ∙ sym (length-infimum F G l)) codes-equivalent
+
+    -- a table that tells the numbers of the plots before plot u tells whether one of them is in its cell
+    module _ (u : ℕ) (h : u < length F) (look : ℕ → ℕ) (tells : Tells (codesOf w F G) u look) where
+      pub code-new : look (w * at F u + at G u) ≡ 0 → Plot u F G (at F u) (at G u) → ⊥
+      code-new z p =
+          let k : p .plot < length F = omega (arith, p .less) in
+          let e : at (number (codesOf w F G)) (p .plot) ≡ 0 = sym (tells .known (p .plot) (p .less)) ∙ ap look (codes-at (p .plot) k ∙ ap₂ (λ (x y : ℕ). w * x + y) (p .first) (p .second)) ∙ z in
+          omega (arith, e, number-positive (codesOf w F G) (p .plot) (rw length-codes k))
+
+      pub code-old : (look (w * at F u + at G u) ≡ 0 → ⊥) → Plot u F G (at F u) (at G u)
+      code-old ne =
+          let e = tells .only (w * at F u + at G u) (omega (arith, ne)) in
+          let k : e .plot < length F = omega (arith, e .less) in
+          let s = cell-unique w (at F (e .plot)) (at G (e .plot)) (at F u) (at G u) (bytes (e .plot) k) (bytes u h) (sym (codes-at (e .plot) k) ∙ e .label) in
+          record { plot = e .plot; less = e .less; first = s .0; second = s .1 }

@@ -9,10 +9,10 @@ use native.Mathlib.Numerals.{add-one}
 use native.Mathlib.Omega.{arith}
 use lib.Dec.{eqb}
 use lib.ListN.{length, take, drop, set, length-map, replicate, take-append-drop}
-use lib.Seq.{getD-set-same, getD-set-other, drop-cons, getD-at, length-take-le}
+use lib.Seq.{getD-set-same, getD-set-other, drop-cons, getD-at, length-take-le, ext-getD}
 use borrow.Author.Tests.{eqb-true, eqb-false, eq-eqb, ne-eqb}
 use Rattle.rules.specs.Factor.{Column, at, Same, Equivalent, indexOf, relabel, number, classes, universal, supremum}
-use Rattle.rules.proofs.Numbering.{by-cases, eqb-self, has-getD, getD-place}
+use Rattle.rules.proofs.Numbering.{by-cases, eqb-self, has-getD, getD-place, numbering-at, number-same, length-number}
 use Rattle.rules.proofs.Supremum.{length-relabel, number-supremum}
 use Rattle.rules.proofs.Bounds.{length-supremum′, numbered-equal, supremum-left, supremum-right, supremum-least}
 use Rattle.rules.proofs.Columns.{classes-equivalent, Earlier}
@@ -21,7 +21,7 @@ use Rattle.rules.proofs.ClassCount.{finer-universal, classes-universal}
 use Rattle.factor.proofs.Fill.{filled, length-filled, getD-filled}
 use Rattle.factor.proofs.Table.{getD-zeros}
 use Rattle.standing.specs.Cells.{Plot, Stands}
-use Rattle.standing.specs.Joining.{Below, Own, OneEntry, OneClass, Links, Joins, relabelled, spread}
+use Rattle.standing.specs.Joining.{Below, Own, OneEntry, OneClass, Links, Joins, Among, InOrder, Numbered, relabelled, spread}
 
 -- what holds of all before u and of u holds of all before u + 1
 pub one-more : (P : ℕ → Type 0) (u : ℕ) → ((v : ℕ) → v < u → P v) → P u → (v : ℕ) → v < u + 1 → P v
@@ -47,6 +47,10 @@ at-map f (x ∷ L) (suc u) h = at-map f L u (le-of-suc-le-suc h)
 pub spread-at : (t : List ℕ) (F : Column) (u : ℕ) → u < length F → at (spread t F) u ≡ at t (at F u)
 unfolding spread
 spread-at t F u h = at-map (at t) F u h
+
+-- where each label is its own entry, the entries are the column
+pub spread-own : (t : List ℕ) (F : Column) → Own F t → spread t F ≡ F
+spread-own t F own = ext-getD 0 (spread t F) F (length-spread t F) (λ u h. spread-at t F u (rw (length-spread t F) at h) ∙ own u (rw (length-spread t F) at h))
 
 -- ---- relabelling a table
 
@@ -337,3 +341,45 @@ module _ (t : List ℕ) (F : Column) (one : OneClass t F) where
   classes-one h =
       classes-equivalent (spread t F) (universal (length F)) (length-spread t F ∙ sym (length-universal (length F))) (rw length-spread equivalent-one)
       ∙ classes-universal (length F) h
+
+-- ---- numbers by label
+
+-- the labels of a column stand in itself
+pub among-self : (F : Column) → Among F F
+among-self F u h = record { at-place = u; less = h; label = refl }
+
+module _ (t : List ℕ) (X : Column) (i : ℕ) (h : i < length X) where
+  -- one listed label more
+  pub numbered-step : (r : List ℕ) → at X i < length r → Numbered t X i r → (y : ℕ) → y ≡ at (number (spread t X)) i → Numbered t X (i + 1) (set r (at X i) y)
+  numbered-step r room done y e j hj =
+      by-cases (eqb (at X j) (at X i))
+      (λ q. let same : at X j ≡ at X i = eqb-true _ _ q in
+      let k : j < length (spread t X) = rw length-spread (omega arith) in
+      let l : i < length (spread t X) = rw length-spread h in
+      ap (at (set r (at X i) y)) same ∙ getD-set-same r (at X i) y 0 room ∙ e
+      ∙ number-same (spread t X) i j l k .1 (spread-at t X i h ∙ ap (at t) (sym same) ∙ sym (spread-at t X j (omega arith))))
+      (λ q. let ne : at X j ≡ at X i → ⊥ = eqb-false _ _ q in
+      let other : j ≡ i → ⊥ = λ z. ne (ap (at X) z) in
+      getD-set-other r (at X i) (at X j) y 0 ne ∙ done j (omega (arith, other)))
+
+module _ (t : List ℕ) (F X : Column) (among : Among F X) (order : InOrder F X) where
+  -- as many classes
+  pub classes-listed : classes (spread t X) ≡ classes (spread t F)
+  unfolding classes
+  classes-listed = ap length (sym (order t))
+
+  -- the number of each plot's label is the number of the plot
+  pub number-listed : (r : List ℕ) → Numbered t X (length X) r → spread r F ≡ number (spread t F)
+  unfolding number
+  number-listed r numbers =
+      ext-getD 0 (spread r F) (number (spread t F)) (length-spread r F ∙ sym (length-number (spread t F) ∙ length-spread t F)) (λ u h. here u (rw length-spread at h))
+    where
+      here : (u : ℕ) → u < length F → at (spread r F) u ≡ at (number (spread t F)) u
+      here u h =
+          let p = among u h in
+          let k : p .at-place < length (spread t X) = rw length-spread (p .less) in
+          let l : u < length (spread t F) = rw length-spread h in
+          spread-at r F u h ∙ ap (at r) (sym (p .label)) ∙ numbers (p .at-place) (p .less)
+          ∙ numbering-at eqb eqb-true eqb-self (spread t X) [] (p .at-place) 0 k
+          ∙ ap₂ (λ (s : List ℕ) (y : ℕ). suc (indexOf eqb s y)) (sym (order t)) (spread-at t X (p .at-place) (p .less) ∙ ap (at t) (p .label) ∙ sym (spread-at t F u h))
+          ∙ sym (numbering-at eqb eqb-true eqb-self (spread t F) [] u 0 l)

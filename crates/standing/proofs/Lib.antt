@@ -3,5 +3,6 @@ pub mod Joining
 pub mod SizeTable
 pub mod CellTable
 pub mod Listing
+pub mod CellSums
 pub mod Nesting
 pub mod Common

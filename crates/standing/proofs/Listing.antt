@@ -14,8 +14,8 @@ use borrow.Author.Tests.{eqb-true, eqb-false, eq-eqb}
 use Rattle.rules.specs.Factor.{Column, at, addNew, labels}
 use Rattle.rules.proofs.Numbering.{by-cases, eqb-self, add-has, has-all}
 use Rattle.rules.proofs.Sums.{Some, nowhere, somewhere, some}
-use Rattle.standing.specs.Joining.{Below, spread}
-use Rattle.standing.specs.Cells.{labelledBoth, Plot, Inside, InOrder, Cover, Stands, Listed}
+use Rattle.standing.specs.Joining.{Below, InOrder, Among, spread}
+use Rattle.standing.specs.Cells.{labelledBoth, Plot, Inside, Cover, Stands, Listed}
 use Rattle.standing.proofs.SizeTable.{count-some}
 use Rattle.standing.proofs.Joining.{length-spread, spread-at}
 use Rattle.standing.proofs.CellTable.{and-both, both-and}
@@ -185,3 +185,7 @@ module _ (F G X Y : Column) (stands : Stands F G X Y) where
       let p = stands .plot i hi in
       let k = inside (p .plot) (p .less) in
       (subst (λ (y : ℕ). y < w) (p .second) (k .0), rw (← p .first, ← p .second) (k .1))
+
+  -- every label stands there
+  pub stands-among : Among F X
+  stands-among u h = let p = stands .place u h in record { at-place = p .plot; less = p .less; label = p .first }

@@ -11,12 +11,12 @@ use lib.Dec.{eqb}
 use lib.ListN.{length, set, replicate}
 use lib.Seq.{getD-set-same, getD-set-other}
 use borrow.Author.Tests.{eqb-true, eqb-false}
-use Rattle.rules.specs.Factor.{Column, at, finer, orthogonal}
+use Rattle.rules.specs.Factor.{Column, at, Finer, number, classes, infimum, supremum, finer, orthogonal}
 use Rattle.rules.proofs.Numbering.{by-cases}
-use Rattle.rules.proofs.Columns.{Earlier}
+use Rattle.rules.proofs.Columns.{Earlier, classes-number}
 use Rattle.rules.proofs.Classes.{finer-test}
 use Rattle.rules.proofs.Tests.{orthogonal-test, orthogonal-sym}
-use Rattle.rules.proofs.Bounds.{nested-orthogonal}
+use Rattle.rules.proofs.Bounds.{nested-orthogonal, infimum-comm, supremum-comm, infimum-finer-is, supremum-coarser-is}
 use Rattle.rules.proofs.Walks.{bool-false}
 use Rattle.standing.specs.declared.orders.Order.{Order}
 use Rattle.standing.specs.declared.orders.Standing.{Standing}
@@ -112,3 +112,26 @@ module _ (n : ℕ) (F G : Column) where
     pub orthogonal-by : {x : Standing} → stands n F G ≡ x → saysOrthogonal x ≡ orthogonal n F G
     unfolding stands ordered
     orthogonal-by e = sym (ap saysOrthogonal e) ∙ orthogonal-of (finer n F G) (finer n G F) (orthogonal n F G) nested-left nested-right
+
+-- where G is finer than F: infimum and supremum are the two themselves, numbered, and they are orthogonal
+module _ (F G : Column) (l : length G ≡ length F) (e : finer (length G) G F ≡ true) where
+  finer-here : finer (length F) G F ≡ true
+  finer-here = ap (λ (n : ℕ). finer n G F) (sym l) ∙ e
+
+  fine : Finer (length F) G F
+  fine = finer-test (length F) G F .0 finer-here
+
+  pub nested-infimum : infimum F G ≡ number G
+  nested-infimum = infimum-comm (length F) F G refl l ∙ infimum-finer-is (length F) G F l refl fine
+
+  pub nested-supremum : supremum F G ≡ number F
+  nested-supremum = supremum-comm (length F) F G refl l ∙ supremum-coarser-is (length F) G F l refl fine
+
+  pub infimum-classes : classes G ≡ classes (infimum F G)
+  infimum-classes = sym (ap classes nested-infimum ∙ classes-number G)
+
+  pub supremum-classes : classes F ≡ classes (supremum F G)
+  supremum-classes = sym (ap classes nested-supremum ∙ classes-number F)
+
+  pub nested-true : true ≡ orthogonal (length F) F G
+  nested-true = sym (nested-right (length F) F G refl l finer-here)

@@ -70,11 +70,6 @@ pub sizes-at : (F : Column) {t : List ℕ} → t ≡ sizes F → (u : ℕ) → a
 unfolding sizes labelled classSize
 sizes-at F e u h = ap (λ (l : List ℕ). getD l (at F u) 0) e ∙ getD-tabulate (labelled (length F) F) 256 (at F u) h
 
--- how many plots have each label
-pub label-sizes : (F : Column) {t : List ℕ} → t ≡ sizes F → (x : ℕ) → x < 256 → at t x ≡ labelled (length F) F x
-unfolding sizes
-label-sizes F e x h = ap (λ (l : List ℕ). at l x) e ∙ getD-tabulate (labelled (length F) F) 256 x h
-
 -- ---- one size
 
 -- a test that some plot passes has a count

@@ -1,14 +1,14 @@
 -- Cells: a cell is what a class of F and a class of G have in common. It is known by the two labels.
 -- Assumes nothing.
 use mathlib.Core.Path.{_≡_}
-use mathlib.Core.Bool.{Bool, _&&_}
-use mathlib.Core.List.{List, []}
-use Prim.Native.Nat.{ℕ, _+_, _*_, _≤_, _<_}
+use mathlib.Core.Bool.{Bool, true, false, _&&_}
+use mathlib.Core.List.{List}
+use Prim.Native.Nat.{ℕ, zero, suc, _+_, _*_, _≤_, _<_}
 use lib.Dec.{eqb}
 use lib.ListN.{length, take}
-use Rattle.rules.specs.Factor.{Column, at, labels, every, count, classSize}
+use Rattle.rules.specs.Factor.{Column, at, every, count, classSize}
 use Rattle.standing.specs.Sizes.{labelled}
-use Rattle.standing.specs.Joining.{spread}
+use Rattle.standing.specs.Joining.{InOrder, spread}
 
 -- how many of the first u plots have the labels x and y
 unfoldable pub labelledBoth : ℕ → Column → Column → ℕ → ℕ → ℕ
@@ -34,10 +34,6 @@ pub record CellSizes (n w u : ℕ) (F G : Column) (cells : List ℕ) : Type 0 wh
 -- no two of the first m cells have the same labels
 abbrev pub Once : ℕ → Column → Column → Type 0
 Once m X Y = (i j : ℕ) → i < m → j < m → at X i ≡ at X j → at Y i ≡ at Y j → i ≡ j
-
--- whatever the entries of the labels, F and X have the same ones, first met in the same order
-abbrev pub InOrder : Column → Column → Type 0
-InOrder F X = (t : List ℕ) → labels eqb [] (spread t F) ≡ labels eqb [] (spread t X)
 
 -- X and Y have room for 240 labels; the first m are those of the cells of the first u plots, once each, by first appearance
 pub record Cover (u : ℕ) (F G X Y : Column) (m : ℕ) : Type 0 where
@@ -75,3 +71,12 @@ unfoldable pub evenCells : ℕ → List ℕ → List ℕ → List ℕ → List �
 unfolding every
 evenCells w cells t inK inF inG X Y =
     every (length X) (λ i. eqb (at cells (w * at X i + at Y i) * at inK (at t (at X i))) (at inF (at X i) * at inG (at Y i)))
+
+-- the plots of the cell with the i-th labels of X and Y
+abbrev pub cellSize : ℕ → List ℕ → Column → Column → ℕ → ℕ
+cellSize w cells X Y i = at cells (w * at X i + at Y i)
+
+-- the sum of t over those of the first i places where H has the label x
+unfoldable pub sumAt : (ℕ → ℕ) → Column → ℕ → ℕ → ℕ
+sumAt t H zero x = 0
+sumAt t H (suc i) x = sumAt t H i x + elim (eqb x (at H i)) [ true ↦ t i | false ↦ 0 ]

@@ -1,10 +1,11 @@
 -- Tables over labels for the supremum.
 -- Assumes nothing.
 use mathlib.Core.Path.{_≡_}
-use mathlib.Core.List.{List, map, _++_}
+use mathlib.Core.List.{List, [], map, _++_}
 use Prim.Native.Nat.{ℕ, _≤_, _<_}
+use lib.Dec.{eqb}
 use lib.ListN.{length, take, drop}
-use Rattle.rules.specs.Factor.{Column, at, Same, relabel}
+use Rattle.rules.specs.Factor.{Column, at, Same, labels, number, relabel}
 
 -- every label of F is below top, or none is below low
 abbrev pub Below : ℕ → Column → Type 0
@@ -45,3 +46,20 @@ Links F G h = (u v : ℕ) → u < length F → v < length F → Same G u v → h
 pub record Joins (F G : Column) (t : List ℕ) : Type 0 where
   pub links : Links F G (at t)
   pub least : (h : ℕ → ℕ) → Links F G h → (u v : ℕ) → u < length F → v < length F → at t (at F u) ≡ at t (at F v) → h (at F u) ≡ h (at F v)
+
+-- each label of F is a label of X
+pub record Place (X : Column) (x : ℕ) : Type 0 where
+  pub at-place : ℕ
+  pub less : at-place < length X
+  pub label : at X at-place ≡ x
+
+abbrev pub Among : Column → Column → Type 0
+Among F X = (u : ℕ) → u < length F → Place X (at F u)
+
+-- whatever the entries of the labels, F and X have the same ones, first met in the same order
+abbrev pub InOrder : Column → Column → Type 0
+InOrder F X = (t : List ℕ) → labels eqb [] (spread t F) ≡ labels eqb [] (spread t X)
+
+-- r has for each of the first i labels of X the number of its entry
+abbrev pub Numbered : List ℕ → Column → ℕ → List ℕ → Type 0
+Numbered t X i r = (j : ℕ) → j < i → at r (at X j) ≡ at (number (spread t X)) j

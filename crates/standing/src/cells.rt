@@ -1,16 +1,20 @@
 // Orthogonality by cells: a cell is what a class of one factor and a class of the other have in common.
 ghost use mathlib.Core.Path.{_≡_};
 ghost use mathlib.Core.Bool.{true};
-ghost use Prim.Native.Nat.{_≤_};
+ghost use Prim.Native.Nat.{ℕ, _≤_, _<_};
 ghost use lib.ListN.{length, replicate};
+ghost use Rattle.rules.specs.Factor.{at};
 ghost use Rattle.standing.specs.Joining.{Below, OneClass};
-ghost use Rattle.standing.specs.Cells.{Inside, CellSizes, Cover, LabelSizes, EntrySizes, evenCells};
+ghost use Rattle.standing.specs.Cells.{Inside, CellSizes, Cover, LabelSizes, EntrySizes, cellSize, sumAt, evenCells};
 use crate::sizes::product;
 use limits::PLOTS;
 
-// Labels x of the one factor and y of the other, below w, make cell w × x + y. Most pairs of factors have few cells: a small table is
-// cleared in less time.
+// Labels x of the one factor and y of the other, below w, make cell w × x + y. A small table is cleared in less time, and most pairs of
+// factors have few cells.
 pub(crate) const CELLS: usize = 2048;
+
+// The cells of two factors of 120 classes each, and of one of 240 with one of 60.
+pub(crate) const MANY_CELLS: usize = 16384;
 
 // The cells of any labels.
 pub(crate) const ALL_CELLS: usize = 65536;
@@ -42,6 +46,28 @@ pub(crate) fn count_cells(
         in_cells[i] = size + 1;
     }
     m
+}
+
+// How many plots have each label, by the plots of each listed cell.
+pub(crate) fn sum_cells(
+    w: usize,
+    in_cells: &[u8],
+    cell_f: &[u8],
+    cell_g: &[u8],
+    in_f: &mut [u8; 256],
+    in_g: &mut [u8; 256],
+)
+    requires { ⌜ (length (now «cell_g») ≡ length (now «cell_f»)) × (length (now «in_cells») ≤ 65536) × Inside w (length (now «in_cells»)) (now «cell_f») (now «cell_g») × (now «in_f» ≡ replicate 256 0) × (now «in_g» ≡ replicate 256 0) × ((z : ℕ) → sumAt (cellSize w (now «in_cells») (now «cell_f») (now «cell_g»)) (now «cell_f») (length (now «cell_f»)) z ≤ 240) × ((z : ℕ) → sumAt (cellSize w (now «in_cells») (now «cell_f») (now «cell_g»)) (now «cell_g») (length (now «cell_f»)) z ≤ 240) ⌝ }
+    ensures first { λ _. ⌜ ((z : ℕ) → z < 256 → at (now («in_f» .exit)) z ≡ sumAt (cellSize w (now («in_cells» .entry)) (now («cell_f» .entry)) (now («cell_g» .entry))) (now («cell_f» .entry)) (length (now («cell_f» .entry))) z) ⌝ }
+    ensures second { λ _. ⌜ ((z : ℕ) → z < 256 → at (now («in_g» .exit)) z ≡ sumAt (cellSize w (now («in_cells» .entry)) (now («cell_f» .entry)) (now («cell_g» .entry))) (now («cell_g» .entry)) (length (now («cell_f» .entry))) z) ⌝ }
+{
+    for i in 0..cell_f.len() {
+        let x = cell_f[i] as usize;
+        let y = cell_g[i] as usize;
+        let size = in_cells[w * x + y];
+        in_f[x] += size;
+        in_g[y] += size;
+    }
 }
 
 // A table of one size.

@@ -5,7 +5,7 @@ ghost use Prim.Native.Nat.{ℕ, _≤_, _<_};
 ghost use lib.ListN.{length};
 ghost use Rattle.rules.specs.Factor.{at, universal, number, classes, supremum};
 ghost use Rattle.factor.specs.Lent.{onCommon, overlay};
-ghost use Rattle.standing.specs.Joining.{Below, OwnWithin, Own, OneEntry, OneClass, Joins, relabelled, spread};
+ghost use Rattle.standing.specs.Joining.{Below, OwnWithin, Own, OneEntry, OneClass, Joins, Among, InOrder, Numbered, relabelled, spread};
 use crate::labels::least_label;
 use crate::labels::past_labels;
 use factor::common_plots;
@@ -34,7 +34,7 @@ fn number_joined(f: &[u8], g: &[u8], top: usize, out: &mut [u8; PLOTS]) -> usize
 {
     let mut table = [0u8; 256];
     let one = join_labels(f, g, top, &mut table);
-    number_joins(&table, f, one, out)
+    number_joins(&table, f, f, one, out)
 }
 
 // A table over labels: labels of `f` that share a class of `g` have one entry. Answers whether it is known that all have one.
@@ -48,15 +48,35 @@ pub(crate) fn join_labels(f: &[u8], g: &[u8], top: usize, table: &mut [u8; 256])
 }
 
 // Numbers the classes that the entries of the labels make; answers how many there are. It is known where all have one.
-pub(crate) fn number_joins(table: &[u8], f: &[u8], one: bool, out: &mut [u8; PLOTS]) -> usize
-    requires { ⌜ (length (now table) ≡ 256) × (length (now f) ≤ 240) × (one ≡ true → (0 < length (now f)) × OneClass (now table) (now f)) ⌝ }
+// The labels are listed in `x` by first appearance.
+pub(crate) fn number_joins(
+    table: &[u8],
+    f: &[u8],
+    x: &[u8],
+    one: bool,
+    out: &mut [u8; PLOTS],
+) -> usize
+    requires { ⌜ (length (now table) ≡ 256) × (length (now f) ≤ 240) × (length (now x) ≤ 240) × Among (now f) (now x) × InOrder (now f) (now x) × (one ≡ true → (0 < length (now f)) × OneClass (now table) (now f)) ⌝ }
     ensures answer { λ r. ⌜ r ≡ classes (spread (now (table .entry)) (now (f .entry))) ⌝ }
     ensures numbers { λ _. ⌜ now (out .exit) ≡ overlay (now (out .entry)) (number (spread (now (table .entry)) (now (f .entry)))) ⌝ }
 {
     if one {
         return one_class(f.len(), out);
     }
-    number_entries(table, f, out)
+    let mut numbers = [0u8; 256];
+    let k = number_labels(table, x, &mut numbers);
+    spread_labels(&numbers, f, out);
+    k
+}
+
+// Numbers the classes of a column whose labels are below `top`; answers how many there are.
+pub(crate) fn number_column(f: &[u8], top: usize, out: &mut [u8; PLOTS]) -> usize
+    requires { ⌜ (length (now f) ≤ 240) × (top ≤ 256) × Below top (now f) ⌝ }
+    ensures answer { λ r. ⌜ r ≡ classes (now (f .entry)) ⌝ }
+    ensures numbers { λ _. ⌜ now (out .exit) ≡ overlay (now (out .entry)) (number (now (f .entry))) ⌝ }
+{
+    let table = own_labels(least_label(f), top);
+    number_joins(&table, f, f, false, out)
 }
 
 // A table over labels: each label from `low` on and below `top` is its own entry. Label 0 and those from `top` on have the entry `low`,
@@ -149,24 +169,35 @@ fn join(table: &mut [u8; 256], f: &[u8], g: &[u8], top: usize) -> bool
     false
 }
 
-// The same for any entries.
-fn number_entries(table: &[u8], f: &[u8], out: &mut [u8; PLOTS]) -> usize
-    requires { ⌜ (length (now table) ≡ 256) × (length (now f) ≤ 240) ⌝ }
-    ensures answer { λ r. ⌜ r ≡ classes (spread (now (table .entry)) (now (f .entry))) ⌝ }
-    ensures numbers { λ _. ⌜ now (out .exit) ≡ overlay (now (out .entry)) (number (spread (now (table .entry)) (now (f .entry)))) ⌝ }
+// Numbers the classes that the entries of the listed labels make, by label; answers how many there are.
+fn number_labels(table: &[u8], x: &[u8], numbers: &mut [u8; 256]) -> usize
+    requires { ⌜ (length (now table) ≡ 256) × (length (now x) ≤ 240) × (length (now numbers) ≡ 256) ⌝ }
+    ensures answer { λ r. ⌜ r ≡ classes (spread (now (table .entry)) (now (x .entry))) ⌝ }
+    ensures numbers { λ _. ⌜ (length (now (numbers .exit)) ≡ 256) × Numbered (now (table .entry)) (now (x .entry)) (length (now (x .entry))) (now (numbers .exit)) ⌝ }
 {
-    let room: &mut [u8] = out;
-    let mut numbers = [0u8; 256];
+    let mut found = [0u8; 256];
     let mut k: usize = 0;
-    for u in 0..f.len() {
-        let x = table[f[u] as usize] as usize;
-        if numbers[x] == 0 {
+    for i in 0..x.len() {
+        let label = x[i] as usize;
+        let entry = table[label] as usize;
+        if found[entry] == 0 {
             k += 1;
-            numbers[x] = k as u8;
+            found[entry] = k as u8;
         }
-        room[u] = numbers[x];
+        numbers[label] = found[entry];
     }
     k
+}
+
+// Writes for each plot the number of its label.
+fn spread_labels(numbers: &[u8], f: &[u8], out: &mut [u8; PLOTS])
+    requires { ⌜ (length (now numbers) ≡ 256) × (length (now f) ≤ 240) ⌝ }
+    ensures { λ _. ⌜ now (out .exit) ≡ overlay (now (out .entry)) (spread (now (numbers .entry)) (now (f .entry))) ⌝ }
+{
+    let room: &mut [u8] = out;
+    for u in 0..f.len() {
+        room[u] = numbers[f[u] as usize];
+    }
 }
 
 // Writes 1 for each of `n` plots; answers 1, the number of classes.

@@ -67,7 +67,7 @@ fn orthogonal(f: &[u8], g: &[u8]) -> bool
 }
 
 // `finer` for two columns of one length, in one walk: the table has the label in `g` of each class of `f` that was met, plus 1.
-fn agrees(f: &[u8], g: &[u8]) -> bool
+pub(crate) fn agrees(f: &[u8], g: &[u8]) -> bool
     requires { ⌜ length (now g) ≡ length (now f) ⌝ }
     ensures { λ r. ⌜ r ≡ finer (length (now (f .entry))) (now (f .entry)) (now (g .entry)) ⌝ }
 {

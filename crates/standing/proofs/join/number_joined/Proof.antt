@@ -1,9 +1,9 @@
 -- `number_joined` meets its contract: the entries of the joined labels make the classes of the supremum.
 -- Assumes nothing.
-use mathlib.Core.Path.{ap, _∙_}
+use mathlib.Core.Path.{refl, ap, _∙_}
 use denote.Ref.{now}
 use Rattle.factor.specs.Lent.{overlay}
-use Rattle.standing.proofs.Joining.{stands-self, joins-supremum, number-spread, classes-spread, one-entry}
+use Rattle.standing.proofs.Joining.{stands-self, among-self, joins-supremum, number-spread, classes-spread, one-entry}
 use borrow.Author.Needs.{needs}
 use Rattle.standing.proofs.join.number_joined.Statement.{statement}
 use Rattle.standing.proofs.join.number_joined.Tie as tie
@@ -20,7 +20,7 @@ number-joins-requires c κs =
     let s = j .before .before .before .before in
     let f = now (s .args .f) in
     let g = now (s .args .g) in
-    (j .join-labels .ensures .1 .0, s .pre .0, λ e. let one = j .join-labels .ensures .0 e in (one .0, one-entry f g (s .pre .1) (s .args .top) (j .join-labels .last .1 .1 .1 .0) (s .pre .3) (one .1)))
+    (j .join-labels .ensures .1 .0, s .pre .0, s .pre .0, among-self f, λ t. refl, λ e. let one = j .join-labels .ensures .0 e in (one .0, one-entry f g (s .pre .1) (s .args .top) (j .join-labels .last .1 .1 .1 .0) (s .pre .3) (one .1)))
 
 returns : tie.Need-returns
 returns c =

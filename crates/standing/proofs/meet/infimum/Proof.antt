@@ -1,15 +1,16 @@
 -- `infimum` meets its contract.
 -- Assumes nothing.
-use mathlib.Core.Path.{_≡_, sym, ap, _∙_, subst}
+use mathlib.Core.Path.{_≡_, refl, sym, ap, _∙_, subst}
 use Prim.Native.Nat.{ℕ, _≤_}
-use native.Mathlib.Nat.{mul-le-mul}
 use native.Mathlib.Omega.{arith}
+use native.Mathlib.Nat.{mul-le-mul}
 use denote.Ref.{now}
 use lib.ListN.{length, take, length-take}
-use borrow.Author.Needs.{needs}
 use Rattle.rules.specs.Factor.{Column, classes, infimum}
 use Rattle.factor.specs.Lent.{onCommon, overlay}
 use Rattle.standing.proofs.CellTable.{inside-below}
+use Rattle.standing.proofs.Listing.{cover-none}
+use borrow.Author.Needs.{needs}
 use Rattle.standing.proofs.meet.infimum.Statement.{statement}
 use Rattle.standing.proofs.meet.infimum.Tie as tie
 
@@ -66,25 +67,49 @@ slice-aggregate-number-cells c = long-f (c .before .before .before .before .befo
 slice-aggregate-number-cells-2 : tie.Need-slice-aggregate-number-cells-2
 slice-aggregate-number-cells-2 c = long-g (c .before .before .before .before .before .before .before)
 
+slice-aggregate-number-cells-3 : tie.Need-slice-aggregate-number-cells-3
+slice-aggregate-number-cells-3 c = search needs
+
 number-cells-requires : tie.Need-number-cells-requires
 number-cells-requires c κs =
-    let t = c .before .before .before in
-    let k = t .before .before .before .before .before in
-    let a = t .before .before .before .past-labels .ensures in
-    let b = t .before .past-labels2 .ensures in
+    let p = c .before .before .before .before .before .before .before in
+    let k = p .before .before .before .before in
+    let a = p .before .before .past-labels in
+    let b = p .past-labels2 in
     let l = sym (long-g k) ∙ long-f k in
-    (subst (λ (m : ℕ). m ≤ 240) (long-f k) (few k), l, b .1, inside-below (t .before .before .before .past-labels .result) (t .before .past-labels2 .result) 2048 (f k) (g k) l (a .2) (b .2) (t .if1 .taken))
+    (subst (λ (m : ℕ). m ≤ 240) (long-f k) (few k), l, omega arith, inside-below (a .result) (b .result) 2048 (f k) (g k) l (a .ensures .2) (b .ensures .2) (c .before .before .before .before .before .before .if1 .taken), refl, cover-none (f k) (g k))
 
 returns : tie.Need-returns
 returns c =
-    let k = c .before .before .before .before .before .before .before .before .before in
-    (c .number-cells .ensures .0 ∙ ap classes (whole k), c .number-cells .ensures .1 ∙ ap (overlay (now (k .before .before .before .args .out))) (whole k))
+    let r = c .before in
+    let k = r .before .before .before .before .before .before .before .before .before .before .before .before in
+    let s = k .before .before .before in
+    (r .number-cells .ensures .0 ∙ ap classes (whole k), r .number-cells .ensures .1 .1 ∙ ap (overlay (now (s .args .out))) (whole k))
 
-number-pairs-requires : tie.Need-number-pairs-requires
-number-pairs-requires c κs = search needs
+slice-aggregate-number-cells-4 : tie.Need-slice-aggregate-number-cells-4
+slice-aggregate-number-cells-4 c = long-f (c .before .before .before .before .before .before)
+
+slice-aggregate-number-cells-5 : tie.Need-slice-aggregate-number-cells-5
+slice-aggregate-number-cells-5 c = long-g (c .before .before .before .before .before .before .before)
+
+slice-aggregate-number-cells-6 : tie.Need-slice-aggregate-number-cells-6
+slice-aggregate-number-cells-6 c = search needs
+
+number-cells-requires-2 : tie.Need-number-cells-requires-2
+number-cells-requires-2 c κs =
+    let p = c .before .before .before .before .before .before .before in
+    let k = p .before .before .before .before in
+    let a = p .before .before .past-labels in
+    let b = p .past-labels2 in
+    let l = sym (long-g k) ∙ long-f k in
+    (subst (λ (m : ℕ). m ≤ 240) (long-f k) (few k), l, omega arith, inside-below (a .result) (b .result) 65536 (f k) (g k) l (a .ensures .2) (b .ensures .2) (mul-le-mul (a .ensures .1) (b .ensures .1)), refl, cover-none (f k) (g k))
 
 returns-2 : tie.Need-returns-2
-returns-2 c = search needs
+returns-2 c =
+    let r = c .before in
+    let k = r .before .before .before .before .before .before .before .before .before .before .before .before in
+    let s = k .before .before .before in
+    (r .number-cells2 .ensures .0 ∙ ap classes (whole k), r .number-cells2 .ensures .1 .1 ∙ ap (overlay (now (s .args .out))) (whole k))
 
 pub infimum-spec : {M : Type 1} → statement M
 infimum-spec =
@@ -98,7 +123,11 @@ infimum-spec =
     mul-if1
     slice-aggregate-number-cells
     slice-aggregate-number-cells-2
+    slice-aggregate-number-cells-3
     number-cells-requires
     returns
-    number-pairs-requires
+    slice-aggregate-number-cells-4
+    slice-aggregate-number-cells-5
+    slice-aggregate-number-cells-6
+    number-cells-requires-2
     returns-2)

@@ -1,14 +1,39 @@
--- `crossing_whole` meets its contract.
+-- `crossing_whole` meets its contract: there is room for all cells.
 -- Assumes nothing.
+use mathlib.Core.Path.{_≡_, refl, sym, ap, _∙_}
 use native.Mathlib.Omega.{arith}
 use native.Mathlib.Nat.{mul-le-mul}
 use borrow.Author.Needs.{needs}
+use denote.Ref.{now}
+use Rattle.factor.specs.Lent.{overlay}
+use Rattle.standing.proofs.Nesting.{nested-supremum, supremum-classes, nested-true}
 use Rattle.standing.proofs.pair.crossing_whole.Statement.{statement}
 use Rattle.standing.proofs.pair.crossing_whole.Tie as tie
 
-mul-if1 : tie.Need-mul-if1
-mul-if1 c =
-    let s = c .before .before in
+agrees-requires : tie.Need-agrees-requires
+agrees-requires c κs = search needs
+
+number-column-requires : tie.Need-number-column-requires
+number-column-requires c κs = search needs
+
+returns : tie.Need-returns
+returns c =
+    let t = c .before .before in
+    let a = t .before in
+    let s = a .before .before .before in
+    let f = now (s .args .f) in
+    let g = now (s .args .g) in
+    let fine = sym (a .agrees .ensures) ∙ t .if1 .taken in (
+      c .number-column .ensures .0 ∙ supremum-classes f g (s .pre .1) fine,
+      (
+        nested-true f g (s .pre .1) fine,
+        c .number-column .ensures .1 ∙ ap (overlay (now (s .args .above))) (sym (nested-supremum f g (s .pre .1) fine)),
+      ),
+    )
+
+mul-cells : tie.Need-mul-cells
+mul-cells c =
+    let s = c .before .before .before .before in
     omega (arith, mul-le-mul (s .pre .2) (s .pre .3))
 
 slice-aggregate-crossing-cells : tie.Need-slice-aggregate-crossing-cells
@@ -17,22 +42,45 @@ slice-aggregate-crossing-cells c = search needs
 crossing-cells-requires : tie.Need-crossing-cells-requires
 crossing-cells-requires c κs = search needs
 
-returns : tie.Need-returns
-returns c = search needs
-
-crossing-many-requires : tie.Need-crossing-many-requires
-crossing-many-requires c κs = search needs
-
 returns-2 : tie.Need-returns-2
 returns-2 c = search needs
+
+slice-aggregate-crossing-cells-2 : tie.Need-slice-aggregate-crossing-cells-2
+slice-aggregate-crossing-cells-2 c = search needs
+
+crossing-cells-requires-2 : tie.Need-crossing-cells-requires-2
+crossing-cells-requires-2 c κs =
+    let s = c .before .before .before .before .before .before .before .before in
+    (s .pre .0, s .pre .1, s .pre .2, s .pre .3, s .pre .4, s .pre .5, c .before .before .if3 .taken, omega arith, refl)
+
+returns-3 : tie.Need-returns-3
+returns-3 c = search needs
+
+slice-aggregate-crossing-cells-3 : tie.Need-slice-aggregate-crossing-cells-3
+slice-aggregate-crossing-cells-3 c = search needs
+
+crossing-cells-requires-3 : tie.Need-crossing-cells-requires-3
+crossing-cells-requires-3 c κs =
+    let s = c .before .before .before .before .before .before .before .before in
+    (s .pre .0, s .pre .1, s .pre .2, s .pre .3, s .pre .4, s .pre .5, mul-le-mul (s .pre .2) (s .pre .3), omega arith, refl)
+
+returns-4 : tie.Need-returns-4
+returns-4 c = search needs
 
 pub crossing-whole-spec : {M : Type 1} → statement M
 crossing-whole-spec =
     tie.close
     (tie.spec
-    mul-if1
+    agrees-requires
+    number-column-requires
+    returns
+    mul-cells
     slice-aggregate-crossing-cells
     crossing-cells-requires
-    returns
-    crossing-many-requires
-    returns-2)
+    returns-2
+    slice-aggregate-crossing-cells-2
+    crossing-cells-requires-2
+    returns-3
+    slice-aggregate-crossing-cells-3
+    crossing-cells-requires-3
+    returns-4)
