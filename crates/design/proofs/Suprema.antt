@@ -2,14 +2,17 @@
 -- Assumes nothing.
 use mathlib.Core.Path.{_≡_, refl, sym, ap, ap₂, _∙_, subst}
 use mathlib.Core.Logic.{_⊎_, inl, inr}
+use mathlib.Core.Bool.{Bool, true, false, _||_}
 use mathlib.Core.List.{List, [], _∷_, _++_, append-nil, append-assoc, List·Memᴰ·not-nil, List·Memᴰ·append-cases, List·Memᴰ·eq-of-singleton, Memᴰ·cast, Memᴰ·append-left, Memᴰ·append-right}
 use Prim.Native.Nat.{ℕ, suc, _+_, _*_, _-_, _≤_, _<_}
 use native.Mathlib.Nat.{le-of-eq, le-trans, zero-add}
 use native.Mathlib.Numerals.{add-one}
 use native.Mathlib.Omega.{arith}
+use lib.Dec.{eqb}
 use lib.ListN.{length, getD, take, drop, length-append}
 use lib.Seq.{paste, take-all, take-at}
-use Rattle.rules.specs.Factor.{Column, number, classes, supremum}
+use borrow.Author.Tests.{eqb-true}
+use Rattle.rules.specs.Factor.{Column, number, classes, supremum, finer, orthogonal}
 use Rattle.rules.specs.Family.{Family, _∈_, empty, columnsFrom, membersOf, insertAll, written}
 use Rattle.rules.specs.Closing.{onlySupremum, productsOf, products, finalTreatmentFamily}
 use Rattle.rules.specs.Relation.{memberAt}
@@ -23,9 +26,9 @@ use Rattle.factor.specs.Lent.{common, onCommon, overlay}
 use Rattle.standing.specs.Standing.{testCommon}
 use Rattle.factor.proofs.Lent.{common-all}
 use Rattle.design.specs.State.{columnIn, Held, Placed, full, old, new, grownTo, Begun, Sorted}
-use Rattle.design.specs.Treatments.{Placing, exceeded, begun, Growing}
+use Rattle.design.specs.Treatments.{Placing, exceeded, begun, Growing, knownFiner, Member}
 use Rattle.design.proofs.Asked.{part-is, length-column}
-use Rattle.design.proofs.Order.{written-snoc}
+use Rattle.design.proofs.Extremes.{one-class-coarsest, all-classes-finest, finer-supremum, finer-orthogonal, coarser-supremum, coarser-orthogonal}
 use Rattle.design.proofs.Placing.{grown-new, grown-old}
 use Rattle.design.proofs.Start.{begun-more}
 
@@ -87,6 +90,45 @@ module _ (n i j : ℕ) (plot first : List ℕ) (small : n ≤ 240) (a : 240 * i 
     pub long-made : n ≤ length after
     long-made = rw (written-made, length-append) (omega (arith, length-made))
 
+-- ---- nested members
+
+or-cases : (a b : Bool) → a || b ≡ true → (a ≡ true) ⊎ (b ≡ true)
+or-cases true b e = inl refl
+or-cases false b e = inr e
+
+-- a member lies in its buffer
+pub member-in-buffer : (n i k : ℕ) (family : List ℕ) → n ≤ 240 → Member n family i k → 240 * i + n ≤ length family
+member-in-buffer n i k family small m = omega (arith, m .place, m .room)
+
+-- of two members the first is finer
+known-finer : (n i j f g : ℕ) (a b : List ℕ) → 1 ≤ n → n ≤ 240 → Member n a i f → Member n b j g → knownFiner n f g ≡ true → finer n (columnIn n a i) (columnIn n b j) ≡ true
+known-finer n i j f g a b some small p q e = go (or-cases (eqb g 1) (eqb f n) e)
+  where
+    go : (eqb g 1 ≡ true) ⊎ (eqb f n ≡ true) → finer n (columnIn n a i) (columnIn n b j) ≡ true
+    go (inl h) = one-class-coarsest n (columnIn n b j) (columnIn n a i) (length-column n j b (member-in-buffer n j g b small q)) some (sym (q .count) ∙ eqb-true g 1 h)
+    go (inr h) = all-classes-finest n (columnIn n a i) (columnIn n b j) (length-column n i a (member-in-buffer n i f a small p)) (sym (p .count) ∙ eqb-true f n h)
+
+module _ (n i j f g : ℕ) (plot first : List ℕ) (some : 1 ≤ n) (small : n ≤ 240) (p : Member n plot i f) (q : Member n first j g) where
+  -- the supremum is the treatment member
+  pub treatment-coarser : knownFiner n f g ≡ true → (true ≡ orthogonal n (columnIn n plot i) (columnIn n first j)) × (columnIn n first j ≡ supremum (columnIn n plot i) (columnIn n first j))
+  treatment-coarser e =
+      let F = columnIn n plot i in
+      let G = columnIn n first j in
+      let lF = length-column n i plot (member-in-buffer n i f plot small p) in
+      let lG = length-column n j first (member-in-buffer n j g first small q) in
+      let h = known-finer n i j f g plot first some small p q e in
+      (sym (finer-orthogonal n F G lF lG h), sym (finer-supremum n F G lF lG h (q .numbered)))
+
+  -- the supremum is the plot member
+  pub plot-coarser : knownFiner n g f ≡ true → (true ≡ orthogonal n (columnIn n plot i) (columnIn n first j)) × (columnIn n plot i ≡ supremum (columnIn n plot i) (columnIn n first j))
+  plot-coarser e =
+      let F = columnIn n plot i in
+      let G = columnIn n first j in
+      let lF = length-column n i plot (member-in-buffer n i f plot small p) in
+      let lG = length-column n j first (member-in-buffer n j g first small q) in
+      let h = known-finer n j i g f first plot some small q p e in
+      (sym (coarser-orthogonal n G F lG lF h), sym (coarser-supremum n G F lG lF h (p .numbered)))
+
 -- ---- members of a buffer one by one
 
 module _ (n : ℕ) (b : List ℕ) where
@@ -94,20 +136,6 @@ module _ (n : ℕ) (b : List ℕ) where
   pub members-snoc : (j : ℕ) → membersOf n b (j + 1) ≡ membersOf n b j ++ columnIn n b j ∷ []
   unfolding membersOf
   members-snoc j = ap (columnsFrom n b 0) (add-one j) ∙ columns-snoc n b 0 j ∙ ap (λ (i : ℕ). columnsFrom n b 0 j ++ columnIn n b i ∷ []) (zero-add j)
-
-  -- the next member is copied after those before it
-  pub copy-turn : n ≤ 240 → (to : List ℕ) (i : ℕ) → length (columnIn n b i) ≡ n
-      → paste (written to 0 (membersOf n b i)) (240 * i) (columnIn n b i) n ≡ written to 0 (membersOf n b (i + 1))
-  copy-turn small to i len =
-      let H : Column = columnIn n b i in
-      let S : Family = membersOf n b i in
-      let c : List ℕ = written to 0 S in
-      let count : 0 + length S ≡ i = zero-add (length S) ∙ length-members n small b i in
-      sym (
-      ap (written to 0) (members-snoc i)
-      ∙ written-snoc to 0 S H
-      ∙ ap₂ (λ (j m : ℕ). take (240 * j) c ++ H ++ drop (240 * j + m) c) count len
-      ∙ ap (λ (X : Column). take (240 * i) c ++ X ++ drop (240 * i + n) c) (sym (take-all n H (le-of-eq len))))
 
 -- ---- suprema row by row
 

@@ -5,7 +5,7 @@ ghost use Prim.Native.Nat.{ℕ, _+_, _*_, _≤_, _<_};
 ghost use lib.ListN.{length, take};
 ghost use lib.Seq.{paste};
 ghost use Rattle.rules.specs.Factor.{Column, number, infimum};
-ghost use Rattle.rules.specs.Family.{_∈_, columnsFrom, membersOf, written};
+ghost use Rattle.rules.specs.Family.{_∈_, columnsFrom, membersOf};
 ghost use Rattle.rules.specs.Closing.{treatmentGenerators};
 ghost use Rattle.design.specs.State.{columnIn, Held, Placed, Begun};
 ghost use Rattle.design.specs.Treatments.{extended, Room, Infima, AllPlaced, FirstFamily};
@@ -18,7 +18,6 @@ use crate::store::grown;
 use crate::store::place;
 use crate::store::put;
 use limits::COLUMNS;
-use limits::FAMILY;
 use limits::Level;
 use limits::MEMBERS;
 use limits::PLOTS;
@@ -146,20 +145,26 @@ fn place_all(
     size
 }
 
-// Writes the first treatment family in its order; answers its size, or TOO_MANY.
-pub fn first_family(levels: &[Level], n: usize, d: usize, k: usize, family: &mut [u8]) -> usize
-    requires { ⌜ (1 ≤ n) × (n ≤ 240) × (d ≤ 6) × (1 ≤ k) × (k ≤ 6) × (2880 ≤ length (now levels)) × (7680 ≤ length (now family)) ⌝ }
+// Writes the first treatment family in its order, grown in the store; answers its size, or TOO_MANY, and then nothing is written.
+pub fn first_family(
+    levels: &[Level],
+    n: usize,
+    d: usize,
+    k: usize,
+    store: &mut [u8],
+    family: &mut [u8],
+) -> usize
+    requires { ⌜ (1 ≤ n) × (n ≤ 240) × (d ≤ 6) × (1 ≤ k) × (k ≤ 6) × (2880 ≤ length (now levels)) × (7680 ≤ length (now family)) × (length (now store) ≡ 7680) ⌝ }
     ensures { λ r. ⌜ FirstFamily n k (columnsFrom n (now (levels .entry)) 6 d) (now (family .entry)) (now (family .exit)) r ⌝ }
 {
     let mut infima = [0u8; INFIMA];
     let total = fill_infima(levels, n, d, k, &mut infima);
-    let mut store = [0u8; FAMILY];
     let mut counts = [0u8; MEMBERS];
-    let start = place_all(&infima, total, n, &mut store, &mut counts);
+    let start = place_all(&infima, total, n, store, &mut counts);
     if start == TOO_MANY {
         return TOO_MANY;
     }
-    close_first(&mut store, &mut counts, start, n, family)
+    close_first(store, &mut counts, start, n, family)
 }
 
 // Closes the family under supremum and writes it in its order; answers its size, or TOO_MANY.
@@ -182,16 +187,4 @@ fn close_first(
     let order = sort(store, counts, n, size);
     write(store, &order, n, size, family);
     size
-}
-
-// Copies the first `size` members of one family buffer to another.
-pub fn copy_family(from: &[u8], n: usize, size: usize, family: &mut [u8])
-    requires { ⌜ (n ≤ 240) × (size ≤ 32) × (7680 ≤ length (now from)) × (7680 ≤ length (now family)) ⌝ }
-    ensures { λ _. ⌜ now (family .exit) ≡ written (now (family .entry)) 0 (membersOf n (now (from .entry)) size) ⌝ }
-{
-    for i in 0..size {
-        let at = PLOTS * i;
-        let end = at + n;
-        put(family, i, &from[at..end]);
-    }
 }

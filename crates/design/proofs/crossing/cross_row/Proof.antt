@@ -18,14 +18,14 @@ use Rattle.design.proofs.crossing.cross_row.Statement.{statement}
 use Rattle.design.proofs.crossing.cross_row.Tie as tie
 
 abbrev Inv-loop : tie.InvT-loop
-Inv-loop plot i first first-size n store₀ counts₀ size now₀ j₀ store counts now j =
+Inv-loop plot i f first first-size firsts n store₀ counts₀ size now₀ j₀ store counts now j =
     (j ≤ first-size)
     × Growing n store counts now
     × (crossPartner (orthogonalAt n plot first) first-size i ≡ firstFrom (orthogonalAt n plot first i) j (first-size - j))
     × ((As : List Column) → Placing n As store₀ counts₀ size → Placing n (rowOf n first As (columnIn n plot i) j) store counts now)
 
 abbrev μ-loop : tie.MeasureT-loop
-μ-loop plot i first first-size n store₀ counts₀ size now₀ j₀ store counts now j = first-size - j
+μ-loop plot i f first first-size firsts n store₀ counts₀ size now₀ j₀ store counts now j = first-size - j
 
 -- the suprema of plot member i with the first j treatment members, after the columns As
 abbrev row : tie.Start Inv-loop μ-loop → List Column → ℕ → List Column
@@ -45,11 +45,14 @@ loop-holds c =
       λ As p. subst (λ (l : List Column). Placing (s .n) l (now (s .store)) (now (s .counts)) (s .size)) (sym (row-none (s .n) (now (s .first)) As (columnIn (s .n) (now (s .plot)) (s .i)))) p,
     )
 
+element-copy-out-cross-pair : tie.Need-element-copy-out-cross-pair Inv-loop μ-loop
+element-copy-out-cross-pair c = omega arith
+
 cross-pair-requires : tie.Need-cross-pair-requires Inv-loop μ-loop
 cross-pair-requires c κs =
-    let b = c .before .before .before in
+    let b = c .before .before .before .before in
     let start = b .before .before .before .before in
-    (b .loop .inv .1, start .pre .1, start .pre .2, start .pre .3, omega arith)
+    (b .loop .inv .1, start .pre .1, start .pre .3 (b .loop .j) (omega arith))
 
 add-second : tie.Need-add-second Inv-loop μ-loop
 add-second c = omega arith
@@ -57,13 +60,13 @@ add-second c = omega arith
 same-length : tie.Need-same-length Inv-loop μ-loop
 same-length c =
     let q = c .before .before .before .before in
-    let start = q .before .before .before .before .before .before .before .before in
+    let start = q .before .before .before .before .before .before .before .before .before in
     q .cross-pair .ensures .1 .0 .room ∙ sym (start .pre .0 .room)
 
 returns : tie.Need-returns Inv-loop μ-loop
 returns c =
     let q = c .before .before .before .before in
-    let b = q .before .before .before .before in
+    let b = q .before .before .before .before .before in
     let start = b .before .before .before .before in
     let j = b .loop .j in
     let e : test start j ≡ false = sym (q .cross-pair .ensures .0) ∙ not-true _ (c .if1 .taken) in (
@@ -80,7 +83,7 @@ loop-less c = omega arith
 loop-again : tie.Need-loop-again Inv-loop μ-loop
 loop-again c =
     let q = c .before .before .before .before in
-    let b = q .before .before .before .before in
+    let b = q .before .before .before .before .before in
     let start = b .before .before .before .before in
     let s = start .args in
     let j = b .loop .j in
@@ -89,7 +92,7 @@ loop-again c =
       q .cross-pair .ensures .1 .0,
       b .loop .inv .2 ∙ from-on (test start) j (s .first-size) (omega arith) e,
       λ As p.
-          subst (λ (l : List Column). Placing (s .n) l (q .cross-pair .last .1 .1 .1 .1 .1 .0) (q .cross-pair .last .1 .1 .1 .1 .1 .1 .0) (q .cross-pair .result .size)) (sym (row-more (s .n) (now (s .first)) As (columnIn (s .n) (now (s .plot)) (s .i)) j))
+          subst (λ (l : List Column). Placing (s .n) l (q .cross-pair .last .1 .1 .1 .1 .1 .1 .1 .0) (q .cross-pair .last .1 .1 .1 .1 .1 .1 .1 .1 .0) (q .cross-pair .result .size)) (sym (row-more (s .n) (now (s .first)) As (columnIn (s .n) (now (s .plot)) (s .i)) j))
           (q .cross-pair .ensures .1 .1 (row start As j) (b .loop .inv .3 As p)),
     )
 
@@ -113,6 +116,7 @@ cross-row-spec =
     Inv-loop
     μ-loop
     loop-holds
+    element-copy-out-cross-pair
     cross-pair-requires
     add-second
     same-length

@@ -3,6 +3,7 @@
 use mathlib.Core.Path.{_≡_, refl, sym, ap, _∙_, subst}
 use mathlib.Core.List.{List}
 use Prim.Native.Nat.{ℕ, _≤_}
+use native.Mathlib.Omega.{arith}
 use denote.Ref.{now}
 use borrow.Author.Needs.{needs}
 use Rattle.rules.specs.Factor.{orthogonal}
@@ -17,13 +18,14 @@ use Rattle.design.specs.State.{Begun}
 use Rattle.design.specs.Treatments.{Placing, orthogonalAt}
 use Rattle.design.proofs.FullAnswered.{full-refusing-is, full-accepting-is, told-13, passed-13, told-14-over, told-14-on, told-buffer, cross-members}
 use Rattle.design.proofs.Order.{sorted-columns}
+use Rattle.design.proofs.Rewriting.{written-again}
 use Rattle.design.proofs.Suprema.{placing-over, placing-begun, final-over, final-listed, final-size, sorted-below}
 use Rattle.design.proofs.verdict.from_13.Statement.{statement}
 use Rattle.design.proofs.verdict.from_13.Tie as tie
 
 -- where the function starts, seen from the place at which all pairs are walked
 abbrev start : tie.After-cross → tie.Start
-start w = w .before .before .before .before .before .before
+start w = w .before .before .before .before .before .before .before
 
 -- the plot members
 abbrev plots : tie.After-cross → Family
@@ -31,7 +33,7 @@ plots w = membersOf (start w .args .n) (now (start w .args .plot-family)) (start
 
 -- the members of the first treatment family
 abbrev treatments : tie.After-cross → Family
-treatments w = membersOf (start w .args .n) (now (start w .args .first)) (start w .args .size)
+treatments w = membersOf (start w .args .n) (now (start w .args .treatment-family)) (start w .args .size)
 
 -- the first pair that is not orthogonal
 abbrev pair : tie.After-cross → Places
@@ -49,31 +51,34 @@ places : (w : tie.After-cross) → (w .cross .result .first ≡ pair w .first) �
 places w =
     let s = start w in
     let f = w .cross .ensures in
-    let m = cross-members (s .args .n) (s .pre .1) (now (s .args .plot-family)) (s .args .plot) (now (s .args .first)) (s .args .size) in
-    (f .0 ∙ m .0, f .1 .0 ∙ ap (crossSecond (orthogonalAt (s .args .n) (now (s .args .plot-family)) (now (s .args .first))) (s .args .size)) (f .0) ∙ m .1)
+    let m = cross-members (s .args .n) (s .pre .1) (now (s .args .plot-family)) (s .args .plot) (now (s .args .treatment-family)) (s .args .size) in
+    (f .0 ∙ m .0, f .1 .0 ∙ ap (crossSecond (orthogonalAt (s .args .n) (now (s .args .plot-family)) (now (s .args .treatment-family))) (s .args .size)) (f .0) ∙ m .1)
 
 -- how many plot members and first treatment members there are
 plot-size : (w : tie.After-cross) → start w .args .plot ≡ length (plots w)
 plot-size w = let s = start w in sym (length-members (s .args .n) (s .pre .1) (now (s .args .plot-family)) (s .args .plot))
 
 treatment-size : (w : tie.After-cross) → start w .args .size ≡ length (treatments w)
-treatment-size w = let s = start w in sym (length-members (s .args .n) (s .pre .1) (now (s .args .first)) (s .args .size))
+treatment-size w = let s = start w in sym (length-members (s .args .n) (s .pre .1) (now (s .args .treatment-family)) (s .args .size))
 
 -- all pairs are orthogonal: the suprema are placed, and question 14 is asked
-placed : (e : tie.Else1) → let w = e .before .before in Placing (start w .args .n) (products onlySupremum (plots w) (treatments w)) (store w) (counts w) (w .cross .result .size)
-placed e = e .before .before .cross .ensures .1 .1 (e .if1 .left)
+placed : (e : tie.Else1) → let w = e .before .before .before in Placing (start w .args .n) (products onlySupremum (plots w) (treatments w)) (store w) (counts w) (w .cross .result .size)
+placed e = e .before .before .before .cross .ensures .1 .1 (e .if1 .left)
 
-asked : (e : tie.Else1) → let w = e .before .before in question13 (plots w) (treatments w) (pair w) ≡ question14 (plots w) (treatments w) (finalTreatmentFamily (plots w) (treatments w))
-asked e = let w = e .before .before in passed-13 (plots w) (treatments w) (pair w) (sym (places w .0) ∙ e .if1 .left)
+asked : (e : tie.Else1) → let w = e .before .before .before in question13 (plots w) (treatments w) (pair w) ≡ question14 (plots w) (treatments w) (finalTreatmentFamily (plots w) (treatments w))
+asked e = let w = e .before .before .before in passed-13 (plots w) (treatments w) (pair w) (sym (places w .0) ∙ e .if1 .left)
 
 -- the suprema are the members found
-found : (e : tie.Else2) → let w = e .before .before .before in Begun (start w .args .n) (products onlySupremum (plots w) (treatments w)) (store w) (counts w) (w .cross .result .size)
+found : (e : tie.Else2) → let w = e .before .before .before .before in Begun (start w .args .n) (products onlySupremum (plots w) (treatments w)) (store w) (counts w) (w .cross .result .size)
 found e =
-    let w = e .before .before .before in
+    let w = e .before .before .before .before in
     placing-begun (start w .args .n) (products onlySupremum (plots w) (treatments w)) (store w) (counts w) (w .cross .result .size) (e .if2 .left) (placed (e .before))
 
-slice-aggregate-cross : tie.Need-slice-aggregate-cross
-slice-aggregate-cross c = search needs
+-- the first family is left where it stands
+left : (w : tie.After-cross) → now (start w .args .treatment-family) ≡ written (now (start w .args .treatment-family)) 0 (treatments w)
+left w =
+    let s = start w in
+    sym (written-again (s .args .n) (s .pre .1) (now (s .args .treatment-family)) (s .args .size) (omega (arith, s .pre .3 .room, s .pre .3 .few)))
 
 cross-requires : tie.Need-cross-requires
 cross-requires c κs = search needs
@@ -84,68 +89,69 @@ treatments-refused-requires c κs = search needs
 same-length : tie.Need-same-length
 same-length c = search needs
 
+same-length-2 : tie.Need-same-length-2
+same-length-2 c = search needs
+
 returns : tie.Need-returns
 returns c =
-    let k = c .before .before in
-    let b = k .before .before in
-    let w = b .before .before in
+    let b = c .before in
+    let w = b .before .before .before in
     let t = told-13 (plots w) (treatments w) (pair w) (λ z. b .if1 .taken (places w .0 ∙ z)) in (
-      k .treatments-refused .ensures .0 ∙ full-refusing-is 13 (places w .0) (places w .1) (plot-size w) (treatment-size w) ∙ sym (t .numbers),
-      k .treatments-refused .ensures .1 ∙ sym (told-buffer (now (start w .args .treatment-family)) t),
+      c .treatments-refused .ensures ∙ full-refusing-is 13 (places w .0) (places w .1) (plot-size w) (treatment-size w) ∙ sym (t .numbers),
+      left w ∙ sym (told-buffer (now (start w .args .treatment-family)) t),
     )
 
 treatments-refused-requires-2 : tie.Need-treatments-refused-requires-2
 treatments-refused-requires-2 c κs = search needs
 
-same-length-2 : tie.Need-same-length-2
-same-length-2 c = search needs
+same-length-3 : tie.Need-same-length-3
+same-length-3 c = search needs
+
+same-length-4 : tie.Need-same-length-4
+same-length-4 c = search needs
 
 returns-2 : tie.Need-returns-2
 returns-2 c =
-    let k = c .before .before in
-    let b = k .before .before in
+    let b = c .before in
     let e = b .before in
-    let w = e .before .before in
+    let w = e .before .before .before in
     let over = placing-over (start w .args .n) (products onlySupremum (plots w) (treatments w)) (store w) (counts w) (w .cross .result .size) (b .if2 .taken) (placed e) in
     let t = told-14-over (plots w) (treatments w) (finalTreatmentFamily (plots w) (treatments w)) (final-over (plots w) (treatments w) over) in (
-      k .treatments-refused2 .ensures .0 ∙ full-refusing-is 14 refl refl (plot-size w) (treatment-size w) ∙ sym (t .numbers) ∙ ap fullNumbersOf (sym (asked e)),
-      k .treatments-refused2 .ensures .1 ∙ sym (told-buffer (now (start w .args .treatment-family)) t) ∙ ap (treatmentBuffer (now (start w .args .treatment-family))) (sym (asked e)),
+      c .treatments-refused2 .ensures ∙ full-refusing-is 14 refl refl (plot-size w) (treatment-size w) ∙ sym (t .numbers) ∙ ap fullNumbersOf (sym (asked e)),
+      left w ∙ sym (told-buffer (now (start w .args .treatment-family)) t) ∙ ap (treatmentBuffer (now (start w .args .treatment-family))) (sym (asked e)),
     )
-
-slice-aggregate-sort : tie.Need-slice-aggregate-sort
-slice-aggregate-sort c = search needs
 
 sort-requires : tie.Need-sort-requires
 sort-requires c κs =
     let b = found (c .before .before) in
     (b .held, b .distinct)
 
-slice-aggregate-write : tie.Need-slice-aggregate-write
-slice-aggregate-write c = search needs
-
 write-requires : tie.Need-write-requires
 write-requires c κs =
     let e = c .before .before .before .before .before .before in
-    let w = e .before .before .before in
+    let w = e .before .before .before .before in
     let b = found e in
     let order = c .before .before .before .sort .ensures in (
       b .held .most,
       b .held .room,
       b .held .few,
-      start w .pre .6,
+      start w .pre .3 .room,
       order .entries,
       sorted-below (start w .args .n) (store w) (w .cross .result .size) (c .before .before .before .sort .result) (b .held .most) (b .held .few) order,
     )
 
-same-length-3 : tie.Need-same-length-3
-same-length-3 c = search needs
+same-length-5 : tie.Need-same-length-5
+same-length-5 c = search needs
+
+same-length-6 : tie.Need-same-length-6
+same-length-6 c = search needs
 
 returns-3 : tie.Need-returns-3
 unfolding fullNumbers
 returns-3 c =
     let q = c .before .before .before .before .before .before in
     let e = q .before .before .before in
-    let w = e .before .before .before in
+    let w = e .before .before .before .before in
     let n = start w .args .n in
     let size = w .cross .result .size in
     let b = found e in
@@ -164,17 +170,17 @@ pub from-13-spec : {M : Type 1} → statement M
 from-13-spec =
     tie.close
     (tie.spec
-    slice-aggregate-cross
     cross-requires
     treatments-refused-requires
     same-length
+    same-length-2
     returns
     treatments-refused-requires-2
-    same-length-2
-    returns-2
-    slice-aggregate-sort
-    sort-requires
-    slice-aggregate-write
-    write-requires
     same-length-3
+    same-length-4
+    returns-2
+    sort-requires
+    write-requires
+    same-length-5
+    same-length-6
     returns-3)
