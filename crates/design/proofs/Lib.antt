@@ -8,6 +8,7 @@ pub mod Extremes
 pub mod Choosing
 pub mod Suprema
 pub mod Work
+pub mod KnownOrder
 pub mod Judge
 pub mod Answered
 pub mod FullAnswered
