@@ -523,9 +523,9 @@ closed-over e (exceeded w q) = q
 closed-over e (complete w q) = absurd (beyond e (w .held .few))
 
 -- the first treatment family is too large
-pub first-over : {n k : ℕ} {Ts : List Column} {before after : List ℕ} {r : ℕ} → r ≡ 33 → close onlySupremum (treatmentGenerators n k Ts) ≡ tooMany → FirstFamily n k Ts before after r
+pub first-over : {n k : ℕ} {Ts : List Column} {before after : List ℕ} {r : ℕ} → r ≡ 33 → close onlySupremum (treatmentGenerators n k Ts) ≡ tooMany → after ≡ before → FirstFamily n k Ts before after r
 unfolding firstTreatmentFamily
-first-over e q = no-first e q
+first-over e q s = no-first e q s
 
 -- the first treatment family is written in its order
 pub first-listed : {n k : ℕ} {Ts : List Column} {before after : List ℕ} {r : ℕ} (store : List ℕ) → n ≤ 240 → r ≤ 32 → Distinct (membersOf n store r) → close onlySupremum (treatmentGenerators n k Ts) ≡ family (insertAll (membersOf n store r) [])
@@ -544,6 +544,11 @@ columns-plots n small b i (suc m) h F j = go (columns-plots n small b (suc i) m 
     go : (F ∈ columnsFrom n b (suc i) m → length F ≡ n) → (F ≡ columnIn n b i) ⊎ (F ∈ columnsFrom n b (suc i) m) → length F ≡ n
     go f (inl e) = ap length e ∙ length-part n i b small (omega arith)
     go f (inr k) = f k
+
+-- the same of the members of a buffer
+pub members-plots : (n : ℕ) (b : List ℕ) (m : ℕ) → n ≤ 240 → 240 * m ≤ length b → (F : Column) → F ∈ membersOf n b m → length F ≡ n
+unfolding membersOf
+members-plots n b m small h = columns-plots n small b 0 m (omega arith)
 
 -- the infimum of a choice is on n plots, and numbered
 chosen-infimum : (n : ℕ) {C Ts : List Column} → Chosen C Ts → ((T : Column) → T ∈ Ts → length T ≡ n) → (length (infimumAll n C) ≡ n) × (number (infimumAll n C) ≡ infimumAll n C)

@@ -1,6 +1,6 @@
 -- Laws of the full design's answers: what each case of questions 11 to 14 says in numbers, and what is written.
 -- Assumes nothing.
-use Rattle.rules.specs.Factor.{Column, orthogonal}
+use Rattle.rules.specs.Factor.{Column, number, orthogonal, equality}
 use Rattle.rules.specs.Family.{Family, _∈_, written, membersOf}
 use Rattle.rules.specs.Closing.{Closing, tooMany, family, finalTreatmentFamily, firstTreatmentFamily, Chosen, none-of, skipping, taking, infimumAll, InFirstTreatmentFamily, of-universal, of-infimum, of-supremum}
 use Rattle.rules.specs.Design.{Places, Answer, firstPair, firstCross, question11, question12, question13, question14, treatmentBuffer}
@@ -8,21 +8,29 @@ use Rattle.rules.proofs.Families.{first-family-lists}
 use Rattle.rules.proofs.Supremum.{length-supremum}
 use Rattle.rules.proofs.Numbering.{length-infimum}
 use Rattle.rules.proofs.Extremes.{length-universal}
-use Rattle.rules.proofs.Buffer.{length-members, member-is, written-members}
+use Rattle.rules.proofs.Buffer.{length-members, member-is, written-members, length-written}
+use Rattle.rules.proofs.Closing.{pigeonhole, ascending-distinct}
+use Rattle.rules.proofs.Made.{WellMade, first-made}
+use Rattle.rules.proofs.Treatments.{final-contains, final-length}
+use Rattle.rules.proofs.WorkList.{member-in}
+use Rattle.rules.specs.Relation.{memberAt}
+use Rattle.design.proofs.Rewriting.{written-over}
 use mathlib.Core.Logic.{_⊎_, inl, inr}
 use Rattle.design.proofs.Answered.{held-over, held-on}
 use Rattle.design.proofs.Search.{pair-found, cross-found}
-use Rattle.design.specs.Search.{firstPairOf, firstCrossOf}
+use Rattle.design.specs.Search.{firstPairOf, crossFirst, crossSecond}
 use Rattle.design.specs.State.{columnIn}
 use Rattle.design.specs.Closings.{closedIn}
-use Rattle.design.specs.Treatments.{FinalFamily, too-many, listed, FirstFamily, no-first, a-first}
+use Rattle.design.specs.Treatments.{FirstFamily, no-first, a-first, orthogonalAt, Numbered}
 use mathlib.Core.Path.{_≡_, refl, sym, ap, _∙_, subst, ap₂}
-use mathlib.Core.Bool.{Bool, true}
+use mathlib.Core.Bool.{Bool, true, false}
 use mathlib.Core.List.{List, [], _∷_, List·Memᴰ·head, List·Memᴰ·tail, List·Memᴰ·cases-cons}
 use Prim.Native.Nat.{ℕ, zero, suc, _≤_, _<_}
 use native.Mathlib.Omega.{arith}
 use lib.ListN.{length}
-use borrow.Author.Tests.{le-leb, lt-leb}
+use lib.Dec.{leb}
+use native.Mathlib.Nat.{suc-ne-zero}
+use borrow.Author.Tests.{le-leb, lt-leb, leb-true, leb-false}
 use Rattle.design.specs.Answers.{FullNumbers, fullNumbersOf, fullRefusing}
 
 -- refusals with the same numbers
@@ -87,23 +95,6 @@ module _ (n : ℕ) (P : Family) where
   unfolding question11
   passed-11 x S e = rw e
 
--- ---- what the families written tell
-
-module _ {R : Family} {before after : List ℕ} {r : ℕ} (f : FinalFamily R before after r) where
-  pub final-exceeds : r ≡ 33 → (32 < length R) × (after ≡ before)
-  final-exceeds e = go f
-    where
-      go : FinalFamily R before after r → (32 < length R) × (after ≡ before)
-      go (too-many q h s) = (h, s)
-      go (listed q h s) = absurd (omega arith)
-
-  pub final-fits : (r ≡ 33 → ⊥) → (r ≡ length R) × (r ≤ 32) × (after ≡ written before 0 R)
-  final-fits ne = go f
-    where
-      go : FinalFamily R before after r → (r ≡ length R) × (r ≤ 32) × (after ≡ written before 0 R)
-      go (too-many q h s) = absurd (ne q)
-      go (listed q h s) = (q, h, s)
-
 -- ---- the pairs found by place are those of the members
 
 module _ (n : ℕ) (small : n ≤ 240) where
@@ -122,15 +113,15 @@ module _ (n : ℕ) (small : n ≤ 240) where
       len = length-members n small b m
 
   pub cross-members : (a : List ℕ) (l : ℕ) (b : List ℕ) (m : ℕ)
-      → (firstCrossOf (λ i j. orthogonal n (columnIn n a i) (columnIn n b j)) l m .first ≡ firstCross (orthogonal n) 1 (membersOf n a l) (membersOf n b m) .first)
-      × (firstCrossOf (λ i j. orthogonal n (columnIn n a i) (columnIn n b j)) l m .second ≡ firstCross (orthogonal n) 1 (membersOf n a l) (membersOf n b m) .second)
+      → (crossFirst (orthogonalAt n a b) l m ≡ firstCross (orthogonal n) 1 (membersOf n a l) (membersOf n b m) .first)
+      × (crossSecond (orthogonalAt n a b) m (crossFirst (orthogonalAt n a b) l m) ≡ firstCross (orthogonal n) 1 (membersOf n a l) (membersOf n b m) .second)
   cross-members a l b m =
       subst (λ (x : ℕ). Agree x m) lenA (subst (λ (y : ℕ). Agree (length (membersOf n a l)) y) lenB
       (cross-found (orthogonal n) (membersOf n b m) test (membersOf n a l) (λ i j h k. let hi : i < l = rw lenA at h in let kj : j < m = rw lenB at k in
       sym (ap₂ (orthogonal n) (member-is n small a l i hi) (member-is n small b m j kj)))))
     where
       test : ℕ → ℕ → Bool
-      test i j = orthogonal n (columnIn n a i) (columnIn n b j)
+      test = orthogonalAt n a b
 
       lenA : length (membersOf n a l) ≡ l
       lenA = length-members n small a l
@@ -139,7 +130,40 @@ module _ (n : ℕ) (small : n ≤ 240) where
       lenB = length-members n small b m
 
       Agree : ℕ → ℕ → Type 0
-      Agree x y = (firstCrossOf test x y .first ≡ firstCross (orthogonal n) 1 (membersOf n a l) (membersOf n b m) .first) × (firstCrossOf test x y .second ≡ firstCross (orthogonal n) 1 (membersOf n a l) (membersOf n b m) .second)
+      Agree x y = (crossFirst test x y ≡ firstCross (orthogonal n) 1 (membersOf n a l) (membersOf n b m) .first) × (crossSecond test y (crossFirst test x y) ≡ firstCross (orthogonal n) 1 (membersOf n a l) (membersOf n b m) .second)
+
+-- ---- the treatment family that is left
+
+-- the first one, or a final one that is not too large
+pub treatments-either : (n : ℕ) (P S : Family) (p : Places) → (question12 n P S p .treatment ≡ S) ⊎ ((question12 n P S p .treatment ≡ finalTreatmentFamily P S) × (length (finalTreatmentFamily P S) ≤ 32))
+treatments-either n P S p = twelve (p .first) refl
+  where
+    R : Family
+    R = finalTreatmentFamily P S
+
+    fourteen : (b : Bool) → leb (length R) 32 ≡ b → (question14 P S R .treatment ≡ S) ⊎ ((question14 P S R .treatment ≡ R) × (length R ≤ 32))
+    fourteen true e = inr (told-14-on P S R (leb-true (length R) 32 e) .written, leb-true (length R) 32 e)
+    fourteen false e = inl (told-14-over P S R (leb-false (length R) 32 e) .written)
+
+    thirteen : (c : Places) (i : ℕ) → c .first ≡ i → (question13 P S c .treatment ≡ S) ⊎ ((question13 P S c .treatment ≡ R) × (length R ≤ 32))
+    thirteen c zero e = subst (λ (a : Answer). (a .treatment ≡ S) ⊎ ((a .treatment ≡ R) × (length R ≤ 32))) (sym (passed-13 P S c e)) (fourteen (leb (length R) 32) refl)
+    thirteen c (suc i) e = inl (told-13 P S c (λ z. suc-ne-zero i (sym e ∙ z)) .written)
+
+    twelve : (i : ℕ) → p .first ≡ i → (question12 n P S p .treatment ≡ S) ⊎ ((question12 n P S p .treatment ≡ R) × (length R ≤ 32))
+    twelve zero e = subst (λ (a : Answer). (a .treatment ≡ S) ⊎ ((a .treatment ≡ R) × (length R ≤ 32))) (sym (passed-12 P S n p e)) (thirteen (firstCross (orthogonal n) 1 P S) (firstCross (orthogonal n) 1 P S .first) refl)
+    twelve (suc i) e = inl (told-12 P S n p (λ z. suc-ne-zero i (sym e ∙ z)) .written)
+
+-- ---- numbered members
+
+-- the members of a family in memory, numbered
+pub numbered-made : (n : ℕ) → n ≤ 240 → (b : List ℕ) (size : ℕ) → 7680 ≤ length b → size ≤ 32 → WellMade n (membersOf n b size) → Numbered n b size
+numbered-made n small b size room few made = record {
+  room = room;
+  few = few;
+  numbered = λ i h.
+      let is = member-is n small b size i h in
+      subst (λ (F : Column). number F ≡ F) is (made .numbered (memberAt (membersOf n b size) i) (member-in (membersOf n b size) i (rw (length-members n small b size) h)));
+}
 
 -- ---- the first treatment family as it is written
 
@@ -167,14 +191,50 @@ module _ (n k : ℕ) (Ts : List Column) (on : (T : Column) → T ∈ Ts → leng
   first-length F (of-infimum {T} {C} c h) = infimum-length (T ∷ C) (λ U m. on U (chosen-in c U m))
   first-length F (of-supremum {F = G} {G = H} p q) = length-supremum G H (first-length G p ∙ sym (first-length H q)) ∙ first-length G p
 
-  -- memory holds it
-  pub first-held : {before after : List ℕ} {r : ℕ} → n ≤ 240 → 7680 ≤ length before → FirstFamily n k Ts before after r → (closedIn n after r ≡ firstTreatmentFamily n k Ts) × (r ≤ 33)
-  unfolding membersOf
-  first-held {before} {after} {r} small room (no-first q t) = (held-over n after r q ∙ sym t, omega arith)
-  first-held {before} {after} {r} small room (a-first S is q h s) = (held-on n after r (λ z. omega arith) ∙ ap family same ∙ sym is, omega arith)
-    where
-      onS : (F : Column) → F ∈ S → length F ≡ n
-      onS F m = first-length F (first-family-lists n k Ts S is .only F m)
+  module _ (before after : List ℕ) (r : ℕ) (small : n ≤ 240) (room : 7680 ≤ length before) where
+    module _ (S : Family) (is : firstTreatmentFamily n k Ts ≡ family S) (q : r ≡ length S) (h : r ≤ 32) (s : after ≡ written before 0 S) where
+      on-first : (F : Column) → F ∈ S → length F ≡ n
+      on-first F m = first-length F (first-family-lists n k Ts S is .only F m)
 
       same : membersOf n after r ≡ S
-      same = ap₂ (λ (b : List ℕ) (m : ℕ). membersOf n b m) s q ∙ written-members n small S before 0 onS (omega (arith, room, h, q))
+      unfolding membersOf
+      same = ap₂ (λ (b : List ℕ) (m : ℕ). membersOf n b m) s q ∙ written-members n small S before 0 on-first (omega (arith, room, h, q))
+
+      room-after : 7680 ≤ length after
+      room-after = rw s (rw (length-written n small S before 0 on-first (omega (arith, room, h, q))) room)
+
+    -- memory holds it
+    pub first-held : FirstFamily n k Ts before after r → closedIn n after r ≡ firstTreatmentFamily n k Ts
+    first-held (no-first q t s) = held-over n after r q ∙ sym t
+    first-held (a-first S is q h s) = held-on n after r (λ z. omega arith) ∙ ap family (same S is q h s) ∙ sym is
+
+    -- its members are numbered
+    pub first-numbered : FirstFamily n k Ts before after r → (r ≡ 33 → ⊥) → Numbered n after r
+    first-numbered (no-first q t s) d = absurd (d q)
+    first-numbered (a-first S is q h s) d = numbered-made n small after r (room-after S is q h s) h (subst (WellMade n) (sym (same S is q h s)) (first-made n k Ts on S is))
+
+    -- what is written next covers it
+    pub first-covered : (P : Family) → ((F : Column) → F ∈ P → length F ≡ n) → equality n ∈ P → FirstFamily n k Ts before after r
+        → treatmentBuffer after (question11 n P (firstTreatmentFamily n k Ts)) ≡ treatmentBuffer before (question11 n P (firstTreatmentFamily n k Ts))
+    first-covered P onP e (no-first q t s) = ap (λ (b : List ℕ). treatmentBuffer b (question11 n P (firstTreatmentFamily n k Ts))) s
+    first-covered P onP e (a-first S is q h s) =
+        let p = passed-11 n P (firstTreatmentFamily n k Ts) S is in
+        ap (treatmentBuffer after) p ∙ ap (λ (b : List ℕ). written b 0 T) s ∙ go (treatments-either n P S (firstPair (orthogonal n) 1 S)) ∙ ap (treatmentBuffer before) (sym p)
+      where
+        T : Family
+        T = question12 n P S (firstPair (orthogonal n) 1 S) .treatment
+
+        R : Family
+        R = finalTreatmentFamily P S
+
+        onS : (F : Column) → F ∈ S → length F ≡ n
+        onS = on-first S is q h s
+
+        made : WellMade n S
+        made = first-made n k Ts on S is
+
+        go : (T ≡ S) ⊎ ((T ≡ R) × (length R ≤ 32)) → written (written before 0 S) 0 T ≡ written before 0 T
+        go (inl f) = rw f (written-over n small S S before onS onS (omega arith) (omega (arith, room, h, q)) (omega (arith, room, h, q)))
+        go (inr (f, few)) =
+            let more : length S ≤ length R = pigeonhole S R (ascending-distinct (made .ascending)) (final-contains n P S onP onS e (made .numbered)) in
+            rw f (written-over n small S R before onS (final-length n P S onP onS) more (omega (arith, room, h, q)) (omega (arith, room, few)))

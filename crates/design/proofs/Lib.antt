@@ -7,6 +7,7 @@ pub mod Start
 pub mod Extremes
 pub mod Choosing
 pub mod Suprema
+pub mod Rewriting
 pub mod Work
 pub mod KnownOrder
 pub mod Judge

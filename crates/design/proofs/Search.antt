@@ -13,7 +13,7 @@ use borrow.Author.Tests.{eq-eqb, ne-eqb, lt-ltb, le-ltb}
 use Rattle.rules.specs.Factor.{Column}
 use Rattle.rules.specs.Family.{Family}
 use Rattle.rules.specs.Design.{firstFailing, pairAt, firstPair, firstCross}
-use Rattle.design.specs.Search.{firstFrom, partner, firstPlace, secondPlace, firstPairOf, crossPartner, crossFirst, crossSecond, firstCrossOf, agreeRow, agree}
+use Rattle.design.specs.Search.{firstFrom, partner, firstPlace, secondPlace, firstPairOf, crossPartner, crossFirst, crossSecond, agreeRow, agree}
 
 -- ---- a turn
 
@@ -164,8 +164,8 @@ module _ (p : Column → Column → Bool) (S : Family) where
 
   -- the first member of P and member of S that fail
   pub cross-found : (t : ℕ → ℕ → Bool) (P : Family) → ((i j : ℕ) → i < length P → j < length S → t i j ≡ p (getD P i []) (getD S j []))
-      → (firstCrossOf t (length P) (length S) .first ≡ firstCross p 1 P S .first) × (firstCrossOf t (length P) (length S) .second ≡ firstCross p 1 P S .second)
-  unfolding firstCrossOf crossFirst
+      → (crossFirst t (length P) (length S) ≡ firstCross p 1 P S .first) × (crossSecond t (length S) (crossFirst t (length P) (length S)) ≡ firstCross p 1 P S .second)
+  unfolding crossFirst
   cross-found t P h = crosses-from t 0 P (λ i j l m. ap (λ (x : ℕ). t x j) (zero-add i) ∙ h i j l m)
 
 -- ---- the test of two members by their numbers of classes

@@ -2,14 +2,17 @@
 -- Assumes nothing.
 use mathlib.Core.Path.{_≡_, refl, sym, ap, ap₂, _∙_, subst}
 use mathlib.Core.Logic.{_⊎_, inl, inr}
+use mathlib.Core.Bool.{Bool, true, false, _||_}
 use mathlib.Core.List.{List, [], _∷_, _++_, append-nil, append-assoc, List·Memᴰ·not-nil, List·Memᴰ·append-cases, List·Memᴰ·eq-of-singleton, Memᴰ·cast, Memᴰ·append-left, Memᴰ·append-right}
-use Prim.Native.Nat.{ℕ, zero, suc, _+_, _*_, _-_, _≤_, _<_}
-use native.Mathlib.Nat.{le-of-eq, add-zero, zero-add}
+use Prim.Native.Nat.{ℕ, suc, _+_, _*_, _-_, _≤_, _<_}
+use native.Mathlib.Nat.{le-of-eq, le-trans, zero-add}
 use native.Mathlib.Numerals.{add-one}
 use native.Mathlib.Omega.{arith}
+use lib.Dec.{eqb}
 use lib.ListN.{length, getD, take, drop, length-append}
 use lib.Seq.{paste, take-all, take-at}
-use Rattle.rules.specs.Factor.{Column, number, classes, supremum}
+use borrow.Author.Tests.{eqb-true}
+use Rattle.rules.specs.Factor.{Column, number, classes, supremum, finer, orthogonal}
 use Rattle.rules.specs.Family.{Family, _∈_, empty, columnsFrom, membersOf, insertAll, written}
 use Rattle.rules.specs.Closing.{onlySupremum, productsOf, products, finalTreatmentFamily}
 use Rattle.rules.specs.Relation.{memberAt}
@@ -23,9 +26,9 @@ use Rattle.factor.specs.Lent.{common, onCommon, overlay}
 use Rattle.standing.specs.Standing.{testCommon}
 use Rattle.factor.proofs.Lent.{common-all}
 use Rattle.design.specs.State.{columnIn, Held, Placed, full, old, new, grownTo, Begun, Sorted}
-use Rattle.design.specs.Treatments.{Placing, exceeded, begun}
+use Rattle.design.specs.Treatments.{Placing, exceeded, begun, Growing, knownFiner, Member}
 use Rattle.design.proofs.Asked.{part-is, length-column}
-use Rattle.design.proofs.Order.{written-snoc}
+use Rattle.design.proofs.Extremes.{one-class-coarsest, all-classes-finest, finer-supremum, finer-orthogonal, coarser-supremum, coarser-orthogonal}
 use Rattle.design.proofs.Placing.{grown-new, grown-old}
 use Rattle.design.proofs.Start.{begun-more}
 
@@ -87,47 +90,52 @@ module _ (n i j : ℕ) (plot first : List ℕ) (small : n ≤ 240) (a : 240 * i 
     pub long-made : n ≤ length after
     long-made = rw (written-made, length-append) (omega (arith, length-made))
 
+-- ---- nested members
+
+or-cases : (a b : Bool) → a || b ≡ true → (a ≡ true) ⊎ (b ≡ true)
+or-cases true b e = inl refl
+or-cases false b e = inr e
+
+-- a member lies in its buffer
+pub member-in-buffer : (n i k : ℕ) (family : List ℕ) → n ≤ 240 → Member n family i k → 240 * i + n ≤ length family
+member-in-buffer n i k family small m = omega (arith, m .place, m .room)
+
+-- of two members the first is finer
+known-finer : (n i j f g : ℕ) (a b : List ℕ) → 1 ≤ n → n ≤ 240 → Member n a i f → Member n b j g → knownFiner n f g ≡ true → finer n (columnIn n a i) (columnIn n b j) ≡ true
+known-finer n i j f g a b some small p q e = go (or-cases (eqb g 1) (eqb f n) e)
+  where
+    go : (eqb g 1 ≡ true) ⊎ (eqb f n ≡ true) → finer n (columnIn n a i) (columnIn n b j) ≡ true
+    go (inl h) = one-class-coarsest n (columnIn n b j) (columnIn n a i) (length-column n j b (member-in-buffer n j g b small q)) some (sym (q .count) ∙ eqb-true g 1 h)
+    go (inr h) = all-classes-finest n (columnIn n a i) (columnIn n b j) (length-column n i a (member-in-buffer n i f a small p)) (sym (p .count) ∙ eqb-true f n h)
+
+module _ (n i j f g : ℕ) (plot first : List ℕ) (some : 1 ≤ n) (small : n ≤ 240) (p : Member n plot i f) (q : Member n first j g) where
+  -- the supremum is the treatment member
+  pub treatment-coarser : knownFiner n f g ≡ true → (true ≡ orthogonal n (columnIn n plot i) (columnIn n first j)) × (columnIn n first j ≡ supremum (columnIn n plot i) (columnIn n first j))
+  treatment-coarser e =
+      let F = columnIn n plot i in
+      let G = columnIn n first j in
+      let lF = length-column n i plot (member-in-buffer n i f plot small p) in
+      let lG = length-column n j first (member-in-buffer n j g first small q) in
+      let h = known-finer n i j f g plot first some small p q e in
+      (sym (finer-orthogonal n F G lF lG h), sym (finer-supremum n F G lF lG h (q .numbered)))
+
+  -- the supremum is the plot member
+  pub plot-coarser : knownFiner n g f ≡ true → (true ≡ orthogonal n (columnIn n plot i) (columnIn n first j)) × (columnIn n plot i ≡ supremum (columnIn n plot i) (columnIn n first j))
+  plot-coarser e =
+      let F = columnIn n plot i in
+      let G = columnIn n first j in
+      let lF = length-column n i plot (member-in-buffer n i f plot small p) in
+      let lG = length-column n j first (member-in-buffer n j g first small q) in
+      let h = known-finer n j i g f first plot some small q p e in
+      (sym (coarser-orthogonal n G F lG lF h), sym (coarser-supremum n G F lG lF h (p .numbered)))
+
 -- ---- members of a buffer one by one
 
--- the successor on either side
-across : (a k : ℕ) → suc a + k ≡ a + suc k
-across a k = omega arith
-
--- columns in two parts
-columns-split : (n : ℕ) (b : List ℕ) (i k m : ℕ) → columnsFrom n b i (k + m) ≡ columnsFrom n b i k ++ columnsFrom n b (i + k) m
-unfolding columnsFrom
-columns-split n b i zero m = ap₂ (columnsFrom n b) (sym (add-zero i)) (zero-add m)
-columns-split n b i (suc k) m =
-    let e : suc k + m ≡ suc (k + m) = omega arith in
-    ap (columnsFrom n b i) e
-    ∙ ap (λ (l : Family). columnIn n b i ∷ l) (columns-split n b (suc i) k m ∙ ap (λ (x : ℕ). columnsFrom n b (suc i) k ++ columnsFrom n b x m) (across i k))
-
 module _ (n : ℕ) (b : List ℕ) where
-  -- the first k members, and the others
-  pub members-split : (k m : ℕ) → k ≤ m → membersOf n b m ≡ membersOf n b k ++ columnsFrom n b k (m - k)
-  unfolding membersOf
-  members-split k m h =
-      let e : m ≡ k + (m - k) = omega arith in
-      ap (columnsFrom n b 0) e ∙ columns-split n b 0 k (m - k) ∙ ap (λ (x : ℕ). columnsFrom n b 0 k ++ columnsFrom n b x (m - k)) (zero-add k)
-
   -- one member more
   pub members-snoc : (j : ℕ) → membersOf n b (j + 1) ≡ membersOf n b j ++ columnIn n b j ∷ []
   unfolding membersOf
   members-snoc j = ap (columnsFrom n b 0) (add-one j) ∙ columns-snoc n b 0 j ∙ ap (λ (i : ℕ). columnsFrom n b 0 j ++ columnIn n b i ∷ []) (zero-add j)
-
-  -- the next member is copied after those before it
-  pub copy-turn : n ≤ 240 → (to : List ℕ) (i : ℕ) → length (columnIn n b i) ≡ n
-      → paste (written to 0 (membersOf n b i)) (240 * i) (columnIn n b i) n ≡ written to 0 (membersOf n b (i + 1))
-  copy-turn small to i len =
-      let H : Column = columnIn n b i in
-      let S : Family = membersOf n b i in
-      let c : List ℕ = written to 0 S in
-      let count : 0 + length S ≡ i = zero-add (length S) ∙ length-members n small b i in
-      sym (
-      ap (written to 0) (members-snoc i)
-      ∙ written-snoc to 0 S H
-      ∙ ap₂ (λ (j m : ℕ). take (240 * j) c ++ H ++ drop (240 * j + m) c) count len
-      ∙ ap (λ (X : Column). take (240 * i) c ++ X ++ drop (240 * i + n) c) (sym (take-all n H (le-of-eq len))))
 
 -- ---- suprema row by row
 
@@ -172,17 +180,6 @@ module _ (n : ℕ) (b : List ℕ) where
         ∙ ap (λ (l : List Column). As ++ l) (productsOf-append onlySupremum F (membersOf n b j) (columnIn n b j ∷ []) ∙ ap (λ (l : List Column). productsOf onlySupremum F (membersOf n b j) ++ l) (productsOf-one F (columnIn n b j)))
         ∙ sym (append-assoc As (productsOf onlySupremum F (membersOf n b j)) (supremum F (columnIn n b j) ∷ []))
 
-    -- a whole row has what a part of it has
-    pub row-within : (k m : ℕ) → k ≤ m → (H : Column) → H ∈ rowOf k → H ∈ rowOf m
-    row-within k m h H i = subst (λ (l : List Column). H ∈ l) (sym whole) (Memᴰ·append-left _ i)
-      where
-        -- the part, and the rest
-        whole : rowOf m ≡ rowOf k ++ productsOf onlySupremum F (columnsFrom n b k (m - k))
-        whole =
-            ap (λ (S : Family). As ++ productsOf onlySupremum F S) (members-split n b k m h)
-            ∙ ap (λ (l : List Column). As ++ l) (productsOf-append onlySupremum F (membersOf n b k) (columnsFrom n b k (m - k)))
-            ∙ sym (append-assoc As (productsOf onlySupremum F (membersOf n b k)) (productsOf onlySupremum F (columnsFrom n b k (m - k))))
-
   module _ (S : Family) where
     -- the suprema of the first i members with those of S
     abbrev pub rowsOf : ℕ → List Column
@@ -199,14 +196,6 @@ module _ (n : ℕ) (b : List ℕ) where
         ap (λ (P : Family). products onlySupremum P S) (members-snoc n b i)
         ∙ products-append onlySupremum (membersOf n b i) (columnIn n b i ∷ []) S
         ∙ ap (λ (l : List Column). rowsOf i ++ l) (products-one onlySupremum (columnIn n b i) S)
-
-    -- all rows have what some of them have
-    pub rows-within : (k m : ℕ) → k ≤ m → (H : Column) → H ∈ rowsOf k → H ∈ rowsOf m
-    rows-within k m h H i = subst (λ (l : List Column). H ∈ l) (sym whole) (Memᴰ·append-left _ i)
-      where
-        -- these rows, and the rest
-        whole : rowsOf m ≡ rowsOf k ++ products onlySupremum (columnsFrom n b k (m - k)) S
-        whole = ap (λ (P : Family). products onlySupremum P S) (members-split n b k m h) ∙ products-append onlySupremum (membersOf n b k) (columnsFrom n b k (m - k)) S
 
 -- ---- how many different columns there are
 
@@ -298,6 +287,42 @@ module _ (n : ℕ) (As : List Column) (store counts : List ℕ) (r : ℕ) where
   pub placing-begun : (r ≡ 33 → ⊥) → Placing n As store counts r → Begun n As store counts r
   placing-begun d (exceeded e h) = absurd (d e)
   placing-begun d (begun b) = b
+
+-- ---- a column added, unless there are too many already
+
+-- what is placed, and the column
+abbrev Adds : ℕ → List ℕ → List ℕ → ℕ → Column → List ℕ → List ℕ → ℕ → Type 0
+Adds n store counts size F after counts′ r = (As : List Column) → Placing n As store counts size → Placing n (As ++ F ∷ []) after counts′ r
+
+module _ (n : ℕ) (store counts : List ℕ) (size : ℕ) (g : Growing n store counts size) (F : Column) (after counts′ : List ℕ) where
+  -- there are too many already
+  pub over-added : size ≡ 33 → Adds n store counts size F after counts′ size
+  over-added e As p = exceeded e (le-trans (placing-over n As store counts size e p) (insertAll-more As (As ++ F ∷ []) (λ G m. Memᴰ·append-left _ m)))
+
+  module _ (room : length after ≡ 7680) (d : size ≡ 33 → ⊥) (p : ℕ) (w : Placed n (membersOf n store size) F p after counts′) where
+    -- there is no room
+    pub full-added : p ≡ 32 → Growing n after counts′ 33 × Adds n store counts size F after counts′ 33
+    full-added e = (
+      record { some = g .some; most = g .most; room = room; held = λ z. absurd (z refl) },
+      λ As q. exceeded refl (over-placed n store counts size (g .held d) F p after counts′ As (placing-begun n As store counts size d q) e w),
+    )
+
+    -- there is room
+    pub room-added : number F ≡ F → (p ≡ 32 → ⊥) → (r : ℕ) → r ≡ grownTo size p → Growing n after counts′ r × Adds n store counts size F after counts′ r
+    room-added i m r e = (
+      record { some = g .some; most = g .most; room = room; held = λ z. subst (λ (k : ℕ). Held n after counts′ k) (sym e) (held-placed n store counts size (g .held d) F p after counts′ m w .0) },
+      λ As q. begun (subst (λ (k : ℕ). Begun n (As ++ F ∷ []) after counts′ k) (sym e) (begun-placed n store counts size (g .held d) F p after counts′ As (placing-begun n As store counts size d q) i m w)),
+    )
+
+-- the same of a column as it is lent
+pub growing-on : (n : ℕ) (store counts : List ℕ) (size : ℕ) (X F : Column) → X ≡ F → length F ≡ n → Growing n store counts size → Growing (length X) store counts size
+growing-on n store counts size X F e l g = subst (λ (k : ℕ). Growing k store counts size) (sym (ap length e ∙ l)) g
+
+pub added-on : (n : ℕ) (store counts : List ℕ) (size : ℕ) (X F : Column) (after counts′ : List ℕ) (r : ℕ) → X ≡ F → length F ≡ n
+    → Growing (length X) after counts′ r × Adds (length X) store counts size X after counts′ r → Growing n after counts′ r × Adds n store counts size F after counts′ r
+added-on n store counts size X F after counts′ r e l p =
+    subst (λ (k : ℕ). Growing k after counts′ r × Adds k store counts size F after counts′ r) l
+    (subst (λ (Y : Column). Growing (length Y) after counts′ r × Adds (length Y) store counts size Y after counts′ r) e p)
 
 -- ---- the final treatment family
 

@@ -9,13 +9,17 @@ use native.Mathlib.Omega.{arith}
 use lib.Dec.{ltb, leb}
 use lib.ListN.{length}
 use borrow.Author.Tests.{eq-eqb, ltb-true, leb-true}
-use Rattle.rules.specs.Factor.{Column, uniform, orthogonal}
-use Rattle.rules.specs.Family.{Family, columnsFrom, membersOf}
-use Rattle.rules.specs.Closing.{Closing, tooMany, family, plotFamily, firstTreatmentFamily, finalTreatmentFamily}
+use Rattle.rules.specs.Factor.{Column, uniform, orthogonal, equality}
+use Rattle.rules.specs.Family.{Family, _∈_, columnsFrom, membersOf}
+use Rattle.rules.specs.Closing.{Closing, tooMany, family, plotFamily, by-equality, firstTreatmentFamily, finalTreatmentFamily}
 use Rattle.rules.specs.Design.{Answer, Places, firstPair, firstCross, firstFailing, question8, question9, question10, question11, question12, question13, question14, withTreatments, nonzero, allNonzero, withinLimits, fullWithinLimits, fullQuestion7, fullDesign, refused}
 use Rattle.rules.proofs.Numbering.{by-cases}
 use Rattle.rules.proofs.Verdict.{verdict-members}
 use Rattle.rules.proofs.Buffer.{length-members}
+use Rattle.rules.proofs.Families.{plot-family-lists}
+use Rattle.rules.proofs.Made.{plot-made}
+use Rattle.design.specs.Treatments.{Numbered}
+use Rattle.design.proofs.FullAnswered.{numbered-made}
 use Rattle.design.specs.Answers.{PlotNumbers, plotNumbersOf, fullNumbersOf, fullRefusing}
 use Rattle.design.specs.Closings.{closedIn, goesOn}
 use Rattle.design.proofs.Answered.{accepting, held-over, held-on, Limits, limits}
@@ -101,18 +105,20 @@ module _ (n : ℕ) (Y : Closing) (a : Answer) where
 -- ---- an accepted plot family in memory
 
 -- what an accepted plot family leaves
-pub record Goes (n : ℕ) (a : Answer) (held : List ℕ) (size : ℕ) : Type 0 where
-  pub accepted : a .refusal ≡ 0
+pub record Goes (n : ℕ) (x : Closing) (held : List ℕ) (size : ℕ) : Type 0 where
+  pub accepted : question8 n x .refusal ≡ 0
   pub few : size ≤ 32
-  pub members : membersOf n held size ≡ a .plot
+  pub members : membersOf n held size ≡ question8 n x .plot
+  pub closed : x ≡ family (membersOf n held size)
 
 pub goes-on : (n : ℕ) (b : List ℕ) (m : ℕ) → n ≤ 240 → ((m ≡ 33 → ⊥) → m ≤ 32) → {size : ℕ}
-    → accepting size ≡ plotNumbersOf (question8 n (closedIn n b m)) → Goes n (question8 n (closedIn n b m)) b size
+    → accepting size ≡ plotNumbersOf (question8 n (closedIn n b m)) → Goes n (closedIn n b m) b size
 unfolding plotNumbersOf question8
 goes-on n b m small most {size} e = record {
   accepted = sym (ap (λ (x : PlotNumbers). x .refusal) e);
   few = omega (arith, most fits, is);
   members = ap (membersOf n b) is ∙ sym plot;
+  closed = held-on n b m fits ∙ ap (λ (k : ℕ). family (membersOf n b k)) (sym is);
 }
   where
     fits : m ≡ 33 → ⊥
@@ -123,6 +129,13 @@ goes-on n b m small most {size} e = record {
 
     is : size ≡ m
     is = ap (λ (x : PlotNumbers). x .size) e ∙ ap length plot ∙ length-members n small b m
+
+-- its members are numbered, and E is one
+pub goes-numbered : (n : ℕ) (Fs : List Column) → ((F : Column) → F ∈ Fs → length F ≡ n) → (b : List ℕ) (size : ℕ) {x : Closing} → n ≤ 240 → 7680 ≤ length b → x ≡ plotFamily n Fs → Goes n x b size
+    → Numbered n b size × (equality n ∈ membersOf n b size)
+goes-numbered n Fs on b size small room e g =
+    let is : plotFamily n Fs ≡ family (membersOf n b size) = sym e ∙ g .closed in
+    (numbered-made n small b size room (g .few) (plot-made n Fs on (membersOf n b size) is), plot-family-lists n Fs (membersOf n b size) is .all (equality n) by-equality)
 
 -- the first treatment family of the columns
 pub goes-treatments : (n k : ℕ) (Ts : List Column) (a : Answer) → goesOn n (firstTreatmentFamily n k Ts) a ≡ withTreatments n k Ts a

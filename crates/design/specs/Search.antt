@@ -37,19 +37,16 @@ unfoldable pub crossPartner : (ℕ → ℕ → Bool) → ℕ → ℕ → ℕ
 unfolding firstFrom
 crossPartner t n i = firstFrom (t i) 0 n
 
+-- the first place, below m, of the first failing pair; 0 where there is none
 unfoldable pub crossFirst : (ℕ → ℕ → Bool) → ℕ → ℕ → ℕ
 unfolding firstFrom crossPartner
 crossFirst t m n = firstFrom (λ i. eqb (crossPartner t n i) 0) 0 m
 
+-- its second place
 unfoldable pub crossSecond : (ℕ → ℕ → Bool) → ℕ → ℕ → ℕ
 unfolding crossPartner
 crossSecond t n zero = 0
 crossSecond t n (suc i) = crossPartner t n i
-
--- the first failing pair of a place below m and a place below n
-unfoldable pub firstCrossOf : (ℕ → ℕ → Bool) → ℕ → ℕ → Places
-unfolding crossFirst crossSecond
-firstCrossOf t m n = record { first = crossFirst t m n; second = crossSecond t n (crossFirst t m n) }
 
 -- members b and a < b, with classes of one size, by their numbers of classes and those of their infimum and supremum
 abbrev pub agreeRow : List ℕ → List ℕ → List ℕ → ℕ → ℕ → Bool

@@ -1,15 +1,15 @@
 -- What the steps towards the treatment families keep.
 -- Members are counted from 0 here. Assumes nothing.
 use mathlib.Core.Path.{_≡_}
-use mathlib.Core.Bool.{true, false}
+use mathlib.Core.Bool.{Bool, true, false, _||_}
 use mathlib.Core.List.{List, [], _∷_, _++_, map}
 use Prim.Native.Nat.{ℕ, _≤_, _<_}
-use lib.Dec.{ltb}
+use lib.Dec.{eqb, ltb}
 use lib.ListN.{length, getD}
-use Rattle.rules.specs.Factor.{Column}
+use Rattle.rules.specs.Factor.{Column, number, classes, orthogonal}
 use Rattle.rules.specs.Family.{Family, membersOf, insertAll, written}
 use Rattle.rules.specs.Closing.{onlySupremum, tooMany, family, close, infimumAll, firstTreatmentFamily}
-use Rattle.design.specs.State.{Begun}
+use Rattle.design.specs.State.{columnIn, Held, Begun}
 
 -- the choices of fewer than k columns
 unfoldable pub shorter : ℕ → List (List Column) → List (List Column)
@@ -42,9 +42,9 @@ pub data AllPlaced (n : ℕ) (Gs : List Column) (store counts : List ℕ) (r : �
   over : r ≡ 33 → close onlySupremum Gs ≡ tooMany → AllPlaced n Gs store counts r
   on : Begun n Gs store counts r → AllPlaced n Gs store counts r
 
--- the first treatment family is written, or it is too large
+-- the first treatment family is written, or it is too large and nothing is written
 pub data FirstFamily (n k : ℕ) (Ts : List Column) (before after : List ℕ) (r : ℕ) : Type 0 where
-  no-first : r ≡ 33 → firstTreatmentFamily n k Ts ≡ tooMany → FirstFamily n k Ts before after r
+  no-first : r ≡ 33 → firstTreatmentFamily n k Ts ≡ tooMany → after ≡ before → FirstFamily n k Ts before after r
   a-first : (S : Family) → firstTreatmentFamily n k Ts ≡ family S → r ≡ length S → r ≤ 32 → after ≡ written before 0 S → FirstFamily n k Ts before after r
 
 -- the columns As are placed, or more than 32 of them differ
@@ -52,7 +52,30 @@ pub data Placing (n : ℕ) (As : List Column) (store counts : List ℕ) (r : ℕ
   exceeded : r ≡ 33 → 32 < length (insertAll As []) → Placing n As store counts r
   begun : Begun n As store counts r → Placing n As store counts r
 
--- the final treatment family is written, or it is too large and nothing is written
-pub data FinalFamily (R : Family) (before after : List ℕ) (r : ℕ) : Type 0 where
-  too-many : r ≡ 33 → 32 < length R → after ≡ before → FinalFamily R before after r
-  listed : r ≡ length R → r ≤ 32 → after ≡ written before 0 R → FinalFamily R before after r
+-- a store that columns are added to: it has room, and holds `size` members unless there were too many, which a size of 33 says
+pub record Growing (n : ℕ) (store counts : List ℕ) (size : ℕ) : Type 0 where
+  pub some : 1 ≤ n
+  pub most : n ≤ 240
+  pub room : length store ≡ 7680
+  pub held : (size ≡ 33 → ⊥) → Held n store counts size
+
+-- plot member i and treatment member j are orthogonal
+abbrev pub orthogonalAt : ℕ → List ℕ → List ℕ → ℕ → ℕ → Bool
+orthogonalAt n plot first i j = orthogonal n (columnIn n plot i) (columnIn n first j)
+
+-- on n plots, a factor with a classes is finer than any with b: the latter has one class, or the former one for each plot
+abbrev pub knownFiner : ℕ → ℕ → ℕ → Bool
+knownFiner n a b = eqb b 1 || eqb a n
+
+-- a family buffer has a member on n plots at place i, numbered, with k classes
+pub record Member (n : ℕ) (family : List ℕ) (i k : ℕ) : Type 0 where
+  pub room : 7680 ≤ length family
+  pub place : i < 32
+  pub numbered : number (columnIn n family i) ≡ columnIn n family i
+  pub count : k ≡ classes (columnIn n family i)
+
+-- a family buffer has `size` members on n plots, numbered
+pub record Numbered (n : ℕ) (family : List ℕ) (size : ℕ) : Type 0 where
+  pub room : 7680 ≤ length family
+  pub few : size ≤ 32
+  pub numbered : (i : ℕ) → i < size → number (columnIn n family i) ≡ columnIn n family i

@@ -11,6 +11,7 @@ ghost use Rattle.design.specs.Answers.{plotNumbers, plotNumbersOf, fullN
 mod closed;
 mod closing;
 mod columns;
+mod crossing;
 mod pairs;
 mod questions;
 mod sorting;

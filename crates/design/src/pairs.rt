@@ -1,10 +1,10 @@
-// Questions 12 and 13: the first pair of members that are not orthogonal.
+// Question 12: the first pair of members that are not orthogonal.
 ghost use mathlib.Core.Path.{_≡_};
 ghost use Prim.Native.Nat.{_≤_, _<_};
 ghost use lib.ListN.{length};
 ghost use Rattle.rules.specs.Factor.{orthogonal};
 ghost use Rattle.design.specs.State.{columnIn};
-ghost use Rattle.design.specs.Search.{firstPairOf, firstCrossOf};
+ghost use Rattle.design.specs.Search.{firstPairOf};
 use crate::questions::Places;
 use limits::PLOTS;
 use standing::Standing;
@@ -37,31 +37,6 @@ pub fn first_pair(family: &[u8], n: usize, size: usize) -> Places
     'pairs: for i in 0..size {
         for j in (i + 1)..size {
             if !members_orthogonal(family, i, family, j, n) {
-                first = i + 1;
-                second = j + 1;
-                break 'pairs;
-            }
-        }
-    }
-    Places { first, second }
-}
-
-// 13: the first place of a plot member and of a treatment member that are not orthogonal.
-pub fn first_cross(
-    plot: &[u8],
-    plot_size: usize,
-    treatment: &[u8],
-    treatment_size: usize,
-    n: usize,
-) -> Places
-    requires { ⌜ (n ≤ 240) × (7680 ≤ length (now plot)) × (7680 ≤ length (now treatment)) × («plot_size» ≤ 32) × («treatment_size» ≤ 32) ⌝ }
-    ensures { λ r. ⌜ r ≡ firstCrossOf (λ i j. orthogonal n (columnIn n (now (plot .entry)) i) (columnIn n (now (treatment .entry)) j)) «plot_size» «treatment_size» ⌝ }
-{
-    let mut first = 0;
-    let mut second = 0;
-    'pairs: for i in 0..plot_size {
-        for j in 0..treatment_size {
-            if !members_orthogonal(plot, i, treatment, j, n) {
                 first = i + 1;
                 second = j + 1;
                 break 'pairs;

@@ -2,9 +2,11 @@
 ghost use mathlib.Core.Path.{_≡_};
 ghost use Prim.Native.Nat.{_≤_};
 ghost use lib.ListN.{length};
-ghost use Rattle.rules.specs.Family.{columnsFrom, membersOf};
+ghost use Rattle.rules.specs.Factor.{equality};
+ghost use Rattle.rules.specs.Family.{_∈_, columnsFrom, membersOf};
 ghost use Rattle.rules.specs.Closing.{plotFamily, firstTreatmentFamily};
 ghost use Rattle.rules.specs.Design.{question8, plotBuffer, question11, withTreatments, treatmentBuffer};
+ghost use Rattle.design.specs.Treatments.{Numbered};
 ghost use Rattle.design.specs.Answers.{plotNumbers, plotNumbersOf, fullNumbers, fullNumbersOf};
 use crate::FullDesign;
 use crate::FullRefusal;
@@ -67,11 +69,11 @@ fn full_from_11(
     held: usize,
     treatment_family: &mut [u8],
 ) -> FullDesign
-    requires { ⌜ (1 ≤ n) × (n ≤ 240) × (d ≤ 6) × (1 ≤ k) × (k ≤ 6) × (2880 ≤ length (now levels)) × (7680 ≤ length (now plot)) × (held ≤ 32) × (7680 ≤ length (now «treatment_family»)) ⌝ }
+    requires { ⌜ (1 ≤ n) × (n ≤ 240) × (d ≤ 6) × (1 ≤ k) × (k ≤ 6) × (2880 ≤ length (now levels)) × Numbered n (now plot) held × (equality n ∈ membersOf n (now plot) held) × (7680 ≤ length (now «treatment_family»)) ⌝ }
     ensures answer { λ r. ⌜ fullNumbers r ≡ fullNumbersOf (question11 n (membersOf n (now (plot .entry)) held) (firstTreatmentFamily n k (columnsFrom n (now (levels .entry)) 6 d))) ⌝ }
     ensures buffer { λ _. ⌜ now («treatment_family» .exit) ≡ treatmentBuffer (now («treatment_family» .entry)) (question11 n (membersOf n (now (plot .entry)) held) (firstTreatmentFamily n k (columnsFrom n (now (levels .entry)) 6 d))) ⌝ }
 {
-    let mut first = [0u8; FAMILY];
-    let size = first_family(levels, n, d, k, &mut first);
-    judge_treatments(plot, held, &first, size, n, treatment_family)
+    let mut store = [0u8; FAMILY];
+    let size = first_family(levels, n, d, k, &mut store, treatment_family);
+    judge_treatments(plot, held, size, n, &mut store, treatment_family)
 }

@@ -1,14 +1,14 @@
-// The first and the final treatment family.
+// The first treatment family. (The final one: crossing.rt.)
 ghost use mathlib.Core.Path.{_≡_};
-ghost use mathlib.Core.List.{List, [], _∷_, _++_};
+ghost use mathlib.Core.List.{List};
 ghost use Prim.Native.Nat.{ℕ, _+_, _*_, _≤_, _<_};
 ghost use lib.ListN.{length, take};
 ghost use lib.Seq.{paste};
-ghost use Rattle.rules.specs.Factor.{Column, number, infimum, supremum};
-ghost use Rattle.rules.specs.Family.{Family, _∈_, columnsFrom, membersOf, written};
-ghost use Rattle.rules.specs.Closing.{onlySupremum, productsOf, products, treatmentGenerators, finalTreatmentFamily};
-ghost use Rattle.design.specs.State.{columnIn, Held, Placed, Begun, Kept};
-ghost use Rattle.design.specs.Treatments.{extended, Room, Infima, AllPlaced, Placing, FirstFamily, FinalFamily};
+ghost use Rattle.rules.specs.Factor.{Column, number, infimum};
+ghost use Rattle.rules.specs.Family.{_∈_, columnsFrom, membersOf};
+ghost use Rattle.rules.specs.Closing.{treatmentGenerators};
+ghost use Rattle.design.specs.State.{columnIn, Held, Placed, Begun};
+ghost use Rattle.design.specs.Treatments.{extended, Room, Infima, AllPlaced, FirstFamily};
 use crate::closing::PAIRS;
 use crate::closing::TOO_MANY;
 use crate::closing::close;
@@ -18,7 +18,6 @@ use crate::store::grown;
 use crate::store::place;
 use crate::store::put;
 use limits::COLUMNS;
-use limits::FAMILY;
 use limits::Level;
 use limits::MEMBERS;
 use limits::PLOTS;
@@ -146,20 +145,26 @@ fn place_all(
     size
 }
 
-// Writes the first treatment family in its order; answers its size, or TOO_MANY.
-pub fn first_family(levels: &[Level], n: usize, d: usize, k: usize, family: &mut [u8]) -> usize
-    requires { ⌜ (1 ≤ n) × (n ≤ 240) × (d ≤ 6) × (1 ≤ k) × (k ≤ 6) × (2880 ≤ length (now levels)) × (7680 ≤ length (now family)) ⌝ }
+// Writes the first treatment family in its order, grown in the store; answers its size, or TOO_MANY, and then nothing is written.
+pub fn first_family(
+    levels: &[Level],
+    n: usize,
+    d: usize,
+    k: usize,
+    store: &mut [u8],
+    family: &mut [u8],
+) -> usize
+    requires { ⌜ (1 ≤ n) × (n ≤ 240) × (d ≤ 6) × (1 ≤ k) × (k ≤ 6) × (2880 ≤ length (now levels)) × (7680 ≤ length (now family)) × (length (now store) ≡ 7680) ⌝ }
     ensures { λ r. ⌜ FirstFamily n k (columnsFrom n (now (levels .entry)) 6 d) (now (family .entry)) (now (family .exit)) r ⌝ }
 {
     let mut infima = [0u8; INFIMA];
     let total = fill_infima(levels, n, d, k, &mut infima);
-    let mut store = [0u8; FAMILY];
     let mut counts = [0u8; MEMBERS];
-    let start = place_all(&infima, total, n, &mut store, &mut counts);
+    let start = place_all(&infima, total, n, store, &mut counts);
     if start == TOO_MANY {
         return TOO_MANY;
     }
-    close_first(&mut store, &mut counts, start, n, family)
+    close_first(store, &mut counts, start, n, family)
 }
 
 // Closes the family under supremum and writes it in its order; answers its size, or TOO_MANY.
@@ -182,119 +187,4 @@ fn close_first(
     let order = sort(store, counts, n, size);
     write(store, &order, n, size, family);
     size
-}
-
-// Places the supremum of plot member `i` with treatment member `j`.
-fn place_product(
-    plot: &[u8],
-    i: usize,
-    first: &[u8],
-    j: usize,
-    n: usize,
-    store: &mut [u8],
-    counts: &mut [u8; MEMBERS],
-    size: usize,
-) -> usize
-    requires { ⌜ Held n (now store) (now counts) size × (7680 ≤ length (now plot)) × (7680 ≤ length (now first)) × (i < 32) × (j < 32) ⌝ }
-    ensures { λ r. ⌜ Placed n (membersOf n (now (store .entry)) size) (supremum (columnIn n (now (plot .entry)) i) (columnIn n (now (first .entry)) j)) r (now (store .exit)) (now (counts .exit)) ⌝ }
-{
-    let a = PLOTS * i;
-    let b = PLOTS * j;
-    let c = a + n;
-    let d = b + n;
-    let mut column = [0u8; PLOTS];
-    let k = standing::supremum(&plot[a..c], &first[b..d], &mut column);
-    place(store, counts, size, &column[..n], k as u8)
-}
-
-// Places the suprema of plot member `i` with each treatment member; answers the new size, or TOO_MANY.
-fn place_products(
-    plot: &[u8],
-    i: usize,
-    first: &[u8],
-    first_size: usize,
-    n: usize,
-    store: &mut [u8],
-    counts: &mut [u8; MEMBERS],
-    size: usize,
-) -> usize
-    requires { ⌜ Held n (now store) (now counts) size × (7680 ≤ length (now plot)) × (7680 ≤ length (now first)) × (i < 32) × («first_size» ≤ 32) ⌝ }
-    ensures kept { λ r. ⌜ Kept n (now (store .exit)) (now (counts .exit)) size r ⌝ }
-    ensures places { λ r. ⌜ ((As : List Column) → Begun n As (now (store .entry)) (now (counts .entry)) size → Placing n (As ++ productsOf onlySupremum (columnIn n (now (plot .entry)) i) (membersOf n (now (first .entry)) «first_size»)) (now (store .exit)) (now (counts .exit)) r) ⌝ }
-{
-    let mut now = size;
-    for j in 0..first_size {
-        let p = place_product(plot, i, first, j, n, store, counts, now);
-        if p == MEMBERS {
-            return TOO_MANY;
-        }
-        now = grown(now, p);
-    }
-    now
-}
-
-// Places all suprema of one plot member with one treatment member; answers how many they are, or TOO_MANY.
-fn place_suprema(
-    plot: &[u8],
-    plot_size: usize,
-    first: &[u8],
-    first_size: usize,
-    n: usize,
-    store: &mut [u8],
-    counts: &mut [u8; MEMBERS],
-) -> usize
-    requires { ⌜ (1 ≤ n) × (n ≤ 240) × (7680 ≤ length (now plot)) × (7680 ≤ length (now first)) × («plot_size» ≤ 32) × («first_size» ≤ 32) × (length (now store) ≡ 7680) × (length (now counts) ≡ 32) ⌝ }
-    ensures { λ r. ⌜ Placing n (products onlySupremum (membersOf n (now (plot .entry)) «plot_size») (membersOf n (now (first .entry)) «first_size»)) (now (store .exit)) (now (counts .exit)) r ⌝ }
-{
-    let mut size = 0;
-    for i in 0..plot_size {
-        size = place_products(plot, i, first, first_size, n, store, counts, size);
-        if size == TOO_MANY {
-            return TOO_MANY;
-        }
-    }
-    size
-}
-
-// Writes the final treatment family in its order; answers its size, or TOO_MANY, and then nothing is written.
-pub fn final_family(
-    plot: &[u8],
-    plot_size: usize,
-    first: &[u8],
-    first_size: usize,
-    n: usize,
-    family: &mut [u8],
-) -> usize
-    requires { ⌜ (1 ≤ n) × (n ≤ 240) × (7680 ≤ length (now plot)) × (7680 ≤ length (now first)) × («plot_size» ≤ 32) × («first_size» ≤ 32) × (7680 ≤ length (now family)) ⌝ }
-    ensures { λ r. ⌜ FinalFamily (finalTreatmentFamily (membersOf n (now (plot .entry)) «plot_size») (membersOf n (now (first .entry)) «first_size»)) (now (family .entry)) (now (family .exit)) r ⌝ }
-{
-    let mut store = [0u8; FAMILY];
-    let mut counts = [0u8; MEMBERS];
-    let size = place_suprema(
-        plot,
-        plot_size,
-        first,
-        first_size,
-        n,
-        &mut store,
-        &mut counts,
-    );
-    if size == TOO_MANY {
-        return TOO_MANY;
-    }
-    let order = sort(&store, &counts, n, size);
-    write(&store, &order, n, size, family);
-    size
-}
-
-// Copies the first `size` members of one family buffer to another.
-pub fn copy_family(from: &[u8], n: usize, size: usize, family: &mut [u8])
-    requires { ⌜ (n ≤ 240) × (size ≤ 32) × (7680 ≤ length (now from)) × (7680 ≤ length (now family)) ⌝ }
-    ensures { λ _. ⌜ now (family .exit) ≡ written (now (family .entry)) 0 (membersOf n (now (from .entry)) size) ⌝ }
-{
-    for i in 0..size {
-        let at = PLOTS * i;
-        let end = at + n;
-        put(family, i, &from[at..end]);
-    }
 }

@@ -3,11 +3,11 @@ ghost use mathlib.Core.Path.{_≡_};
 ghost use Prim.Native.Nat.{_≤_, _<_};
 ghost use lib.ListN.{length};
 ghost use Rattle.rules.specs.Factor.{uniform, orthogonal};
-ghost use Rattle.rules.specs.Family.{membersOf, written};
-ghost use Rattle.rules.specs.Closing.{finalTreatmentFamily};
-ghost use Rattle.rules.specs.Design.{refused, question8, question9, firstFailing, plotBuffer, question11, question12, question13, question14, firstPair, firstCross, treatmentBuffer};
+ghost use Rattle.rules.specs.Family.{membersOf};
+ghost use Rattle.rules.specs.Design.{refused, question8, question9, firstFailing, plotBuffer, question11, question12, question13, firstPair, firstCross, treatmentBuffer};
 ghost use Rattle.design.specs.Judging.{Judging};
 ghost use Rattle.design.specs.Closings.{closedIn, Ready};
+ghost use Rattle.design.specs.Treatments.{Numbered};
 ghost use Rattle.design.specs.Answers.{plotNumbers, plotNumbersOf, fullNumbers, fullNumbersOf, fullRefusing};
 use crate::FullDesign;
 use crate::FullRefusal;
@@ -17,12 +17,12 @@ use crate::Sizes;
 use crate::closed::PlotClosing;
 use crate::closing::PAIRS;
 use crate::closing::TOO_MANY;
-use crate::pairs::first_cross;
+use crate::crossing::cross;
 use crate::pairs::first_pair;
 use crate::questions::first_apart;
 use crate::questions::first_unequal;
-use crate::treatments::copy_family;
-use crate::treatments::final_family;
+use crate::sorting::sort;
+use crate::sorting::write;
 use limits::MEMBERS;
 
 // A refusal that writes nothing.
@@ -103,109 +103,93 @@ fn from_9(
     PlotDesign::Accepted(size)
 }
 
-// A refusal by 11 to 14, which leaves `size` members of the first treatment family.
-fn treatments_refused(
-    number: u32,
-    i: usize,
-    j: usize,
-    plot: usize,
-    first: &[u8],
-    size: usize,
-    n: usize,
-    treatment_family: &mut [u8],
-) -> FullDesign
-    requires { ⌜ (n ≤ 240) × (size ≤ 32) × (7680 ≤ length (now first)) × (7680 ≤ length (now «treatment_family»)) ⌝ }
-    ensures answer { λ r. ⌜ fullNumbers r ≡ fullRefusing number i j plot size ⌝ }
-    ensures buffer { λ _. ⌜ now («treatment_family» .exit) ≡ written (now («treatment_family» .entry)) 0 (membersOf n (now (first .entry)) size) ⌝ }
+// A refusal by 11 to 14, with the sizes of the families written.
+fn treatments_refused(number: u32, i: usize, j: usize, plot: usize, treatment: usize) -> FullDesign
+    ensures { λ r. ⌜ fullNumbers r ≡ fullRefusing number i j plot treatment ⌝ }
 {
-    copy_family(first, n, size, treatment_family);
     FullDesign::Refused(FullRefusal {
         number,
         first: i,
         second: j,
         plot,
-        treatment: size,
+        treatment,
     })
 }
 
-// Questions 11 to 14 of the first treatment family, with the plot family accepted.
+// Questions 11 to 14, with the plot family accepted. The treatment buffer has the first family, which stays there unless all are
+// passed: then the final one is written over it. Both families grow in the store.
 pub fn judge_treatments(
     plot_family: &[u8],
     plot: usize,
-    first: &[u8],
     size: usize,
     n: usize,
+    store: &mut [u8],
     treatment_family: &mut [u8],
 ) -> FullDesign
-    requires { ⌜ (1 ≤ n) × (n ≤ 240) × (7680 ≤ length (now «plot_family»)) × (plot ≤ 32) × (7680 ≤ length (now first)) × (size ≤ 33) × (7680 ≤ length (now «treatment_family»)) ⌝ }
-    ensures answer { λ r. ⌜ fullNumbers r ≡ fullNumbersOf (question11 n (membersOf n (now («plot_family» .entry)) plot) (closedIn n (now (first .entry)) size)) ⌝ }
-    ensures buffer { λ _. ⌜ now («treatment_family» .exit) ≡ treatmentBuffer (now («treatment_family» .entry)) (question11 n (membersOf n (now («plot_family» .entry)) plot) (closedIn n (now (first .entry)) size)) ⌝ }
+    requires { ⌜ (1 ≤ n) × (n ≤ 240) × Numbered n (now «plot_family») plot × ((size ≡ 33 → ⊥) → Numbered n (now «treatment_family») size) × (length (now store) ≡ 7680) ⌝ }
+    ensures answer { λ r. ⌜ fullNumbers r ≡ fullNumbersOf (question11 n (membersOf n (now («plot_family» .entry)) plot) (closedIn n (now («treatment_family» .entry)) size)) ⌝ }
+    ensures buffer { λ _. ⌜ now («treatment_family» .exit) ≡ treatmentBuffer (now («treatment_family» .entry)) (question11 n (membersOf n (now («plot_family» .entry)) plot) (closedIn n (now («treatment_family» .entry)) size)) ⌝ }
 {
     if size == TOO_MANY {
-        return treatments_refused(11, 0, 0, plot, first, 0, n, treatment_family);
+        return treatments_refused(11, 0, 0, plot, 0);
     }
-    from_12(plot_family, plot, first, size, n, treatment_family)
+    from_12(plot_family, plot, size, n, store, treatment_family)
 }
 
-// Questions 12 to 14 of the first treatment family.
+// Questions 12 to 14.
 fn from_12(
     plot_family: &[u8],
     plot: usize,
-    first: &[u8],
     size: usize,
     n: usize,
+    store: &mut [u8],
     treatment_family: &mut [u8],
 ) -> FullDesign
-    requires { ⌜ (1 ≤ n) × (n ≤ 240) × (7680 ≤ length (now «plot_family»)) × (plot ≤ 32) × (7680 ≤ length (now first)) × (size ≤ 32) × (7680 ≤ length (now «treatment_family»)) ⌝ }
-    ensures answer { λ r. ⌜ fullNumbers r ≡ fullNumbersOf (question12 n (membersOf n (now («plot_family» .entry)) plot) (membersOf n (now (first .entry)) size) (firstPair (orthogonal n) 1 (membersOf n (now (first .entry)) size))) ⌝ }
-    ensures buffer { λ _. ⌜ now («treatment_family» .exit) ≡ treatmentBuffer (now («treatment_family» .entry)) (question12 n (membersOf n (now («plot_family» .entry)) plot) (membersOf n (now (first .entry)) size) (firstPair (orthogonal n) 1 (membersOf n (now (first .entry)) size))) ⌝ }
+    requires { ⌜ (1 ≤ n) × (n ≤ 240) × Numbered n (now «plot_family») plot × Numbered n (now «treatment_family») size × (length (now store) ≡ 7680) ⌝ }
+    ensures answer { λ r. ⌜ fullNumbers r ≡ fullNumbersOf (question12 n (membersOf n (now («plot_family» .entry)) plot) (membersOf n (now («treatment_family» .entry)) size) (firstPair (orthogonal n) 1 (membersOf n (now («treatment_family» .entry)) size))) ⌝ }
+    ensures buffer { λ _. ⌜ now («treatment_family» .exit) ≡ treatmentBuffer (now («treatment_family» .entry)) (question12 n (membersOf n (now («plot_family» .entry)) plot) (membersOf n (now («treatment_family» .entry)) size) (firstPair (orthogonal n) 1 (membersOf n (now («treatment_family» .entry)) size))) ⌝ }
 {
-    let pair = first_pair(first, n, size);
+    let pair = first_pair(treatment_family, n, size);
     let at = pair.first;
     if at != 0 {
-        return treatments_refused(12, at, pair.second, plot, first, size, n, treatment_family);
+        return treatments_refused(12, at, pair.second, plot, size);
     }
-    from_13(plot_family, plot, first, size, n, treatment_family)
+    from_13(plot_family, plot, size, n, store, treatment_family)
 }
 
 // Questions 13 and 14.
 fn from_13(
     plot_family: &[u8],
     plot: usize,
-    first: &[u8],
     size: usize,
     n: usize,
+    store: &mut [u8],
     treatment_family: &mut [u8],
 ) -> FullDesign
-    requires { ⌜ (1 ≤ n) × (n ≤ 240) × (7680 ≤ length (now «plot_family»)) × (plot ≤ 32) × (7680 ≤ length (now first)) × (size ≤ 32) × (7680 ≤ length (now «treatment_family»)) ⌝ }
-    ensures answer { λ r. ⌜ fullNumbers r ≡ fullNumbersOf (question13 (membersOf n (now («plot_family» .entry)) plot) (membersOf n (now (first .entry)) size) (firstCross (orthogonal n) 1 (membersOf n (now («plot_family» .entry)) plot) (membersOf n (now (first .entry)) size))) ⌝ }
-    ensures buffer { λ _. ⌜ now («treatment_family» .exit) ≡ treatmentBuffer (now («treatment_family» .entry)) (question13 (membersOf n (now («plot_family» .entry)) plot) (membersOf n (now (first .entry)) size) (firstCross (orthogonal n) 1 (membersOf n (now («plot_family» .entry)) plot) (membersOf n (now (first .entry)) size))) ⌝ }
+    requires { ⌜ (1 ≤ n) × (n ≤ 240) × Numbered n (now «plot_family») plot × Numbered n (now «treatment_family») size × (length (now store) ≡ 7680) ⌝ }
+    ensures answer { λ r. ⌜ fullNumbers r ≡ fullNumbersOf (question13 (membersOf n (now («plot_family» .entry)) plot) (membersOf n (now («treatment_family» .entry)) size) (firstCross (orthogonal n) 1 (membersOf n (now («plot_family» .entry)) plot) (membersOf n (now («treatment_family» .entry)) size))) ⌝ }
+    ensures buffer { λ _. ⌜ now («treatment_family» .exit) ≡ treatmentBuffer (now («treatment_family» .entry)) (question13 (membersOf n (now («plot_family» .entry)) plot) (membersOf n (now («treatment_family» .entry)) size) (firstCross (orthogonal n) 1 (membersOf n (now («plot_family» .entry)) plot) (membersOf n (now («treatment_family» .entry)) size))) ⌝ }
 {
-    let pair = first_cross(plot_family, plot, first, size, n);
-    let at = pair.first;
+    let mut counts = [0u8; MEMBERS];
+    let crossed = cross(
+        plot_family,
+        plot,
+        treatment_family,
+        size,
+        n,
+        store,
+        &mut counts,
+    );
+    let at = crossed.first;
     if at != 0 {
-        return treatments_refused(13, at, pair.second, plot, first, size, n, treatment_family);
+        return treatments_refused(13, at, crossed.second, plot, size);
     }
-    from_14(plot_family, plot, first, size, n, treatment_family)
-}
-
-// Question 14.
-fn from_14(
-    plot_family: &[u8],
-    plot: usize,
-    first: &[u8],
-    size: usize,
-    n: usize,
-    treatment_family: &mut [u8],
-) -> FullDesign
-    requires { ⌜ (1 ≤ n) × (n ≤ 240) × (7680 ≤ length (now «plot_family»)) × (plot ≤ 32) × (7680 ≤ length (now first)) × (size ≤ 32) × (7680 ≤ length (now «treatment_family»)) ⌝ }
-    ensures answer { λ r. ⌜ fullNumbers r ≡ fullNumbersOf (question14 (membersOf n (now («plot_family» .entry)) plot) (membersOf n (now (first .entry)) size) (finalTreatmentFamily (membersOf n (now («plot_family» .entry)) plot) (membersOf n (now (first .entry)) size))) ⌝ }
-    ensures buffer { λ _. ⌜ now («treatment_family» .exit) ≡ treatmentBuffer (now («treatment_family» .entry)) (question14 (membersOf n (now («plot_family» .entry)) plot) (membersOf n (now (first .entry)) size) (finalTreatmentFamily (membersOf n (now («plot_family» .entry)) plot) (membersOf n (now (first .entry)) size))) ⌝ }
-{
-    let last = final_family(plot_family, plot, first, size, n, treatment_family);
+    let last = crossed.size;
     if last == TOO_MANY {
-        return treatments_refused(14, 0, 0, plot, first, size, n, treatment_family);
+        return treatments_refused(14, 0, 0, plot, size);
     }
+    let order = sort(store, &counts, n, last);
+    write(store, &order, n, last, treatment_family);
     FullDesign::Accepted(Sizes {
         plot,
         treatment: last,

@@ -5,16 +5,16 @@ use mathlib.Core.List.{List}
 use Prim.Native.Nat.{ℕ, _≤_}
 use native.Mathlib.Omega.{arith}
 use denote.Ref.{now}
-use lib.ListN.{length, replicate, length-replicate}
+use lib.ListN.{length}
 use borrow.Author.Needs.{needs}
 use Rattle.rules.specs.Factor.{Column}
-use Rattle.rules.specs.Family.{columnsFrom, membersOf}
-use Rattle.rules.specs.Closing.{firstTreatmentFamily}
+use Rattle.rules.specs.Family.{_∈_, columnsFrom, membersOf}
+use Rattle.rules.specs.Closing.{Closing}
 use Rattle.rules.specs.Design.{question11, treatmentBuffer}
 use Rattle.rules.proofs.Demand3.{column-length}
 use Rattle.design.specs.Answers.{fullNumbersOf}
-use Rattle.design.specs.Closings.{closedIn}
-use Rattle.design.proofs.FullAnswered.{first-held}
+use Rattle.design.proofs.Choosing.{members-plots}
+use Rattle.design.proofs.FullAnswered.{first-held, first-numbered, first-covered}
 use Rattle.design.proofs.steps.full_from_11.Statement.{statement}
 use Rattle.design.proofs.steps.full_from_11.Tie as tie
 
@@ -29,42 +29,39 @@ slice-aggregate-judge-treatments c = search needs
 
 -- where the function starts, seen from the place at which the treatments are closed
 abbrev start : tie.After-first-family → tie.Start
-start f = f .before .before .before .before .before
+start f = f .before .before .before .before .before .before
 
--- the treatment columns
+-- the treatment columns, which are on n plots
 abbrev columns : tie.After-first-family → List Column
 columns f = columnsFrom (start f .args .n) (now (start f .args .levels)) 6 (start f .args .d)
 
--- the memory holds the first treatment family
-Closes : (f : tie.After-first-family) → Type 0
-Closes f = (closedIn (start f .args .n) (f .first-family .last .1 .1 .1 .1 .0) (f .first-family .result) ≡ firstTreatmentFamily (start f .args .n) (start f .args .k) (columns f)) × (f .first-family .result ≤ 33)
+on : (f : tie.After-first-family) (F : Column) → F ∈ columns f → length F ≡ start f .args .n
+on f = let s = start f in column-length (s .args .n) (now (s .args .levels)) (s .args .d) 6 (s .pre .1) (s .pre .5) (omega (arith, s .pre .2))
 
-closes : (f : tie.After-first-family) → Closes f
-unfolding Closes
-closes f =
-    let s = start f in
-    let n = s .args .n in
-    let room : 7680 ≤ length {A = ℕ} (replicate 7680 0) = rw (length-replicate {A = ℕ} 7680 0) (omega arith) in
-    first-held n (s .args .k) (columns f) (column-length n (now (s .args .levels)) (s .args .d) 6 (s .pre .1) (s .pre .5) (omega (arith, s .pre .2))) (s .pre .1) room (f .first-family .ensures)
+-- the treatment buffer once the first family is written
+abbrev after : tie.After-first-family → List ℕ
+after f = f .first-family .last .1 .1 .1 .1 .1 .0
 
 judge-treatments-requires : tie.Need-judge-treatments-requires
-unfolding Closes
 judge-treatments-requires c κs =
-    let f = c .before .before .before in
+    let f = c .before .before .before .before .before in
     let s = start f in
-    (s .pre .0, s .pre .1, s .pre .6, s .pre .7, search needs, closes f .1, s .pre .8)
+    (s .pre .0, s .pre .1, s .pre .6, first-numbered (s .args .n) (s .args .k) (columns f) (on f) (now (s .args .treatment-family)) (after f) (f .first-family .result) (s .pre .1) (s .pre .8) (f .first-family .ensures), search needs)
 
 same-length : tie.Need-same-length
 same-length c = search needs
 
 returns : tie.Need-returns
-unfolding Closes
 returns c =
-    let k = c .before .before in
-    let f = k .before .before .before .before in
+    let k = c .before .before .before in
+    let f = k .before .before .before .before .before .before in
     let s = start f in
-    let w = ap (question11 (s .args .n) (membersOf (s .args .n) (now (s .args .plot)) (s .args .held))) (closes f .0) in
-    (k .judge-treatments .ensures .0 ∙ ap fullNumbersOf w, k .judge-treatments .ensures .1 ∙ ap (treatmentBuffer (now (s .args .treatment-family))) w)
+    let n = s .args .n in
+    let P = membersOf n (now (s .args .plot)) (s .args .held) in
+    let held = first-held n (s .args .k) (columns f) (on f) (now (s .args .treatment-family)) (after f) (f .first-family .result) (s .pre .1) (s .pre .8) (f .first-family .ensures) in
+    let onP = members-plots n (now (s .args .plot)) (s .args .held) (s .pre .1) (omega (arith, s .pre .6 .room, s .pre .6 .few)) in
+    let covered = first-covered n (s .args .k) (columns f) (on f) (now (s .args .treatment-family)) (after f) (f .first-family .result) (s .pre .1) (s .pre .8) P onP (s .pre .7) (f .first-family .ensures) in
+    (k .judge-treatments .ensures .0 ∙ ap (λ (x : Closing). fullNumbersOf (question11 n P x)) held, k .judge-treatments .ensures .1 ∙ ap (λ (x : Closing). treatmentBuffer (after f) (question11 n P x)) held ∙ covered)
 
 pub full-from-11-spec : {M : Type 1} → statement M
 full-from-11-spec =

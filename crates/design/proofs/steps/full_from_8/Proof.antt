@@ -3,15 +3,17 @@
 use mathlib.Core.Path.{_≡_, refl, sym, ap, _∙_}
 use mathlib.Core.List.{List}
 use Prim.Native.Nat.{ℕ}
+use native.Mathlib.Omega.{arith}
 use denote.Ref.{now}
 use borrow.Author.Needs.{needs}
 use Rattle.rules.specs.Factor.{Column}
 use Rattle.rules.specs.Family.{Family, columnsFrom, membersOf, written}
 use Rattle.rules.specs.Closing.{Closing, plotFamily, firstTreatmentFamily}
 use Rattle.rules.specs.Design.{Answer, question8, question11, plotBuffer, withTreatments, treatmentBuffer}
+use Rattle.rules.proofs.Demand3.{column-length}
 use Rattle.design.specs.Answers.{plotNumbers, fullNumbers, fullNumbersOf}
 use Rattle.design.specs.Closings.{closedIn, goesOn}
-use Rattle.design.proofs.WithTreatments.{plot-alone, with-refused, with-accepted, with-plot, refused-numbers, refused-not, Goes, goes-on, goes-treatments}
+use Rattle.design.proofs.WithTreatments.{plot-alone, with-refused, with-accepted, with-plot, refused-numbers, refused-not, Goes, goes-on, goes-numbered, goes-treatments}
 use Rattle.design.proofs.steps.full_from_8.Statement.{statement}
 use Rattle.design.proofs.steps.full_from_8.Tie as tie
 
@@ -81,7 +83,7 @@ left-plots f =
 AcceptedHere : (c : tie.After-answer2) → Type 0
 AcceptedHere c =
     let f = c .before .before in
-    Goes (start f .args .n) (answered f) (memory f) (c .answer2 .given .0 .0)
+    Goes (start f .args .n) (closedIn (start f .args .n) (memory f) (closed f .close-plot-family .result .size)) (memory f) (c .answer2 .given .0 .0)
 
 accepted-here : (c : tie.After-answer2) → AcceptedHere c
 unfolding AcceptedHere plotNumbers
@@ -97,7 +99,10 @@ full-from-11-requires c κs =
     let q = c .before .before .before in
     let f = q .before .before in
     let s = start f in
-    (s .pre .0, s .pre .1, s .pre .3, s .pre .4, s .pre .5, s .pre .6, closed f .close-plot-family .ensures .1 .1 .room, accepted-here q .few, s .pre .8)
+    let n = s .args .n in
+    let on = column-length n (now (s .args .levels)) (s .args .c) 0 (s .pre .1) (s .pre .6) (omega (arith, s .pre .2)) in
+    let w = goes-numbered n (columnsFrom n (now (s .args .levels)) 0 (s .args .c)) on (memory f) (q .answer2 .given .0 .0) (s .pre .1) (closed f .close-plot-family .ensures .1 .1 .room) (closed f .close-plot-family .ensures .0) (accepted-here q) in
+    (s .pre .0, s .pre .1, s .pre .3, s .pre .4, s .pre .5, s .pre .6, w .0, w .1, s .pre .8)
 
 same-length : tie.Need-same-length
 same-length c = search needs

@@ -45,7 +45,7 @@ same-length c = search needs
 returns : tie.Need-returns
 returns c =
     let q = c .before .before .before in
-    λ k Ts b. first-over refl (closed-over (c .if1 .taken) (closed q (treatmentGenerators (start q .args .n) k Ts) b))
+    λ k Ts b. first-over refl (closed-over (c .if1 .taken) (closed q (treatmentGenerators (start q .args .n) k Ts) b)) refl
 
 sort-requires : tie.Need-sort-requires
 sort-requires c κs =

@@ -17,7 +17,7 @@ use Rattle.design.proofs.treatments.first_family.Tie as tie
 
 -- where the function starts, seen from the place at which the infima are filled in
 abbrev start : tie.After-fill-infima → tie.Start
-start f = f .before .before .before .before
+start f = f .before .before .before .before .before
 
 -- the infima
 abbrev infima : tie.After-fill-infima → List ℕ
@@ -60,35 +60,35 @@ fill-infima-requires c κs = search needs
 slice-aggregate-place-all : tie.Need-slice-aggregate-place-all
 slice-aggregate-place-all c = search needs
 
-slice-aggregate-place-all-2 : tie.Need-slice-aggregate-place-all-2
-slice-aggregate-place-all-2 c = search needs
-
 place-all-requires : tie.Need-place-all-requires
 place-all-requires c κs =
     let f = c .before .before .before .before in
     let s = start f in
-    (s .pre .0, s .pre .1, search needs, f .fill-infima .ensures .0, length-replicate {A = ℕ} 7680 0, length-replicate {A = ℕ} 32 0, numbered f)
-
-returns : tie.Need-returns
-returns c = first-over refl (too-large (c .before .before) (c .if1 .taken))
-
-slice-aggregate-close-first : tie.Need-slice-aggregate-close-first
-slice-aggregate-close-first c = search needs
-
-close-first-requires : tie.Need-close-first-requires
-close-first-requires c κs =
-    let l = c .before .before .before in
-    let p = l .before .before in
-    (begun-own (begun p (l .if1 .left)), start (filled p) .pre .6)
+    (s .pre .0, s .pre .1, search needs, f .fill-infima .ensures .0, s .pre .7, length-replicate {A = ℕ} 32 0, numbered f)
 
 same-length : tie.Need-same-length
 same-length c = search needs
 
+returns : tie.Need-returns
+returns c = first-over refl (too-large (c .before .before .before) (c .if1 .taken)) refl
+
+close-first-requires : tie.Need-close-first-requires
+close-first-requires c κs =
+    let l = c .before .before .before in
+    let p = l .before .before .before in
+    (begun-own (begun p (l .if1 .left)), start (filled p) .pre .6)
+
+same-length-2 : tie.Need-same-length-2
+same-length-2 c = search needs
+
+same-length-3 : tie.Need-same-length-3
+same-length-3 c = search needs
+
 returns-2 : tie.Need-returns-2
 returns-2 c =
-    let z = c .before .before .before in
+    let z = c .before .before .before .before in
     let l = z .before .before .before .before in
-    let p = l .before .before in
+    let p = l .before .before .before in
     z .close-first .ensures (start (filled p) .args .k) (columns (filled p)) (begun p (l .if1 .left))
 
 pub first-family-spec : {M : Type 1} → statement M
@@ -98,10 +98,10 @@ first-family-spec =
     slice-aggregate-fill-infima
     fill-infima-requires
     slice-aggregate-place-all
-    slice-aggregate-place-all-2
     place-all-requires
-    returns
-    slice-aggregate-close-first
-    close-first-requires
     same-length
+    returns
+    close-first-requires
+    same-length-2
+    same-length-3
     returns-2)

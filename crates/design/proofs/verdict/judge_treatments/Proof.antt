@@ -3,7 +3,7 @@
 use mathlib.Core.Path.{refl, sym, ap, _∙_}
 use denote.Ref.{now}
 use borrow.Author.Needs.{needs}
-use Rattle.rules.specs.Family.{columnsFrom, membersOf}
+use Rattle.rules.specs.Family.{membersOf, written}
 use Rattle.rules.specs.Design.{treatmentBuffer}
 use Rattle.rules.proofs.Buffer.{length-members}
 use Rattle.design.specs.Answers.{fullNumbersOf}
@@ -16,47 +16,49 @@ use Rattle.design.proofs.verdict.judge_treatments.Tie as tie
 treatments-refused-requires : tie.Need-treatments-refused-requires
 treatments-refused-requires c κs = search needs
 
-same-length : tie.Need-same-length
-same-length c = search needs
-
 returns : tie.Need-returns
-unfolding membersOf columnsFrom
+unfolding written
 returns c =
-    let k = c .before .before in
-    let i = k .before .before in
+    let i = c .before in
     let s = i .before .before .before .before in
     let n = s .args .n in
     let P = membersOf n (now (s .args .plot-family)) (s .args .plot) in
-    let first = now (s .args .first) in
+    let first = now (s .args .treatment-family) in
     let t = told-11 n P (closedIn n first (s .args .size)) (held-over n first (s .args .size) (i .if1 .taken)) in (
-      k .treatments-refused .ensures .0 ∙ full-refusing-is 11 refl refl (sym (length-members n (s .pre .1) (now (s .args .plot-family)) (s .args .plot))) refl ∙ sym (t .numbers),
-      k .treatments-refused .ensures .1 ∙ sym (told-buffer (now (s .args .treatment-family)) t),
+      c .treatments-refused .ensures ∙ full-refusing-is 11 refl refl (sym (length-members n (s .pre .1) (now (s .args .plot-family)) (s .args .plot))) refl ∙ sym (t .numbers),
+      sym (told-buffer first t),
     )
 
 from-12-requires : tie.Need-from-12-requires
-from-12-requires c κs = search needs
+from-12-requires c κs =
+    let i = c .before .before in
+    let s = i .before .before .before .before in
+    (s .pre .0, s .pre .1, s .pre .2, s .pre .3 (i .if1 .left), s .pre .4)
+
+same-length : tie.Need-same-length
+same-length c = search needs
 
 same-length-2 : tie.Need-same-length-2
 same-length-2 c = search needs
 
 returns-2 : tie.Need-returns-2
 returns-2 c =
-    let k = c .before .before in
-    let i = k .before .before in
+    let k = c .before .before .before .before in
+    let i = k .before .before .before in
     let s = i .before .before .before .before in
     let n = s .args .n in
     let P = membersOf n (now (s .args .plot-family)) (s .args .plot) in
-    let first = now (s .args .first) in
+    let first = now (s .args .treatment-family) in
     let q = passed-11 n P (closedIn n first (s .args .size)) (membersOf n first (s .args .size)) (held-on n first (s .args .size) (i .if1 .left)) in
-    (k .from-12 .ensures .0 ∙ ap fullNumbersOf (sym q), k .from-12 .ensures .1 ∙ ap (treatmentBuffer (now (s .args .treatment-family))) (sym q))
+    (k .from-12 .ensures .0 ∙ ap fullNumbersOf (sym q), k .from-12 .ensures .1 ∙ ap (treatmentBuffer first) (sym q))
 
 pub judge-treatments-spec : {M : Type 1} → statement M
 judge-treatments-spec =
     tie.close
     (tie.spec
     treatments-refused-requires
-    same-length
     returns
     from-12-requires
+    same-length
     same-length-2
     returns-2)

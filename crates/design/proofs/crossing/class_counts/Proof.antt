@@ -1,0 +1,123 @@
+-- `class_counts` meets its contract: the first `i` members are counted.
+-- Assumes nothing.
+use mathlib.Core.Path.{_≡_, refl, sym, ap, _∙_, subst}
+use mathlib.Core.Bool.{Bool, true, false}
+use mathlib.Core.List.{List}
+use Prim.Native.Nat.{ℕ, _+_, _-_, _*_, _≤_, _<_}
+use native.Mathlib.Nat.{not-suc-le-zero}
+use native.Mathlib.Omega.{arith}
+use borrow.Author.Tests.{eqb-true, eqb-false}
+use denote.Ref.{now}
+use lib.Dec.{eqb}
+use lib.ListN.{length, getD, set, length-set, length-replicate}
+use lib.Seq.{getD-set-same, getD-set-other}
+use Rattle.rules.specs.Factor.{classes}
+use Rattle.rules.proofs.ClassCount.{classes-most}
+use Rattle.design.specs.State.{columnIn}
+use Rattle.design.proofs.Asked.{part-is, length-column}
+use Rattle.design.proofs.crossing.class_counts.Statement.{statement}
+use Rattle.design.proofs.crossing.class_counts.Tie as tie
+
+abbrev Inv-loop : tie.InvT-loop
+Inv-loop family n size counts₀ i₀ counts i =
+    (i ≤ size) × (length counts ≡ 32) × ((p : ℕ) → p < i → getD counts p 0 ≡ classes (columnIn n family p))
+
+abbrev μ-loop : tie.MeasureT-loop
+μ-loop family n size counts₀ i₀ counts i = size - i
+
+-- one member more is counted
+turn : (n i k : ℕ) (family counts : List ℕ) → i < length counts → k ≡ classes (columnIn n family i) → ((p : ℕ) → p < i → getD counts p 0 ≡ classes (columnIn n family p))
+    → (p : ℕ) → p < i + 1 → getD (set counts i k) p 0 ≡ classes (columnIn n family p)
+turn n i k family counts h e before p l = go (eqb p i) refl
+  where
+    go : (b : Bool) → eqb p i ≡ b → getD (set counts i k) p 0 ≡ classes (columnIn n family p)
+    go true q =
+        let s : p ≡ i = eqb-true p i q in
+        rw s (getD-set-same counts i k 0 h ∙ e)
+    go false q =
+        let d = eqb-false p i q in
+        getD-set-other counts i p k 0 d ∙ before p (omega arith)
+
+-- where the loop stands, seen from the place at which a member is counted
+abbrev here : tie.After-classes Inv-loop μ-loop → tie.At-loop Inv-loop μ-loop
+here w = w .before .before .before
+
+-- the number of classes of member i
+counted : (w : tie.After-classes Inv-loop μ-loop) → let s = here w .before .before .args in (w .classes .result ≡ classes (columnIn (s .n) (now (s .family)) (here w .loop .i))) × (w .classes .result ≤ 240)
+counted w =
+    let start = here w .before .before in
+    let s = start .args in
+    let i = here w .loop .i in
+    let e : w .classes .result ≡ classes (columnIn (s .n) (now (s .family)) i) = w .classes .ensures ∙ ap classes (part-is (s .n) (240 * i) (now (s .family))) in
+    let l : length (columnIn (s .n) (now (s .family)) i) ≡ s .n = length-column (s .n) i (now (s .family)) (omega arith) in
+    (e, omega (arith, classes-most (columnIn (s .n) (now (s .family)) i)))
+
+loop-holds : tie.Need-loop-holds Inv-loop μ-loop
+loop-holds c = (omega arith, length-replicate {A = ℕ} 32 0, λ p h. absurd (not-suc-le-zero h))
+
+mul-at : tie.Need-mul-at Inv-loop μ-loop
+mul-at c = omega arith
+
+add-end : tie.Need-add-end Inv-loop μ-loop
+add-end c = omega arith
+
+sub-classes : tie.Need-sub-classes Inv-loop μ-loop
+sub-classes c = omega arith
+
+part-classes-start : tie.Need-part-classes-start Inv-loop μ-loop
+part-classes-start c = omega arith
+
+part-classes-end : tie.Need-part-classes-end Inv-loop μ-loop
+part-classes-end c = omega arith
+
+classes-requires : tie.Need-classes-requires Inv-loop μ-loop
+classes-requires c κs = tt
+
+cast-counts : tie.Need-cast-counts Inv-loop μ-loop
+cast-counts c = omega (arith, counted c .1)
+
+array-write-counts : tie.Need-array-write-counts Inv-loop μ-loop
+array-write-counts c = omega arith
+
+add-i : tie.Need-add-i Inv-loop μ-loop
+add-i c = omega arith
+
+loop-less : tie.Need-loop-less Inv-loop μ-loop
+loop-less c = omega arith
+
+loop-again : tie.Need-loop-again Inv-loop μ-loop
+loop-again c =
+    let b = here c in
+    let s = b .before .before .args in
+    let i = b .loop .i in (
+      omega arith,
+      length-set (b .loop .counts) i (c .classes .result) ∙ b .loop .inv .1,
+      turn (s .n) i (c .classes .result) (now (s .family)) (b .loop .counts) (omega arith) (counted c .0) (b .loop .inv .2),
+    )
+
+returns : tie.Need-returns Inv-loop μ-loop
+returns c =
+    let b = c .before in
+    let s = b .before .before .args in
+    let e : b .loop .i ≡ s .size = omega arith in
+    λ p h. b .loop .inv .2 p (omega arith)
+
+pub class-counts-spec : {M : Type 1} → statement M
+class-counts-spec =
+    tie.close
+    (tie.spec
+    Inv-loop
+    μ-loop
+    loop-holds
+    mul-at
+    add-end
+    sub-classes
+    part-classes-start
+    part-classes-end
+    classes-requires
+    cast-counts
+    array-write-counts
+    add-i
+    loop-less
+    loop-again
+    returns)
