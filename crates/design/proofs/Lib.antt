@@ -9,6 +9,7 @@ pub mod Choosing
 pub mod Suprema
 pub mod Rewriting
 pub mod Work
+pub mod KnownOrder
 pub mod Judge
 pub mod Answered
 pub mod FullAnswered

@@ -2,7 +2,7 @@
 -- Assumes nothing.
 use mathlib.Core.Path.{_≡_, refl, sym, ap, ap₂, _∙_, subst}
 use mathlib.Core.Logic.{_⊎_, inl, inr, ⊎-elim}
-use mathlib.Core.Bool.{Bool, true, false, _||_, true≢false}
+use mathlib.Core.Bool.{Bool, true, false, true≢false}
 use mathlib.Core.List.{List, [], _∷_, _++_, List·Memᴰ·head, List·Memᴰ·tail, List·Memᴰ·cases-cons, List·Memᴰ·append-cases, List·Memᴰ·eq-of-singleton, Memᴰ·append-left}
 use Prim.Native.Nat.{ℕ, suc, _+_, _*_, _≤_, _<_}
 use native.Mathlib.Nat.{not-suc-le-zero, add-zero}
@@ -11,7 +11,7 @@ use native.Mathlib.Omega.{arith}
 use lib.Dec.{ltb}
 use lib.ListN.{length, getD, set, length-append, length-set, List·getD-append}
 use lib.Seq.{getD-append-add, getD-set-same, getD-set-other}
-use borrow.Author.Tests.{eqb-true, ltb-true, ltb-false}
+use borrow.Author.Tests.{ltb-true, ltb-false}
 use Rattle.rules.specs.Factor.{Column, finer, number, infimum, supremum}
 use Rattle.rules.specs.Family.{Family, _∈_, membersOf, insertAll}
 use Rattle.rules.specs.Closing.{both, onlySupremum, Made, given, made, tooMany, family, close}
@@ -23,16 +23,10 @@ use Rattle.rules.proofs.Bounds.{infimum-comm, supremum-comm, infimum-finer-is, 
 use Rattle.rules.proofs.Buffer.{member-is, length-members}
 use Rattle.rules.proofs.WorkList.{PlaceOf, place-of, member-in, Found, found-more, found-over, Combined, combined-none, combined-more, combined-step, combined-row, combined-close}
 use Rattle.design.proofs.Common.{column-length}
-use Rattle.design.proofs.Extremes.{one-class-coarsest, all-classes-finest}
 use Rattle.design.proofs.Placing.{grown-new, grown-old}
-use Rattle.design.specs.State.{columnIn, toldFiner, Held, Placed, full, old, new, grownTo, Begun, makeOf, Recorded, Work, Kept, Stepped, over, on}
+use Rattle.design.specs.State.{columnIn, Held, Placed, full, old, new, grownTo, Begun, makeOf, Recorded, Work, Known, Advanced, Stepped, over, on}
 
 -- ---- members by their places
-
--- one of two tests passed
-or-cases : (a b : Bool) → a || b ≡ true → (a ≡ true) ⊎ (b ≡ true)
-or-cases true b e = inl refl
-or-cases false b e = inr e
 
 module _ {n : ℕ} {store counts : List ℕ} {size : ℕ} (held : Held n store counts size) where
   -- how many members there are
@@ -59,13 +53,6 @@ module _ {n : ℕ} {store counts : List ℕ} {size : ℕ} (held : Held n store c
   -- the column at a member's place is a member
   pub column-in : (i : ℕ) → i < size → columnIn n store i ∈ membersOf n store size
   column-in i h = subst (λ (F : Column). F ∈ membersOf n store size) (member-column i h) (member-in (membersOf n store size) i (omega (arith, size-members)))
-
-  -- where numbers of classes tell that a member is finer than another, it is
-  pub told-order : {i j : ℕ} → i < size → j < size → toldFiner n (getD counts i 0) (getD counts j 0) ≡ true → finer n (columnIn n store i) (columnIn n store j) ≡ true
-  told-order {i} {j} hi hj e = ⊎-elim
-      (λ q. one-class-coarsest n _ (columnIn n store i) (held-length j hj) (held .some) (sym (held .counted j hj) ∙ eqb-true _ _ q))
-      (λ q. all-classes-finest n _ (columnIn n store j) (held-length i hi) (sym (held .counted i hi) ∙ eqb-true _ _ q))
-      (or-cases _ _ e)
 
 -- ---- a column that is placed
 
@@ -457,7 +444,7 @@ pub stepped-on : {n : ℕ} {infima : Bool} {Gs : List Column} {store counts meet
 stepped-on f (over q c) = absurd (f q)
 stepped-on f (on w) = w
 
--- the store is held
-pub kept-on : {n : ℕ} {store counts : List ℕ} {size r : ℕ} → (r ≡ 33 → ⊥) → Kept n store counts size r → Held n store counts r × (size ≤ r)
-kept-on f (inl q) = absurd (f q)
-kept-on f (inr k) = k
+-- the store is held, and what is known of the order is true
+pub advanced-on : {n : ℕ} {store counts above : List ℕ} {size r : ℕ} → (r ≡ 33 → ⊥) → Advanced n store counts above size r → Held n store counts r × (size ≤ r) × Known n store above r
+advanced-on f (inl q) = absurd (f q)
+advanced-on f (inr k) = k

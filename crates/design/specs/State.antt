@@ -4,11 +4,13 @@ use mathlib.Core.Path.{_≡_}
 use mathlib.Core.Logic.{_⊎_}
 use mathlib.Core.Bool.{Bool, true, false, _||_}
 use mathlib.Core.List.{List, [], _∷_, _++_, map}
-use Prim.Native.Nat.{ℕ, suc, _+_, _*_, _≤_, _<_}
+use Prim.Native.Nat.{ℕ, suc, _+_, _*_, _%_, _^_, _≤_, _<_}
+use lib.Bits.{bitOr}
 use lib.Dec.{eqb}
-use lib.ListN.{length, getD, take, drop}
-use Rattle.rules.specs.Factor.{Column, number, classes, infimum, supremum}
+use lib.ListN.{length, getD, set, take, drop}
+use Rattle.rules.specs.Factor.{Column, Finer, number, classes, infimum, supremum}
 use Rattle.rules.specs.Family.{Family, _∈_, Distinct, before, membersOf, insertAll}
+use Rattle.rules.specs.Lists.{bitAt}
 use Rattle.rules.specs.Closing.{both, onlySupremum, tooMany, family, close}
 use Rattle.rules.specs.Relation.{memberAt}
 use Rattle.rules.proofs.WorkList.{Found, Combined}
@@ -28,9 +30,18 @@ pub record Held (n : ℕ) (store counts : List ℕ) (size : ℕ) : Type 0 where
   pub few : size ≤ 32
   pub counted : (i : ℕ) → i < size → getD counts i 0 ≡ classes (columnIn n store i)
 
--- numbers of classes on n plots tell that a factor with a of them is finer than or equivalent to one with b
-abbrev pub toldFiner : ℕ → ℕ → ℕ → Bool
-toldFiner n a b = eqb b 1 || eqb a n
+-- a factor with a classes on n plots is known to be finer than or equivalent to one with b, which is member j
+abbrev pub toldFiner : ℕ → ℕ → ℕ → ℕ → ℕ → Bool
+toldFiner n a b word j = eqb b 1 || (eqb a n || bitAt word j)
+
+-- the words once it is noted that member a is finer than or equivalent to member b
+abbrev pub noted : List ℕ → ℕ → ℕ → List ℕ
+noted above a b = set above a (bitOr (getD above a 0) (bitOr (getD above b 0) (1 * 2 ^ b % 2 ^ 32)))
+
+-- what is known of the order of members: bit b of word a says that member a is finer than or equivalent to member b
+pub record Known (n : ℕ) (store above : List ℕ) (size : ℕ) : Type 0 where
+  pub words : length above ≡ 32
+  pub sound : (a b : ℕ) → bitAt (getD above a 0) b ≡ true → (a < size) × (b < size) × Finer n (columnIn n store a) (columnIn n store b)
 
 -- What placing the column F among the members S answers: r is its place.
 pub data Placed (n : ℕ) (S : Family) (F : Column) (r : ℕ) (store counts : List ℕ) : Type 0 where
@@ -83,6 +94,10 @@ pub record Work (n : ℕ) (infima : Bool) (Gs : List Column) (store counts meets
 -- what a step leaves, whatever it works towards: 33 where the family is too large, or a store that has not shrunk
 abbrev pub Kept : ℕ → List ℕ → List ℕ → ℕ → ℕ → Type 0
 Kept n store counts size r = (r ≡ 33) ⊎ (Held n store counts r × (size ≤ r))
+
+-- the same, with what is known of the order of members
+abbrev pub Advanced : ℕ → List ℕ → List ℕ → List ℕ → ℕ → ℕ → Type 0
+Advanced n store counts above size r = (r ≡ 33) ⊎ (Held n store counts r × (size ≤ r) × Known n store above r)
 
 -- a step to the pair i, j: the new size, or 33 where the family is too large
 pub data Stepped (n : ℕ) (infima : Bool) (Gs : List Column) (store counts meets joins : List ℕ) (r i j : ℕ) : Type 0 where

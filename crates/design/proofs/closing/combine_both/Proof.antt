@@ -12,10 +12,11 @@ use Rattle.rules.specs.Factor.{Column, classes, infimum, supremum}
 use Rattle.rules.specs.Family.{membersOf}
 use Rattle.rules.proofs.Bounds.{length-infimum′, length-supremum′}
 use Rattle.rules.proofs.ClassCount.{classes-most}
-use Rattle.design.specs.State.{columnIn, Placed, grownTo, over, on}
+use Rattle.design.specs.State.{columnIn, noted, Placed, grownTo, over, on}
 use Rattle.design.proofs.Common.{overlay-front}
 use Rattle.design.proofs.Start.{held-on, placed-on}
 use Rattle.design.proofs.Work.{size-members, held-length, Stood, stood, stood-as, column-kept, pair-here, pair-keeps, work-infimum, over-infimum, work-supremum, over-supremum, work-both}
+use Rattle.design.proofs.KnownOrder.{noted-words, known-grown, known-supremum, known-infimum}
 use Rattle.design.proofs.closing.combine_both.Statement.{statement}
 use Rattle.design.proofs.closing.combine_both.Tie as tie
 
@@ -147,8 +148,8 @@ here-2 c =
 member-bounds-requires : tie.Need-member-bounds-requires
 member-bounds-requires c κs = search needs
 
-array-share-prefix-below : tie.Need-array-share-prefix-below
-array-share-prefix-below c =
+array-share-prefix-infimum : tie.Need-array-share-prefix-infimum
+array-share-prefix-infimum c =
     let m = c .before .before in
     omega (arith, length-take (n m) (below m), below-length m)
 
@@ -177,8 +178,8 @@ returns c =
 grown-requires : tie.Need-grown-requires
 grown-requires c κs = search needs
 
-array-share-prefix-above : tie.Need-array-share-prefix-above
-array-share-prefix-above c =
+array-share-prefix-supremum : tie.Need-array-share-prefix-supremum
+array-share-prefix-supremum c =
     let m = bounds (first (c .before .before)) in
     omega (arith, length-take (n m) (above m), above-length m)
 
@@ -236,28 +237,55 @@ element-write-joins c =
     let s = start (bounds (first (second (c .before .before .before)))) in
     omega (arith, s .pre .1, s .pre .2, s .pre .0 .few)
 
+-- the members of the pair, and of its infimum and supremum, have words
+note-supremum-requires : tie.Need-note-supremum-requires
+note-supremum-requires c κs =
+    let y = here-2 (c .before) in
+    let s = start (bounds (first (second (c .before .before .before .before)))) in
+    (s .pre .3 .words, omega (arith, s .pre .0 .few, s .pre .1), omega (arith, s .pre .0 .few, s .pre .1, s .pre .2), omega (arith, y .here, y .held .few))
+
+note-infimum-requires : tie.Need-note-infimum-requires
+note-infimum-requires c κs =
+    let t = c .before in
+    let g = second (t .before .before .before .before .before) in
+    let s = start (bounds (first g)) in
+    let a = s .args in
+    let q = t .before .before .before .before .before .place2 .result in (
+      ap length (t .note-supremum .ensures) ∙ noted-words (noted (now (a .above)) (a .i) q) (a .j) q (noted-words (now (a .above)) (a .i) q (s .pre .3 .words)),
+      omega (arith, s .pre .0 .few, s .pre .1),
+      omega (arith, s .pre .0 .few, s .pre .1, s .pre .2),
+      omega (arith, here g .here, here g .held .few),
+    )
+
 grown-requires-2 : tie.Need-grown-requires-2
-grown-requires-2 c κs = here (second (c .before .before .before)) .held .few
+grown-requires-2 c κs = here (second (c .before .before .before .before .before .before .before)) .held .few
 
 same-length-3 : tie.Need-same-length-3
 same-length-3 c = search needs
 
 returns-3 : tie.Need-returns-3
 returns-3 c =
-    let q = c .before .before .before .before in
+    let t = c .before .before .before in
+    let e = t .before .before in
+    let q = e .before .before .before in
     let g = second q in
     let s = start (bounds (first g)) in
     let a = s .args in
     let x = here g in
-    let y = here-2 (c .before) in
+    let y = here-2 e in
     let size = grownTo (g .grown .result) (q .place2 .result) in
     let more : a .size ≤ size = omega (arith, x .more, size-members (s .pre .0), y .more, size-members (x .held)) in
     let i-now : a .i < size = omega (arith, s .pre .1, more) in
+    let j-now : a .j < size = omega (arith, s .pre .2, i-now) in
     let j-first : a .j < a .size = omega (arith, s .pre .1, s .pre .2) in
     let i-there : a .i < length (membersOf (a .n) (first g .place .last .0) (g .grown .result)) = omega (arith, i-in g, size-members (x .held)) in
-    let j-there : a .j < length (membersOf (a .n) (first g .place .last .0) (g .grown .result)) = omega (arith, j-in g, size-members (x .held)) in (
-      inr (rw (c .grown2 .ensures) (y .held, more)),
-      λ Gs w. on (rw (c .grown2 .ensures) (work-both i-now (s .pre .2) (pair-keeps i-there j-there y (pair-here (s .pre .0) (s .pre .1) j-first x)) (pair-here (x .held) (i-in g) (j-in g) y) (work-supremum (work-infimum w (s .pre .1) (s .pre .2) x) (i-in g) (s .pre .2) y))),
+    let j-there : a .j < length (membersOf (a .n) (first g .place .last .0) (g .grown .result)) = omega (arith, j-in g, size-members (x .held)) in
+    let low = pair-keeps i-there j-there y (pair-here (s .pre .0) (s .pre .1) j-first x) in
+    let high = pair-here (x .held) (i-in g) (j-in g) y in
+    let known = known-infimum (y .held) i-now j-now low (known-supremum (y .held) i-now j-now high (known-grown (x .held) y (known-grown (s .pre .0) x (s .pre .3)))) in
+    let words = c .before .note-infimum .ensures ∙ ap (λ (l : List ℕ). noted (noted l (first g .place .result) (a .i)) (first g .place .result) (a .j)) (t .note-supremum .ensures) in (
+      inr (rw (c .grown2 .ensures, words) (y .held, more, known)),
+      λ Gs w. on (rw (c .grown2 .ensures) (work-both i-now (s .pre .2) low high (work-supremum (work-infimum w (s .pre .1) (s .pre .2) x) (i-in g) (s .pre .2) y))),
     )
 
 pub combine-both-spec : {M : Type 1} → statement M
@@ -265,14 +293,14 @@ combine-both-spec =
     tie.close
     (tie.spec
     member-bounds-requires
-    array-share-prefix-below
+    array-share-prefix-infimum
     slice-aggregate-place
     cast-place
     place-requires
     same-length
     returns
     grown-requires
-    array-share-prefix-above
+    array-share-prefix-supremum
     slice-aggregate-place-2
     cast-place-2
     place-requires-2
@@ -284,6 +312,8 @@ combine-both-spec =
     element-write-meets
     cast-joins
     element-write-joins
+    note-supremum-requires
+    note-infimum-requires
     grown-requires-2
     same-length-3
     returns-3)
