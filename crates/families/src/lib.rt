@@ -1,10 +1,10 @@
 // Questions 6 and 15 of a family in lent memory. Members are counted from 0.
 ghost use mathlib.Core.Path.{_≡_};
-ghost use mathlib.Core.Bool.{_&&_};
-ghost use Prim.Native.Nat.{_≤_, _<_};
+ghost use mathlib.Core.Bool.{true, false, _&&_};
+ghost use Prim.Native.Nat.{ℕ, _≤_, _<_};
 ghost use lib.Dec.{leb};
 ghost use lib.ListN.{length};
-ghost use Rattle.rules.specs.Factor.{classes};
+ghost use Rattle.rules.specs.Factor.{at, classes};
 ghost use Rattle.rules.specs.Family.{membersOf, before, allNumbered, ordered, wellFormed};
 ghost use Rattle.rules.specs.Design.{plotsWithin};
 ghost use Rattle.families.specs.Lent.{columnAt, formedIn, numberedClasses};
@@ -41,20 +41,35 @@ pub fn well_formed(family: &[u8], plots: usize, size: usize) -> bool
     formed(family, plots, size)
 }
 
+// Whether each plot has a label. The walk goes to the end, so that many plots are looked at at a time.
+fn all_labelled(column: &[u8]) -> bool
+    ensures { λ r. ⌜ (r ≡ true → (u : ℕ) → u < length (now (column .entry)) → 0 < at (now (column .entry)) u) ⌝ }
+    ensures { λ r. ⌜ (r ≡ false → numberedClasses (now (column .entry)) ≡ 241) ⌝ }
+{
+    let mut least: u8 = 255;
+    for u in 0..column.len() {
+        let x = column[u];
+        if x < least {
+            least = x;
+        }
+    }
+    0 < least
+}
+
 // How many classes a column has that is numbered by first appearance: its largest number.
 fn numbered_classes(column: &[u8]) -> usize
     ensures { λ r. ⌜ r ≡ numberedClasses (now (column .entry)) ⌝ }
 {
+    if !all_labelled(column) {
+        return UNNUMBERED;
+    }
     let mut k: usize = 0;
     for u in 0..column.len() {
         let x = column[u] as usize;
-        if x == 0 {
-            return UNNUMBERED;
-        }
-        if k + 1 < x {
-            return UNNUMBERED;
-        }
         if k < x {
+            if k + 1 < x {
+                return UNNUMBERED;
+            }
             k = x;
         }
     }

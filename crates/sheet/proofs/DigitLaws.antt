@@ -101,29 +101,40 @@ module _ (x : ℕ) (f : List ℕ) (e : all digit (x ∷ f) ≡ true) where
   unfolding all
   all-rest = and-right (digit x) (all digit f) e
 
--- a number of k digits more grows at most so
-grown : (v : ℕ) (f : List ℕ) → all digit f ≡ true → length f ≤ 3 → v ≤ 9 → decimalFrom v f ≤ 9999
-unfolding decimalFrom
-grown v [] e l h = omega arith
-grown v (a ∷ []) e l h = omega (arith, digit-most a (all-first a [] e))
-grown v (a ∷ b ∷ []) e l h =
-    let r = all-rest a (b ∷ []) e in
-    omega (arith, digit-most a (all-first a (b ∷ []) e), digit-most b (all-first b [] r))
-grown v (a ∷ b ∷ c ∷ []) e l h =
-    let r = all-rest a (b ∷ c ∷ []) e in
-    let s = all-rest b (c ∷ []) r in
-    omega (arith, digit-most a (all-first a (b ∷ c ∷ []) e), digit-most b (all-first b (c ∷ []) r), digit-most c (all-first c [] s))
-grown v (a ∷ b ∷ c ∷ d ∷ f) e l h = absurd (not-suc-le-zero (le-of-suc-le-suc (le-of-suc-le-suc (le-of-suc-le-suc l))))
+-- the largest number that digits write, as many as f has, after a number up to m
+unfoldable most : ℕ → List ℕ → ℕ
+most m [] = m
+most m (x ∷ f) = most (10 * m + 9) f
 
--- one to four digits, the first not 0
-pub digits-few : (x : ℕ) (f : List ℕ) → all digit (x ∷ f) ≡ true → (x ≡ 48 → ⊥) → length f ≤ 3 → isLevel (x ∷ f) ≡ true
+grown : (m v : ℕ) (f : List ℕ) → all digit f ≡ true → v ≤ m → decimalFrom v f ≤ most m f
+unfolding decimalFrom most
+grown m v [] e h = h
+grown m v (x ∷ f) e h = grown (10 * m + 9) (10 * v + (x - 48)) f (all-rest x f e) (omega (arith, digit-most x (all-first x f e)))
+
+most-few : (f : List ℕ) → length f ≤ 3 → most 9 f ≤ mostLevel
+unfolding most
+most-few [] l = omega arith
+most-few (a ∷ []) l = omega arith
+most-few (a ∷ b ∷ []) l = omega arith
+most-few (a ∷ b ∷ c ∷ []) l = omega arith
+most-few (a ∷ b ∷ c ∷ d ∷ f) l = absurd (not-suc-le-zero (le-of-suc-le-suc (le-of-suc-le-suc (le-of-suc-le-suc l))))
+
+most-five : (f : List ℕ) → length f ≤ 4 → most 5 f ≤ mostLevel
+unfolding most
+most-five [] l = omega arith
+most-five (a ∷ []) l = omega arith
+most-five (a ∷ b ∷ []) l = omega arith
+most-five (a ∷ b ∷ c ∷ []) l = omega arith
+most-five (a ∷ b ∷ c ∷ d ∷ []) l = omega arith
+most-five (a ∷ b ∷ c ∷ d ∷ e ∷ f) l = absurd (not-suc-le-zero (le-of-suc-le-suc (le-of-suc-le-suc (le-of-suc-le-suc (le-of-suc-le-suc l)))))
+
+-- digits that start with one from 1 to m
+digits-level : (m x : ℕ) (f : List ℕ) → all digit (x ∷ f) ≡ true → (x ≡ 48 → ⊥) → x ≤ 48 + m → most m f ≤ mostLevel → isLevel (x ∷ f) ≡ true
 unfolding noLeadingZero decimalFrom
-digits-few x f e n l =
-    let d = all-first x f e in
-    let low = digit-least x d in
-    let high = digit-most x d in
+digits-level m x f e n h l =
+    let low = digit-least x (all-first x f e) in
     let first : 1 ≤ 10 * 0 + (x - 48) = first-least low in
-    level-is (x ∷ f) (rw (ne-eqb x 48 n)) e (omega (arith, decimal-grows (10 * 0 + (x - 48)) f)) (omega (arith, grown (10 * 0 + (x - 48)) f (all-rest x f e) l (omega arith)))
+    level-is (x ∷ f) (rw (ne-eqb x 48 n)) e (omega (arith, decimal-grows (10 * 0 + (x - 48)) f)) (omega (arith, grown m (10 * 0 + (x - 48)) f (all-rest x f e) (omega arith)))
   where
     first-least : 48 ≤ x → 1 ≤ 10 * 0 + (x - 48)
     first-least h = by-cases (eqb x 48) (λ z. absurd (n (eqb-true x 48 z))) (λ z. let y = eqb-false x 48 z in omega arith)
@@ -149,7 +160,15 @@ module _ (text : List ℕ) (start : ℕ) (h : start < length text) (some : 1 ≤
   pub level-few : all digit (fieldOf (drop start text)) ≡ true → (getD text start 0 ≡ 48 → ⊥) → length (fieldOf (drop start text)) < 5 → isLevel (fieldOf (drop start text)) ≡ true
   level-few a n l =
       let f = fieldOf (drop (start + 1) text) in
-      rw first (digits-few (getD text start 0) f (rw first at a) n (omega (arith, ap length first)))
+      let x = getD text start 0 in
+      let b : all digit (x ∷ f) ≡ true = rw first at a in
+      rw first (digits-level 9 x f b n (digit-most x (all-first x f b)) (most-few f (omega (arith, ap length first))))
+
+  -- a level of five digits up to 59999
+  pub level-five : all digit (fieldOf (drop start text)) ≡ true → (getD text start 0 ≡ 48 → ⊥) → length (fieldOf (drop start text)) ≡ 5 → getD text start 0 < 54 → isLevel (fieldOf (drop start text)) ≡ true
+  level-five a n l k =
+      let f = fieldOf (drop (start + 1) text) in
+      rw first (digits-level 5 (getD text start 0) f (rw first at a) n (omega arith) (most-five f (omega (arith, ap length first))))
 
 -- ---- the end of the digits and the end of the field
 

@@ -107,8 +107,14 @@ pub fn is_level(text: &[u8], start: usize, stop: usize) -> bool
     if text[start] == b'0' {
         return false;
     }
-    if stop - start < 5 {
+    let digits = stop - start;
+    if digits < 5 {
         return true;
+    }
+    if digits == 5 {
+        if text[start] < b'6' {
+            return true;
+        }
     }
     let found = read_level(text, start);
     found.level != 0

@@ -1,4 +1,5 @@
 pub mod Lent
+pub mod Extreme
 pub mod Fill
 pub mod RelationWords
 pub mod Questions

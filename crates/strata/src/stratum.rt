@@ -6,7 +6,7 @@ ghost use Prim.Native.Nat.{_≤_, _<_};
 ghost use lib.Dec.{eqb};
 ghost use lib.IntN.{pos};
 ghost use lib.ListN.{length, getD};
-ghost use Rattle.rules.specs.Factor.{every, finer};
+ghost use Rattle.rules.specs.Factor.{every, classes, finer};
 ghost use Rattle.rules.specs.Family.{membersOf};
 ghost use Rattle.rules.specs.Lists.{tabulate, forPlaces, wordOf};
 ghost use Rattle.rules.specs.Relation.{coarserWords};
@@ -19,6 +19,7 @@ ghost use Rattle.strata.specs.Words.{finerWord, candidateWord, below, co
 use crate::AnalysisReport;
 use crate::degrees::degrees;
 use crate::degrees::less;
+use crate::family::member_classes;
 use crate::family::member_finer;
 use crate::order::coarser_words;
 use crate::order::has;
@@ -38,8 +39,20 @@ pub fn refused(q: u8) -> AnalysisReport
     }
 }
 
-// Whether plot member `p` is finer than or equivalent to treatment member `t`. It is where one of the coarser members in its word
-// is, as `among` tells of those before it; else the columns decide.
+// The place of the member with a class for each plot, which only the last can be; 32 where there is none.
+fn finest_place(family: &[u8], n: usize, size: usize) -> usize
+    requires { ⌜ Formed n (now family) size ⌝ }
+    ensures { λ r. ⌜ (r < size → classes (columnAt n (now (family .entry)) r) ≡ n) ⌝ }
+{
+    let last = size - 1;
+    if member_classes(family, last, n) == n {
+        return last;
+    }
+    MEMBERS
+}
+
+// Whether plot member `p` is finer than or equivalent to treatment member `t`. It is where it has a class for each plot, or where one
+// of the coarser members in its word is, as `among` tells of those before it; else the columns decide.
 fn is_candidate(
     plot_family: &[u8],
     p: usize,
@@ -48,11 +61,15 @@ fn is_candidate(
     treatment_family: &[u8],
     t: usize,
     n: usize,
+    finest: usize,
 ) -> bool
-    requires { ⌜ (n ≤ 240) × (7680 ≤ length (now «plot_family»)) × (7680 ≤ length (now «treatment_family»)) × (p < 32) × (t < 32) × (word ≡ finerWord n (now «plot_family») p) × (among ≡ candidateWord n (now «plot_family») p (now «treatment_family») t) ⌝ }
+    requires { ⌜ (n ≤ 240) × (7680 ≤ length (now «plot_family»)) × (7680 ≤ length (now «treatment_family»)) × (p < 32) × (t < 32) × (word ≡ finerWord n (now «plot_family») p) × (among ≡ candidateWord n (now «plot_family») p (now «treatment_family») t) × (finest ≡ p → classes (columnAt n (now «plot_family») finest) ≡ n) ⌝ }
     ensures { λ r. ⌜ r ≡ finer n (columnAt n (now («plot_family» .entry)) p) (columnAt n (now («treatment_family» .entry)) t) ⌝ }
 {
     if word & among != 0 {
+        return true;
+    }
+    if finest == p {
         return true;
     }
     member_finer(plot_family, p, treatment_family, t, n)
@@ -66,14 +83,15 @@ fn candidates(
     treatment_family: &[u8],
     t: usize,
     n: usize,
+    finest: usize,
 ) -> u32
-    requires { ⌜ Formed n (now «plot_family») «plot_size» × (words ≡ forPlaces 0 (coarserWords n (membersOf n (now «plot_family») «plot_size»))) × (7680 ≤ length (now «treatment_family»)) × (t < 32) ⌝ }
+    requires { ⌜ Formed n (now «plot_family») «plot_size» × (words ≡ forPlaces 0 (coarserWords n (membersOf n (now «plot_family») «plot_size»))) × (7680 ≤ length (now «treatment_family»)) × (t < 32) × (finest < «plot_size» → classes (columnAt n (now «plot_family») finest) ≡ n) ⌝ }
     ensures { λ r. ⌜ r ≡ candidateWord n (now («plot_family» .entry)) «plot_size» (now («treatment_family» .entry)) t ⌝ }
 {
     let mut among: u32 = 0;
     for p in 0..plot_size {
         let word = words[p];
-        if is_candidate(plot_family, p, word, among, treatment_family, t, n) {
+        if is_candidate(plot_family, p, word, among, treatment_family, t, n, finest) {
             among = among | (1u32 << p);
         }
     }
@@ -135,9 +153,10 @@ fn stratum_places(
     requires { ⌜ Formed n (now «plot_family») «plot_size» × (7680 ≤ length (now «treatment_family»)) × («treatment_size» ≤ 32) × (words ≡ forPlaces 0 (coarserWords n (membersOf n (now «plot_family») «plot_size»))) ⌝ }
     ensures { λ r. ⌜ r ≡ forPlaces 0 (map (stratum n (membersOf n (now («plot_family» .entry)) «plot_size»)) (membersOf n (now («treatment_family» .entry)) «treatment_size»)) ⌝ }
 {
+    let finest = finest_place(plot_family, n, plot_size);
     let mut places = [0usize; MEMBERS];
     for t in 0..treatment_size {
-        let among = candidates(plot_family, plot_size, words, treatment_family, t, n);
+        let among = candidates(plot_family, plot_size, words, treatment_family, t, n, finest);
         let place = coarsest_place(words, plot_size, among);
         places[t] = place;
     }

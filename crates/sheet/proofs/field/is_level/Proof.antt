@@ -10,7 +10,7 @@ use lib.ListN.{drop}
 use Rattle.sheet.specs.Walk.{fieldOf}
 use Rattle.rules.proofs.Numbering.{by-cases}
 use Rattle.sheet.proofs.LevelLaws.{level-not, level-yes}
-use Rattle.sheet.proofs.DigitLaws.{level-empty, level-zero, level-few}
+use Rattle.sheet.proofs.DigitLaws.{level-empty, level-zero, level-few, level-five}
 use Rattle.sheet.proofs.field.is_level.Statement.{statement}
 use Rattle.sheet.proofs.field.is_level.Tie as tie
 
@@ -27,8 +27,8 @@ returns-2 c =
     let s = c .before .before .before .before in
     sym (level-zero (now (s .args .text)) (s .args .start) (omega arith) (omega arith) (c .if2 .taken))
 
-sub-if3 : tie.Need-sub-if3
-sub-if3 c = search needs
+sub-digits : tie.Need-sub-digits
+sub-digits c = search needs
 
 returns-3 : tie.Need-returns-3
 returns-3 c =
@@ -36,12 +36,21 @@ returns-3 c =
     let s = b .before .before .before .before in
     sym (level-few (now (s .args .text)) (s .args .start) (omega arith) (omega arith) (s .pre .2) (b .if2 .left) (omega arith))
 
-read-level-requires : tie.Need-read-level-requires
-read-level-requires c κs = search needs
+shared-slice-read-if5 : tie.Need-shared-slice-read-if5
+shared-slice-read-if5 c = search needs
 
 returns-4 : tie.Need-returns-4
 returns-4 c =
-    let s = c .before .before .before .before .before .before .before .args in
+    let b = c .before .before .before .before in
+    let s = b .before .before .before .before in
+    sym (level-five (now (s .args .text)) (s .args .start) (omega arith) (omega arith) (s .pre .2) (b .if2 .left) (omega arith) (omega arith))
+
+read-level-requires : tie.Need-read-level-requires
+read-level-requires c κs = search needs
+
+returns-5 : tie.Need-returns-5
+returns-5 c =
+    let s = c .before .before .before .before .before .before .before .before .args in
     let xs = drop (s .start) (now (s .text)) in
     let r = c .before .read-level .result in
     by-cases (eqb (r .level) 0)
@@ -55,7 +64,9 @@ is-level-spec =
     returns
     shared-slice-read-if2
     returns-2
-    sub-if3
+    sub-digits
     returns-3
+    shared-slice-read-if5
+    returns-4
     read-level-requires
-    returns-4)
+    returns-5)

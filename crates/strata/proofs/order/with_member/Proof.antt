@@ -21,8 +21,8 @@ returns c =
     let e : bitAt (a .word) (a .j) ≡ true = sym (c .before .has .ensures) ∙ c .if1 .taken in
     from-same (a .n) (now (a .family)) (a .i) (a .j) (a .word) (s .pre .3) (s .pre .4) (e ∙ sym (s .pre .4 .only (a .j) e))
 
-member-finer-requires : tie.Need-member-finer-requires
-member-finer-requires c κs = search needs
+counted-finer-requires : tie.Need-counted-finer-requires
+counted-finer-requires c κs = search needs
 
 cast-result : tie.Need-cast-result
 cast-result c = search needs
@@ -34,7 +34,7 @@ returns-2 : tie.Need-returns-2
 returns-2 c =
     let s = c .before .before .before .before .before in
     let a = s .args in
-    let fine : finer (a .n) (columnAt (a .n) (now (a .family)) (a .i)) (columnAt (a .n) (now (a .family)) (a .j)) ≡ true = sym (c .before .member-finer .ensures) ∙ c .if2 .taken in
+    let fine : finer (a .n) (columnAt (a .n) (now (a .family)) (a .i)) (columnAt (a .n) (now (a .family)) (a .j)) ≡ true = sym (c .before .counted-finer .ensures) ∙ c .if2 .taken in
     rw (s .pre .5) (from-added (a .n) (now (a .family)) (a .i) (a .j) (a .word) (s .pre .3) (s .pre .4) fine (s .pre .2))
 
 returns-3 : tie.Need-returns-3
@@ -42,7 +42,7 @@ returns-3 c =
     let s = c .before .before .before .before .before in
     let a = s .args in
     let e : bitAt (a .word) (a .j) ≡ false = sym (c .before .before .before .has .ensures) ∙ c .before .before .if1 .left in
-    let f : finer (a .n) (columnAt (a .n) (now (a .family)) (a .i)) (columnAt (a .n) (now (a .family)) (a .j)) ≡ false = sym (c .before .member-finer .ensures) ∙ c .if2 .left in
+    let f : finer (a .n) (columnAt (a .n) (now (a .family)) (a .i)) (columnAt (a .n) (now (a .family)) (a .j)) ≡ false = sym (c .before .counted-finer .ensures) ∙ c .if2 .left in
     from-same (a .n) (now (a .family)) (a .i) (a .j) (a .word) (s .pre .3) (s .pre .4) (e ∙ sym f)
 
 pub with-member-spec : {M : Type 1} → statement M
@@ -51,7 +51,7 @@ with-member-spec =
     (tie.spec
     has-requires
     returns
-    member-finer-requires
+    counted-finer-requires
     cast-result
     shl-result
     returns-2

@@ -21,10 +21,10 @@ use Rattle.strata.proofs.stratum.candidates.Statement.{statement}
 use Rattle.strata.proofs.stratum.candidates.Tie as tie
 
 abbrev Inv-loop : tie.InvT-loop
-Inv-loop plot-family plot-size treatment-family t n words among₀ p₀ among p = (p ≤ plot-size) × (plot-size ≤ 32) × (n ≤ 240) × (7680 ≤ length plot-family) × (among ≡ candidateWord n plot-family p treatment-family t)
+Inv-loop plot-family plot-size treatment-family t n finest words among₀ p₀ among p = (p ≤ plot-size) × (plot-size ≤ 32) × (n ≤ 240) × (7680 ≤ length plot-family) × (among ≡ candidateWord n plot-family p treatment-family t)
 
 abbrev μ-loop : tie.MeasureT-loop
-μ-loop plot-family plot-size treatment-family t n words among₀ p₀ among p = plot-size - p
+μ-loop plot-family plot-size treatment-family t n finest words among₀ p₀ among p = plot-size - p
 
 loop-holds : tie.Need-loop-holds Inv-loop μ-loop
 unfolding candidateWord wordOf
@@ -44,7 +44,7 @@ is-candidate-requires c κs =
     let p = b .loop .p in
     let is : getD (a .t3) p 0 ≡ finerWord (a .n) (now (a .plot-family)) p =
     ap (λ (ws : List ℕ). getD ws p 0) (s .pre .1) ∙ at-places 0 (coarserWords (a .n) (membersOf (a .n) (now (a .plot-family)) (a .plot-size))) p (omega arith) ∙ sym (finer-word-is (s .pre .0) p (omega arith)) in
-    (omega arith, omega arith, omega arith, omega arith, omega arith, is, b .loop .inv .4)
+    (omega arith, omega arith, omega arith, omega arith, omega arith, is, b .loop .inv .4, λ e. s .pre .4 (omega arith))
 
 cast-among : tie.Need-cast-among Inv-loop μ-loop
 cast-among c = omega arith

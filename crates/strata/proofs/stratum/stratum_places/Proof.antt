@@ -17,20 +17,23 @@ use Rattle.strata.proofs.stratum.stratum_places.Statement.{statement}
 use Rattle.strata.proofs.stratum.stratum_places.Tie as tie
 
 abbrev Inv-loop : tie.InvT-loop
-Inv-loop plot-family plot-size treatment-family treatment-size n words places₀ t₀ places t = (t ≤ treatment-size) × (length places ≡ 32) × (places ≡ forPlaces 0 (take t (map (stratum n (membersOf n plot-family plot-size)) (membersOf n treatment-family treatment-size))))
+Inv-loop plot-family plot-size treatment-family treatment-size n words finest places₀ t₀ places t = (t ≤ treatment-size) × (length places ≡ 32) × (places ≡ forPlaces 0 (take t (map (stratum n (membersOf n plot-family plot-size)) (membersOf n treatment-family treatment-size))))
 
 abbrev μ-loop : tie.MeasureT-loop
-μ-loop plot-family plot-size treatment-family treatment-size n words places₀ t₀ places t = treatment-size - t
+μ-loop plot-family plot-size treatment-family treatment-size n words finest places₀ t₀ places t = treatment-size - t
 
 loop-holds : tie.Need-loop-holds Inv-loop μ-loop
 loop-holds c =
-    let a = c .before .before .args in
+    let a = c .before .before .before .args in
     (omega arith, refl, places-start 0 (map (stratum (a .n) (membersOf (a .n) (now (a .plot-family)) (a .plot-size))) (membersOf (a .n) (now (a .treatment-family)) (a .treatment-size))))
+
+finest-place-requires : tie.Need-finest-place-requires Inv-loop μ-loop
+finest-place-requires c κs = c .before .before .pre .0
 
 candidates-requires : tie.Need-candidates-requires Inv-loop μ-loop
 candidates-requires c κs =
-    let s = c .before .before .before .before in
-    (s .pre .0, s .pre .3, omega arith, omega arith)
+    let s = c .before .before .before .before .before in
+    (s .pre .0, s .pre .3, omega arith, omega arith, c .before .before .finest-place .ensures)
 
 coarsest-place-requires : tie.Need-coarsest-place-requires Inv-loop μ-loop
 coarsest-place-requires c κs = omega arith
@@ -50,7 +53,7 @@ loop-less c = omega arith
 loop-again : tie.Need-loop-again Inv-loop μ-loop
 loop-again c =
     let b = c .before .before .before in
-    let s = b .before .before .before in
+    let s = b .before .before .before .before in
     let a = s .args in
     let xs = map (stratum (a .n) (membersOf (a .n) (now (a .plot-family)) (a .plot-size))) (membersOf (a .n) (now (a .treatment-family)) (a .treatment-size)) in
     let t = b .loop .t in
@@ -63,7 +66,7 @@ loop-again c =
 returns : tie.Need-returns Inv-loop μ-loop
 returns c =
     let b = c .before in
-    let s = b .before .before .before in
+    let s = b .before .before .before .before in
     let a = s .args in
     let f = stratum (a .n) (membersOf (a .n) (now (a .plot-family)) (a .plot-size)) in
     let R = membersOf (a .n) (now (a .treatment-family)) (a .treatment-size) in
@@ -76,6 +79,7 @@ stratum-places-spec =
     (tie.spec
     Inv-loop
     μ-loop
+    finest-place-requires
     loop-holds
     candidates-requires
     coarsest-place-requires
