@@ -1,6 +1,6 @@
 // Numbering by first appearance.
 ghost use mathlib.Core.Path.{_≡_};
-ghost use Prim.Native.Nat.{ℕ, _≤_, _<_};
+ghost use Prim.Native.Nat.{ℕ, _+_, _≤_, _<_};
 ghost use lib.ListN.{length};
 ghost use Rattle.rules.specs.Factor.{at, number, classes};
 ghost use Rattle.factor.specs.Lent.{plotsOf, overlay};
@@ -11,6 +11,9 @@ use limits::PLOTS;
 
 // Class numbers: 1 to 240, and 0 for none.
 pub(crate) const NUMBERS: usize = PLOTS + 1;
+
+// Labels whose numbers a table of bytes holds without sorting them into buckets.
+pub(crate) const NEAR: usize = 256;
 
 // Buckets that labels are sorted into.
 pub(crate) const BUCKETS: usize = 1024;
@@ -86,13 +89,28 @@ pub fn number_levels(levels: &[Level], out: &mut [u8; PLOTS]) -> usize
     ensures numbers { λ _. ⌜ now (out .exit) ≡ overlay (now (out .entry)) (number (plotsOf (now (levels .entry)))) ⌝ }
 {
     let n = numbered_plots(levels.len());
-    if largest(&levels[..n]) < 256 {
-        return number_small(&levels[..n], out);
+    let low = least(&levels[..n]);
+    if (largest(&levels[..n]) as usize) < low as usize + NEAR {
+        return number_near(&levels[..n], low, out);
     }
     number_any(levels, out)
 }
 
-// The largest label. The walk goes to the end, so that many plots are compared at a time.
+// The smallest label, and the largest one below. The walks go to the end, so that many plots are compared at a time.
+fn least(levels: &[Level]) -> Level
+    ensures { λ r. ⌜ ((u : ℕ) → u < length (now (levels .entry)) → r ≤ at (now (levels .entry)) u) ⌝ }
+{
+    let mut low: Level = 65535;
+    for u in 0..levels.len() {
+        let x = levels[u];
+        if x < low {
+            low = x;
+        }
+    }
+    low
+}
+
+// The largest label.
 fn largest(levels: &[Level]) -> Level
     ensures { λ r. ⌜ ((u : ℕ) → u < length (now (levels .entry)) → at (now (levels .entry)) u ≤ r) ⌝ }
 {
@@ -106,17 +124,17 @@ fn largest(levels: &[Level]) -> Level
     most
 }
 
-// `number_levels` where every label is below 256: a table has the number of each label.
-fn number_small(levels: &[Level], out: &mut [u8; PLOTS]) -> usize
-    requires { ⌜ (length (now levels) ≤ 240) × ((u : ℕ) → u < length (now levels) → at (now levels) u < 256) ⌝ }
+// `number_levels` where the labels lie near to each other, from `low` on: a table has the number of each label.
+fn number_near(levels: &[Level], low: Level, out: &mut [u8; PLOTS]) -> usize
+    requires { ⌜ (length (now levels) ≤ 240) × ((u : ℕ) → u < length (now levels) → low ≤ at (now levels) u) × ((u : ℕ) → u < length (now levels) → at (now levels) u < low + 256) ⌝ }
     ensures answer { λ r. ⌜ r ≡ classes (now (levels .entry)) ⌝ }
     ensures numbers { λ _. ⌜ now (out .exit) ≡ overlay (now (out .entry)) (number (now (levels .entry))) ⌝ }
 {
     let room: &mut [u8] = out;
-    let mut numbers = [0u8; 256];
+    let mut numbers = [0u8; NEAR];
     let mut k: usize = 0;
     for u in 0..levels.len() {
-        let x = levels[u] as usize;
+        let x = (levels[u] - low) as usize;
         if numbers[x] == 0 {
             k += 1;
             numbers[x] = k as u8;

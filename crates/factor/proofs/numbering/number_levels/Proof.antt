@@ -1,4 +1,4 @@
--- `number_levels` meets its contract: labels below 256 have a table of their own.
+-- `number_levels` meets its contract: labels near to each other have a table of their own.
 -- Assumes nothing.
 use mathlib.Core.Path.{_≡_, sym, ap, _∙_}
 use Prim.Native.Nat.{ℕ, min}
@@ -15,26 +15,42 @@ use Rattle.factor.proofs.numbering.number_levels.Tie as tie
 numbered-plots-requires : tie.Need-numbered-plots-requires
 numbered-plots-requires c κs = search needs
 
+slice-aggregate-least : tie.Need-slice-aggregate-least
+slice-aggregate-least c = simp length-take (omega arith)
+
+least-requires : tie.Need-least-requires
+least-requires c κs = search needs
+
 slice-aggregate-largest : tie.Need-slice-aggregate-largest
 slice-aggregate-largest c = simp length-take (omega arith)
 
 largest-requires : tie.Need-largest-requires
 largest-requires c κs = search needs
 
-slice-aggregate-number-small : tie.Need-slice-aggregate-number-small
-slice-aggregate-number-small c = simp length-take (omega arith)
+cast-if1 : tie.Need-cast-if1
+cast-if1 c = search needs
 
-number-small-requires : tie.Need-number-small-requires
-number-small-requires c κs =
-    let b = c .before .before .before in
-    (simp length-take (omega arith), λ u h. omega (arith, b .largest .ensures u h))
+cast-if1-2 : tie.Need-cast-if1-2
+cast-if1-2 c = search needs
+
+add-if1 : tie.Need-add-if1
+add-if1 c = search needs
+
+slice-aggregate-number-near : tie.Need-slice-aggregate-number-near
+slice-aggregate-number-near c = simp length-take (omega arith)
+
+number-near-requires : tie.Need-number-near-requires
+number-near-requires c κs =
+    let t = c .before .before in
+    let m = t .before in
+    (simp length-take (omega arith), m .before .before .least .ensures, λ u h. omega (arith, m .largest .ensures u h))
 
 returns : tie.Need-returns
 returns c =
-    let b = c .before .before .before .before .before .before in
+    let b = c .before .before .before .before .before .before .before .before in
     let levels = now (b .before .before .args .levels) in
     let e : take (b .numbered-plots .result) levels ≡ take 240 levels = ap (λ (n : ℕ). take n levels) (b .numbered-plots .ensures) ∙ take-min 240 levels in
-    (c .number-small .ensures .0 ∙ ap classes e, c .number-small .ensures .1 ∙ ap (λ (F : Column). overlay (now (b .before .before .args .out)) (number F)) e)
+    (c .number-near .ensures .0 ∙ ap classes e, c .number-near .ensures .1 ∙ ap (λ (F : Column). overlay (now (b .before .before .args .out)) (number F)) e)
 
 number-any-requires : tie.Need-number-any-requires
 number-any-requires c κs = search needs
@@ -47,10 +63,15 @@ number-levels-spec =
     tie.close
     (tie.spec
     numbered-plots-requires
+    slice-aggregate-least
+    least-requires
     slice-aggregate-largest
     largest-requires
-    slice-aggregate-number-small
-    number-small-requires
+    cast-if1
+    cast-if1-2
+    add-if1
+    slice-aggregate-number-near
+    number-near-requires
     returns
     number-any-requires
     returns-2)
