@@ -3,21 +3,21 @@
 use mathlib.Core.Path.{_≡_, refl, sym, ap, ap₂, _∙_}
 use mathlib.Core.Bool.{Bool, true, false, _&&_, _||_}
 use mathlib.Core.List.{List}
-use Prim.Native.Nat.{ℕ, zero, suc, _+_, _*_, _≤_, _<_}
+use Prim.Native.Nat.{ℕ, zero, suc, _+_, _≤_, _<_}
 use native.Mathlib.Nat.{not-suc-le-zero}
 use native.Mathlib.Numerals.{add-one}
 use native.Mathlib.Omega.{arith}
 use lib.Dec.{eqb}
 use lib.ListN.{length, set}
 use lib.Seq.{getD-set-same, getD-set-other}
-use borrow.Author.Tests.{eqb-true, eqb-false, eq-eqb, ne-eqb}
+use borrow.Author.Tests.{eqb-true, eqb-false, eq-eqb}
 use Rattle.rules.specs.Factor.{Column, at, count}
 use Rattle.rules.proofs.Numbering.{by-cases}
 use Rattle.rules.proofs.Tests.{count-same}
 use Rattle.rules.proofs.Walks.{bool-false}
 use Rattle.standing.specs.Sizes.{labelled}
 use Rattle.standing.specs.Cells.{labelledBoth, Inside, CellSizes, Listed, cellSize, sumAt}
-use Rattle.standing.proofs.CellTable.{and-both, both-and, and-false, count-none, Split, stays, added, count-split}
+use Rattle.standing.proofs.CellTable.{and-both, both-and, and-false, count-none, stays, added, count-split}
 use Rattle.standing.proofs.Listing.{listed-inside}
 
 -- ---- sums by label

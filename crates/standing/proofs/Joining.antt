@@ -20,7 +20,7 @@ use Rattle.rules.proofs.Extremes.{number-universal, length-universal}
 use Rattle.rules.proofs.ClassCount.{finer-universal, classes-universal}
 use Rattle.factor.proofs.Fill.{filled, length-filled, getD-filled}
 use Rattle.factor.proofs.Table.{getD-zeros}
-use Rattle.standing.specs.Cells.{Plot, Stands}
+use Rattle.standing.specs.Cells.{Stands}
 use Rattle.standing.specs.Joining.{Below, Own, OneEntry, OneClass, Links, Joins, Among, InOrder, Numbered, relabelled, spread}
 
 -- what holds of all before u and of u holds of all before u + 1

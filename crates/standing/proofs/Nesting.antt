@@ -1,7 +1,7 @@
--- Laws of how two factors stand to each other, and of the walk that tells it.
+-- Laws of nested factors, and of the walk that tells whether one is finer than the other.
 -- Assumes nothing.
 use mathlib.Core.Path.{_≡_, refl, sym, ap, ap₂, _∙_}
-use mathlib.Core.Bool.{Bool, true, false, _&&_}
+use mathlib.Core.Bool.{true, false}
 use mathlib.Core.List.{List}
 use Prim.Native.Nat.{ℕ, suc, _+_, _<_}
 use native.Mathlib.Nat.{not-suc-le-zero, suc-inj}
@@ -18,9 +18,6 @@ use Rattle.rules.proofs.Classes.{finer-test}
 use Rattle.rules.proofs.Tests.{orthogonal-test, orthogonal-sym}
 use Rattle.rules.proofs.Bounds.{nested-orthogonal, infimum-comm, supremum-comm, infimum-finer-is, supremum-coarser-is}
 use Rattle.rules.proofs.Walks.{bool-false}
-use Rattle.standing.specs.declared.orders.Order.{Order}
-use Rattle.standing.specs.declared.orders.Standing.{Standing}
-use Rattle.standing.specs.Standing.{orderOf, ordered, saysFiner, saysCoarser, standingOf, stands, saysOrthogonal}
 use Rattle.factor.proofs.Table.{getD-zeros}
 use Rattle.standing.proofs.Joining.{one-more}
 
@@ -71,47 +68,7 @@ module _ (F G : Column) (u : ℕ) (t : List ℕ) (a : Agrees F G u t) where
 pub agrees-all : (n : ℕ) (F G : Column) (t : List ℕ) → Agrees F G n t → finer n F G ≡ true
 agrees-all n F G t a = finer-test n F G .1 (λ u v hu hv s. suc-inj (sym (a .known u hu) ∙ ap (at t) s ∙ a .known v hv))
 
--- ---- what an order and a standing say
-
-both-of : (a b : Bool) → (saysFiner (orderOf a b) ≡ a) × (saysCoarser (orderOf a b) ≡ b)
-unfolding orderOf saysFiner saysCoarser
-both-of true true = (refl, refl)
-both-of true false = (refl, refl)
-both-of false true = (refl, refl)
-both-of false false = (refl, refl)
-
-orthogonal-of : (a b o : Bool) → (a ≡ true → o ≡ true) → (b ≡ true → o ≡ true) → saysOrthogonal (standingOf (orderOf a b) o) ≡ o
-unfolding saysOrthogonal standingOf orderOf
-orthogonal-of true true o f g = sym (f refl)
-orthogonal-of true false o f g = sym (f refl)
-orthogonal-of false true o f g = sym (g refl)
-orthogonal-of false false true f g = refl
-orthogonal-of false false false f g = refl
-
-module _ (n : ℕ) (F G : Column) where
-  pub says-finer : saysFiner (ordered n F G) ≡ finer n F G
-  unfolding ordered
-  says-finer = both-of (finer n F G) (finer n G F) .0
-
-  pub says-coarser : saysCoarser (ordered n F G) ≡ finer n G F
-  unfolding ordered
-  says-coarser = both-of (finer n F G) (finer n G F) .1
-
-  pub stands-by : {o : Order} {b : Bool} → ordered n F G ≡ o → orthogonal n F G ≡ b → standingOf o b ≡ stands n F G
-  unfolding stands
-  stands-by e f = sym (ap₂ standingOf e f)
-
-  module _ (lF : length F ≡ n) (lG : length G ≡ n) where
-    nested-left : finer n F G ≡ true → orthogonal n F G ≡ true
-    nested-left e = orthogonal-test n F G .1 (nested-orthogonal n F G lF lG (finer-test n F G .0 e))
-
-    nested-right : finer n G F ≡ true → orthogonal n F G ≡ true
-    nested-right e = orthogonal-test n F G .1 (orthogonal-sym n G F lG lF (nested-orthogonal n G F lG lF (finer-test n G F .0 e)))
-
-    -- nested factors are orthogonal, so all but those apart are
-    pub orthogonal-by : {x : Standing} → stands n F G ≡ x → saysOrthogonal x ≡ orthogonal n F G
-    unfolding stands ordered
-    orthogonal-by e = sym (ap saysOrthogonal e) ∙ orthogonal-of (finer n F G) (finer n G F) (orthogonal n F G) nested-left nested-right
+-- ---- nested factors
 
 -- where G is finer than F: infimum and supremum are the two themselves, numbered, and they are orthogonal
 module _ (F G : Column) (l : length G ≡ length F) (e : finer (length G) G F ≡ true) where
@@ -134,4 +91,4 @@ module _ (F G : Column) (l : length G ≡ length F) (e : finer (length G) G F �
   supremum-classes = sym (ap classes nested-supremum ∙ classes-number F)
 
   pub nested-true : true ≡ orthogonal (length F) F G
-  nested-true = sym (nested-right (length F) F G refl l finer-here)
+  nested-true = sym (orthogonal-test (length F) F G .1 (orthogonal-sym (length F) G F l refl (nested-orthogonal (length F) G F l refl fine)))

@@ -1,4 +1,4 @@
-// Orthogonality by cells: a cell is what a class of one factor and a class of the other have in common.
+// Cells: a cell is what a class of one factor and a class of the other have in common. Sizes by cells, and orthogonality.
 ghost use mathlib.Core.Path.{_≡_};
 ghost use mathlib.Core.Bool.{true};
 ghost use Prim.Native.Nat.{ℕ, _≤_, _<_};

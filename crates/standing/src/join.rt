@@ -1,41 +1,13 @@
-// The supremum of two factors: classes of one joined along the classes of the other.
+// Classes of one factor joined along the classes of another.
 ghost use mathlib.Core.Path.{_≡_};
 ghost use mathlib.Core.Bool.{true};
 ghost use Prim.Native.Nat.{ℕ, _≤_, _<_};
 ghost use lib.ListN.{length};
-ghost use Rattle.rules.specs.Factor.{at, universal, number, classes, supremum};
-ghost use Rattle.factor.specs.Lent.{onCommon, overlay};
+ghost use Rattle.rules.specs.Factor.{at, universal, number, classes};
+ghost use Rattle.factor.specs.Lent.{overlay};
 ghost use Rattle.standing.specs.Joining.{Below, OwnWithin, Own, OneEntry, OneClass, Joins, Among, InOrder, Numbered, relabelled, spread};
 use crate::labels::least_label;
-use crate::labels::past_labels;
-use factor::common_plots;
 use limits::PLOTS;
-
-// Numbers the classes of the supremum of two columns over their common plots; answers how many there are.
-// The column with the smaller labels is the one whose classes are joined.
-pub fn supremum(f: &[u8], g: &[u8], out: &mut [u8; PLOTS]) -> usize
-    ensures answer { λ r. ⌜ r ≡ classes (onCommon supremum (now (f .entry)) (now (g .entry))) ⌝ }
-    ensures numbers { λ _. ⌜ now (out .exit) ≡ overlay (now (out .entry)) (onCommon supremum (now (f .entry)) (now (g .entry))) ⌝ }
-{
-    let n = common_plots(f.len(), g.len());
-    let a = past_labels(&f[..n]);
-    let b = past_labels(&g[..n]);
-    if b < a {
-        return number_joined(&g[..n], &f[..n], b, out);
-    }
-    number_joined(&f[..n], &g[..n], a, out)
-}
-
-// The same for two columns of one length; the labels of `f` are below `top`.
-fn number_joined(f: &[u8], g: &[u8], top: usize, out: &mut [u8; PLOTS]) -> usize
-    requires { ⌜ (length (now f) ≤ 240) × (length (now g) ≡ length (now f)) × (top ≤ 256) × Below top (now f) ⌝ }
-    ensures answer { λ r. ⌜ r ≡ classes (supremum (now (f .entry)) (now (g .entry))) ⌝ }
-    ensures numbers { λ _. ⌜ now (out .exit) ≡ overlay (now (out .entry)) (supremum (now (f .entry)) (now (g .entry))) ⌝ }
-{
-    let mut table = [0u8; 256];
-    let one = join_labels(f, g, top, &mut table);
-    number_joins(&table, f, f, one, out)
-}
 
 // A table over labels: labels of `f` that share a class of `g` have one entry. Answers whether it is known that all have one.
 pub(crate) fn join_labels(f: &[u8], g: &[u8], top: usize, table: &mut [u8; 256]) -> bool

@@ -8,13 +8,8 @@ mod orders;
 mod pair;
 mod sizes;
 
-pub use join::supremum;
 pub use meet::infimum;
-pub use orders::Order;
-pub use orders::Standing;
 pub use orders::finer;
-pub use orders::order_of;
-pub use orders::standing_of;
 pub use pair::Bounds;
 pub use pair::Crossing;
 pub use pair::bounds_of;

@@ -7,6 +7,7 @@ ghost use Rattle.factor.specs.Lent.{onCommon, overlay};
 ghost use Rattle.standing.specs.Cells.{Inside, Cover};
 use crate::cells::ALL_CELLS;
 use crate::cells::CELLS;
+use crate::cells::MANY_CELLS;
 use crate::labels::past_labels;
 use factor::common_plots;
 use limits::PLOTS;
@@ -21,9 +22,22 @@ pub fn infimum(f: &[u8], g: &[u8], out: &mut [u8; PLOTS]) -> usize
     let w = past_labels(&g[..n]);
     let mut cell_f = [0u8; PLOTS];
     let mut cell_g = [0u8; PLOTS];
-    if a * w <= CELLS {
+    let cells = a * w;
+    if cells <= CELLS {
         let mut few = [0u8; CELLS];
         return number_cells(&f[..n], &g[..n], w, &mut few, &mut cell_f, &mut cell_g, out);
+    }
+    if cells <= MANY_CELLS {
+        let mut many = [0u8; MANY_CELLS];
+        return number_cells(
+            &f[..n],
+            &g[..n],
+            w,
+            &mut many,
+            &mut cell_f,
+            &mut cell_g,
+            out,
+        );
     }
     let mut numbers = [0u8; ALL_CELLS];
     number_cells(

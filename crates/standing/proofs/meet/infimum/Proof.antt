@@ -58,8 +58,8 @@ slice-aggregate-past-labels-2 c = long-g (c .before .before .before)
 past-labels-requires-2 : tie.Need-past-labels-requires-2
 past-labels-requires-2 c κs = search needs
 
-mul-if1 : tie.Need-mul-if1
-mul-if1 c = omega (arith, mul-le-mul (c .before .before .past-labels .ensures .1) (c .past-labels2 .ensures .1))
+mul-cells : tie.Need-mul-cells
+mul-cells c = omega (arith, mul-le-mul (c .before .before .past-labels .ensures .1) (c .past-labels2 .ensures .1))
 
 slice-aggregate-number-cells : tie.Need-slice-aggregate-number-cells
 slice-aggregate-number-cells c = long-f (c .before .before .before .before .before .before)
@@ -87,29 +87,54 @@ returns c =
     (r .number-cells .ensures .0 ∙ ap classes (whole k), r .number-cells .ensures .1 .1 ∙ ap (overlay (now (s .args .out))) (whole k))
 
 slice-aggregate-number-cells-4 : tie.Need-slice-aggregate-number-cells-4
-slice-aggregate-number-cells-4 c = long-f (c .before .before .before .before .before .before)
+slice-aggregate-number-cells-4 c = long-f (c .before .before .before .before .before .before .before)
 
 slice-aggregate-number-cells-5 : tie.Need-slice-aggregate-number-cells-5
-slice-aggregate-number-cells-5 c = long-g (c .before .before .before .before .before .before .before)
+slice-aggregate-number-cells-5 c = long-g (c .before .before .before .before .before .before .before .before)
 
 slice-aggregate-number-cells-6 : tie.Need-slice-aggregate-number-cells-6
 slice-aggregate-number-cells-6 c = search needs
 
 number-cells-requires-2 : tie.Need-number-cells-requires-2
 number-cells-requires-2 c κs =
-    let p = c .before .before .before .before .before .before .before in
+    let p = c .before .before .before .before .before .before .before .before in
+    let k = p .before .before .before .before in
+    let a = p .before .before .past-labels in
+    let b = p .past-labels2 in
+    let l = sym (long-g k) ∙ long-f k in
+    (subst (λ (m : ℕ). m ≤ 240) (long-f k) (few k), l, omega arith, inside-below (a .result) (b .result) 16384 (f k) (g k) l (a .ensures .2) (b .ensures .2) (c .before .before .before .before .before .before .if2 .taken), refl, cover-none (f k) (g k))
+
+returns-2 : tie.Need-returns-2
+returns-2 c =
+    let r = c .before in
+    let k = r .before .before .before .before .before .before .before .before .before .before .before .before .before in
+    let s = k .before .before .before in
+    (r .number-cells2 .ensures .0 ∙ ap classes (whole k), r .number-cells2 .ensures .1 .1 ∙ ap (overlay (now (s .args .out))) (whole k))
+
+slice-aggregate-number-cells-7 : tie.Need-slice-aggregate-number-cells-7
+slice-aggregate-number-cells-7 c = long-f (c .before .before .before .before .before .before .before)
+
+slice-aggregate-number-cells-8 : tie.Need-slice-aggregate-number-cells-8
+slice-aggregate-number-cells-8 c = long-g (c .before .before .before .before .before .before .before .before)
+
+slice-aggregate-number-cells-9 : tie.Need-slice-aggregate-number-cells-9
+slice-aggregate-number-cells-9 c = search needs
+
+number-cells-requires-3 : tie.Need-number-cells-requires-3
+number-cells-requires-3 c κs =
+    let p = c .before .before .before .before .before .before .before .before in
     let k = p .before .before .before .before in
     let a = p .before .before .past-labels in
     let b = p .past-labels2 in
     let l = sym (long-g k) ∙ long-f k in
     (subst (λ (m : ℕ). m ≤ 240) (long-f k) (few k), l, omega arith, inside-below (a .result) (b .result) 65536 (f k) (g k) l (a .ensures .2) (b .ensures .2) (mul-le-mul (a .ensures .1) (b .ensures .1)), refl, cover-none (f k) (g k))
 
-returns-2 : tie.Need-returns-2
-returns-2 c =
+returns-3 : tie.Need-returns-3
+returns-3 c =
     let r = c .before in
-    let k = r .before .before .before .before .before .before .before .before .before .before .before .before in
+    let k = r .before .before .before .before .before .before .before .before .before .before .before .before .before in
     let s = k .before .before .before in
-    (r .number-cells2 .ensures .0 ∙ ap classes (whole k), r .number-cells2 .ensures .1 .1 ∙ ap (overlay (now (s .args .out))) (whole k))
+    (r .number-cells3 .ensures .0 ∙ ap classes (whole k), r .number-cells3 .ensures .1 .1 ∙ ap (overlay (now (s .args .out))) (whole k))
 
 pub infimum-spec : {M : Type 1} → statement M
 infimum-spec =
@@ -120,7 +145,7 @@ infimum-spec =
     past-labels-requires
     slice-aggregate-past-labels-2
     past-labels-requires-2
-    mul-if1
+    mul-cells
     slice-aggregate-number-cells
     slice-aggregate-number-cells-2
     slice-aggregate-number-cells-3
@@ -130,4 +155,9 @@ infimum-spec =
     slice-aggregate-number-cells-5
     slice-aggregate-number-cells-6
     number-cells-requires-2
-    returns-2)
+    returns-2
+    slice-aggregate-number-cells-7
+    slice-aggregate-number-cells-8
+    slice-aggregate-number-cells-9
+    number-cells-requires-3
+    returns-3)
