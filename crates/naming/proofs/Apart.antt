@@ -2,13 +2,13 @@
 -- Assumes nothing.
 use mathlib.Core.Path.{_≡_, refl, sym, ap, _∙_}
 use mathlib.Core.List.{List, []}
-use Prim.Native.Nat.{ℕ, zero, _+_, _-_, _≤_, _<_}
+use Prim.Native.Nat.{ℕ, _+_, _-_, _≤_, _<_}
 use native.Mathlib.Omega.{arith}
 use lib.Dec.{eqb}
 use lib.ListN.{length, getD, set, replicate, length-set, length-replicate}
 use lib.Seq.{getD-set-same, getD-set-other}
 use borrow.Author.Tests.{eqb-true, eqb-false}
-use Rattle.rules.specs.Factor.{Column, at, classes, universal, equality}
+use Rattle.rules.specs.Factor.{Column, at, classes, equality}
 use Rattle.rules.proofs.ClassCount.{finer-universal, equality-finer, classes-most, one-class, each-class}
 use Rattle.rules.proofs.Numbering.{by-cases}
 use Rattle.factor.proofs.Table.{getD-zeros}

@@ -1,7 +1,7 @@
 -- Laws of a walk over digits: how they stand to the field, and how many are sure to be a level.
 -- Assumes nothing.
 use mathlib.Core.Path.{_≡_, refl, sym, ap, _∙_}
-use mathlib.Core.Bool.{Bool, true, false, _&&_, _||_}
+use mathlib.Core.Bool.{Bool, true, false, _||_}
 use mathlib.Core.List.{List, [], _∷_}
 use Prim.Native.Nat.{ℕ, suc, _+_, _-_, _*_, _≤_, _<_}
 use native.Mathlib.Omega.{arith}
@@ -10,13 +10,13 @@ use native.Mathlib.Numerals.{add-one}
 use lib.Dec.{eqb, leb}
 use lib.ListN.{length, getD, drop, drop-of-length-le, length-drop}
 use lib.Seq.{drop-cons, getD-drop}
-use borrow.Author.Tests.{ne-eqb, eqb-true, eqb-false, leb-true}
+use borrow.Author.Tests.{ne-eqb, eqb-true, eqb-false, leb-true, leb-false}
 use Rattle.rules.specs.Sheet.{all, digit, decimal, decimalFrom, noLeadingZero, isLevel}
 use Rattle.rules.specs.Limits.{mostLevel}
 use Rattle.rules.proofs.Numbering.{by-cases}
 use Rattle.rules.proofs.Members.{clash}
-use Rattle.rules.proofs.Sheet.{and-left, and-right, decimal-grows, level-leading, level-digit, level-none, level-is}
-use Rattle.sheet.specs.Walk.{fieldOf, digitsOf}
+use Rattle.rules.proofs.Sheet.{and-left, and-right, decimal-grows, level-leading, level-digit, level-large, level-none, level-is}
+use Rattle.sheet.specs.Walk.{fieldOf, digitsOf, FiveDigits}
 use Rattle.sheet.proofs.Walk.{field-tab, field-newline, field-on}
 
 -- ---- a digit more
@@ -119,15 +119,6 @@ most-few (a ∷ b ∷ []) l = omega arith
 most-few (a ∷ b ∷ c ∷ []) l = omega arith
 most-few (a ∷ b ∷ c ∷ d ∷ f) l = absurd (not-suc-le-zero (le-of-suc-le-suc (le-of-suc-le-suc (le-of-suc-le-suc l))))
 
-most-five : (f : List ℕ) → length f ≤ 4 → most 5 f ≤ mostLevel
-unfolding most
-most-five [] l = omega arith
-most-five (a ∷ []) l = omega arith
-most-five (a ∷ b ∷ []) l = omega arith
-most-five (a ∷ b ∷ c ∷ []) l = omega arith
-most-five (a ∷ b ∷ c ∷ d ∷ []) l = omega arith
-most-five (a ∷ b ∷ c ∷ d ∷ e ∷ f) l = absurd (not-suc-le-zero (le-of-suc-le-suc (le-of-suc-le-suc (le-of-suc-le-suc (le-of-suc-le-suc l)))))
-
 -- digits that start with one from 1 to m
 digits-level : (m x : ℕ) (f : List ℕ) → all digit (x ∷ f) ≡ true → (x ≡ 48 → ⊥) → x ≤ 48 + m → most m f ≤ mostLevel → isLevel (x ∷ f) ≡ true
 unfolding noLeadingZero decimalFrom
@@ -164,11 +155,65 @@ module _ (text : List ℕ) (start : ℕ) (h : start < length text) (some : 1 ≤
       let b : all digit (x ∷ f) ≡ true = rw first at a in
       rw first (digits-level 9 x f b n (digit-most x (all-first x f b)) (most-few f (omega (arith, ap length first))))
 
-  -- a level of five digits up to 59999
-  pub level-five : all digit (fieldOf (drop start text)) ≡ true → (getD text start 0 ≡ 48 → ⊥) → length (fieldOf (drop start text)) ≡ 5 → getD text start 0 < 54 → isLevel (fieldOf (drop start text)) ≡ true
-  level-five a n l k =
-      let f = fieldOf (drop (start + 1) text) in
-      rw first (digits-level 5 (getD text start 0) f (rw first at a) n (omega arith) (most-five f (omega (arith, ap length first))))
+-- ---- five digits
+
+none : (f : List ℕ) → length f ≡ 0 → f ≡ []
+none [] e = refl
+none (x ∷ f) e = absurd (no e)
+  where
+    no : suc (length f) ≡ 0 → ⊥
+    no e = omega arith
+
+module _ (text : List ℕ) (start : ℕ) (h : start + 5 ≤ length text) (five : length (fieldOf (drop start text)) ≡ 5) (a : all digit (fieldOf (drop start text)) ≡ true) where
+  -- the field is a digit and the rest, k digits
+  next : (at k : ℕ) → at < length text → length (fieldOf (drop at text)) ≡ suc k → all digit (fieldOf (drop at text)) ≡ true
+      → (fieldOf (drop at text) ≡ getD text at 0 ∷ fieldOf (drop (at + 1) text)) × (length (fieldOf (drop (at + 1) text)) ≡ k) × (all digit (fieldOf (drop (at + 1) text)) ≡ true) × (48 ≤ getD text at 0) × (getD text at 0 ≤ 57)
+  next at k l e b =
+      let x = getD text at 0 in
+      let f = fieldOf (drop (at + 1) text) in
+      let q : fieldOf (drop at text) ≡ x ∷ f = first text at l (omega arith) in
+      let c : all digit (x ∷ f) ≡ true = rw q at b in
+      let d = all-first x f c in
+      (q, omega (arith, e, ap length q), all-rest x f c, digit-least x d, digit-most x d)
+
+  pub five-digits : FiveDigits text start
+  five-digits =
+      let e2 : start + 1 + 1 ≡ start + 2 = omega arith in
+      let e3 : start + 2 + 1 ≡ start + 3 = omega arith in
+      let e4 : start + 3 + 1 ≡ start + 4 = omega arith in
+      let n0 = next start 4 (omega arith) five a in
+      let n1 = rw e2 at (next (start + 1) 3 (omega arith) (n0 .1) (n0 .2)) in
+      let n2 = rw e3 at (next (start + 2) 2 (omega arith) (n1 .1) (n1 .2)) in
+      let n3 = rw e4 at (next (start + 3) 1 (omega arith) (n2 .1) (n2 .2)) in
+      let n4 = next (start + 4) 0 (omega arith) (n3 .1) (n3 .2) in
+      record {
+        inside = h;
+        bytes = rw (n0 .0, n1 .0, n2 .0, n3 .0, n4 .0, none (fieldOf (drop (start + 4 + 1) text)) (n4 .1));
+        least-0 = n0 .3;
+        most-0 = n0 .4;
+        least-1 = n1 .3;
+        most-1 = n1 .4;
+        least-2 = n2 .3;
+        most-2 = n2 .4;
+        least-3 = n3 .3;
+        most-3 = n3 .4;
+        least-4 = n4 .3;
+        most-4 = n4 .4;
+      }
+
+  -- such a field is a level where its number is not too large
+  pub level-five : (getD text start 0 ≡ 48 → ⊥) → leb (decimal (fieldOf (drop start text))) 65535 ≡ isLevel (fieldOf (drop start text))
+  unfolding noLeadingZero decimalFrom
+  level-five n =
+      let F = fieldOf (drop start text) in
+      let q : F ≡ getD text start 0 ∷ fieldOf (drop (start + 1) text) = next start 4 (omega arith) five a .0 in
+      let low = five-digits .least-0 in
+      let x = getD text start 0 in
+      let one : 1 ≤ 10 * 0 + (x - 48) = by-cases (eqb x 48) (λ z. absurd (n (eqb-true x 48 z))) (λ z. let y = eqb-false x 48 z in omega arith) in
+      let least : 1 ≤ decimal F = rw q (omega (arith, one, decimal-grows (10 * 0 + (x - 48)) (fieldOf (drop (start + 1) text)))) in
+      by-cases (leb (decimal F) 65535)
+      (λ e. rw e (sym (level-is F (rw (q, ne-eqb x 48 n)) a least (leb-true (decimal F) 65535 e))))
+      (λ e. rw e (sym (level-large F (leb-false (decimal F) 65535 e))))
 
 -- ---- the end of the digits and the end of the field
 

@@ -20,6 +20,21 @@ unfoldable pub digitsOf : List ℕ → List ℕ
 digitsOf [] = []
 digitsOf (x ∷ xs) = elim (digit x) [ true ↦ x ∷ digitsOf xs | false ↦ [] ]
 
+-- the field that starts at `start` is five digits
+pub record FiveDigits (text : List ℕ) (start : ℕ) : Type 0 where
+  pub inside : start + 5 ≤ length text
+  pub bytes : fieldOf (drop start text) ≡ getD text start 0 ∷ getD text (start + 1) 0 ∷ getD text (start + 2) 0 ∷ getD text (start + 3) 0 ∷ getD text (start + 4) 0 ∷ []
+  pub least-0 : 48 ≤ getD text start 0
+  pub most-0 : getD text start 0 ≤ 57
+  pub least-1 : 48 ≤ getD text (start + 1) 0
+  pub most-1 : getD text (start + 1) 0 ≤ 57
+  pub least-2 : 48 ≤ getD text (start + 2) 0
+  pub most-2 : getD text (start + 2) 0 ≤ 57
+  pub least-3 : 48 ≤ getD text (start + 3) 0
+  pub most-3 : getD text (start + 3) 0 ≤ 57
+  pub least-4 : 48 ≤ getD text (start + 4) 0
+  pub most-4 : getD text (start + 4) 0 ≤ 57
+
 abbrev pub noLevel : FieldLevel
 noLevel = record { end = 0; level = 0 }
 

@@ -4,8 +4,8 @@ ghost use mathlib.Core.Bool.{true};
 ghost use Prim.Native.Nat.{_+_, _≤_, _<_};
 ghost use lib.ListN.{length, drop};
 ghost use lib.Seq.{slice};
-ghost use Rattle.rules.specs.Sheet.{all, digit, isLevel, letter as isLetter, letterOrDigit, isName, isColumn, sameBytes};
-ghost use Rattle.sheet.specs.Walk.{fieldOf, digitsOf, levelAt, noLevel, isMark};
+ghost use Rattle.rules.specs.Sheet.{all, digit, decimal, isLevel, letter as isLetter, letterOrDigit, isName, isColumn, sameBytes};
+ghost use Rattle.sheet.specs.Walk.{fieldOf, digitsOf, FiveDigits, levelAt, noLevel, isMark};
 use limits::LEVEL;
 
 // The end of the field that starts at `at`: the place of the next byte 9 or 10, or the text's length.
@@ -95,6 +95,19 @@ fn no_level() -> FieldLevel
     FieldLevel { end: 0, level: 0 }
 }
 
+// The number that a field of five digits writes.
+fn five_digits(text: &[u8], start: usize) -> u32
+    requires { ⌜ FiveDigits (now text) start ⌝ }
+    ensures { λ r. ⌜ r ≡ decimal (fieldOf (drop start (now (text .entry)))) ⌝ }
+{
+    let a = (text[start] - b'0') as u32;
+    let b = (text[start + 1] - b'0') as u32;
+    let c = (text[start + 2] - b'0') as u32;
+    let d = (text[start + 3] - b'0') as u32;
+    let e = (text[start + 4] - b'0') as u32;
+    10000 * a + 1000 * b + 100 * c + 10 * d + e
+}
+
 // Whether the field from `start` to `stop`, which is digits alone, is a level. The number is read only where it has digits enough to
 // be too large.
 pub fn is_level(text: &[u8], start: usize, stop: usize) -> bool
@@ -112,9 +125,7 @@ pub fn is_level(text: &[u8], start: usize, stop: usize) -> bool
         return true;
     }
     if digits == 5 {
-        if text[start] < b'6' {
-            return true;
-        }
+        return five_digits(text, start) <= LEVEL;
     }
     let found = read_level(text, start);
     found.level != 0

@@ -156,7 +156,15 @@ fn stratum_places(
     let finest = finest_place(plot_family, n, plot_size);
     let mut places = [0usize; MEMBERS];
     for t in 0..treatment_size {
-        let among = candidates(plot_family, plot_size, words, treatment_family, t, n, finest);
+        let among = candidates(
+            plot_family,
+            plot_size,
+            words,
+            treatment_family,
+            t,
+            n,
+            finest,
+        );
         let place = coarsest_place(words, plot_size, among);
         places[t] = place;
     }

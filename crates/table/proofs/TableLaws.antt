@@ -21,7 +21,7 @@ use Rattle.rules.specs.Degrees.{degrees}
 use Rattle.rules.specs.Strata.{stratum, residuals, strata}
 use Rattle.rules.proofs.Buffer.{member-is, length-members}
 use Rattle.rules.proofs.Places.{length-places, at-places}
-use Rattle.rules.proofs.Sheet.{length-after}
+use Rattle.rules.proofs.Sheet.{too-short, too-long, length-after}
 use Rattle.rules.proofs.DegreesLaws.{length-degrees}
 use Rattle.rules.proofs.Printing.{strata-answered}
 use Rattle.rules.proofs.Made.{Tells, Placed, plot-back, plot-buffer-length, treatment-back, treatment-buffer-length}
@@ -228,6 +228,17 @@ module _ (text : List ℕ) where
   pub refused-text : (q : ℕ) → refused q ≡ reading text emptyTable → rowsBytes (refusedRow q dash dash ∷ []) ≡ tableText text
   unfolding tableText tableRows outcomeRows
   refused-text q e = ap (λ (o : Outcome). rowsBytes (outcomeRows text o)) e
+
+  -- of one that is empty, or too long
+  table-room : 2880 ≤ length emptyTable
+  unfolding emptyTable
+  table-room = omega (arith, length-replicate {A = ℕ} 2880 0)
+
+  pub short-text : length text < 1 → rowsBytes (refusedRow 2 dash dash ∷ []) ≡ tableText text
+  short-text h = refused-text 2 (sym (too-short text emptyTable table-room h))
+
+  pub long-text : 32768 < length text → rowsBytes (refusedRow 2 dash dash ∷ []) ≡ tableText text
+  long-text h = refused-text 2 (sym (too-long text emptyTable table-room h))
 
   -- the level table of the reading
   pub levels-long : (levels : List ℕ) → levels ≡ levelsAfter (reading text emptyTable) text emptyTable → 2880 ≤ length levels

@@ -28,6 +28,7 @@ use limits::LEVELS;
 use limits::Level;
 use limits::MEMBERS;
 use limits::NAME;
+use limits::TEXT;
 use naming::Kind;
 use sheet::Counts;
 use sheet::Reading;
@@ -56,8 +57,22 @@ pub fn skeleton_table(text: &[u8], out: &mut [u8]) -> Printed
     Printed::Text(print(text, out))
 }
 
-// Writes the whole text: questions 1 to 5 first.
+// Writes the whole text: question 2 first, which needs no level table.
 fn print(text: &[u8], out: &mut [u8]) -> usize
+    ensures answer { λ r. ⌜ r ≡ placeAfter (now (out .entry)) 0 (tableText (now (text .entry))) ⌝ }
+    ensures bytes { λ _. ⌜ now (out .exit) ≡ written (now (out .entry)) 0 (tableText (now (text .entry))) ⌝ }
+{
+    if text.len() < 1 {
+        return rows::put_refused(2, b"-", b"-", out);
+    }
+    if TEXT < text.len() {
+        return rows::put_refused(2, b"-", b"-", out);
+    }
+    print_sheet(text, out)
+}
+
+// Writes the whole text: questions 1 to 5 first.
+fn print_sheet(text: &[u8], out: &mut [u8]) -> usize
     ensures answer { λ r. ⌜ r ≡ placeAfter (now (out .entry)) 0 (tableText (now (text .entry))) ⌝ }
     ensures bytes { λ _. ⌜ now (out .exit) ≡ written (now (out .entry)) 0 (tableText (now (text .entry))) ⌝ }
 {

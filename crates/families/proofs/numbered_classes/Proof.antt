@@ -12,7 +12,7 @@ use lib.Seq.{take-all}
 use Rattle.rules.specs.Factor.{classes}
 use Rattle.rules.proofs.Columns.{Tells}
 use Rattle.factor.proofs.Table.{Stepped, classes-none}
-use Rattle.factor.proofs.UpTo.{upTo, up-none, up-old, up-new, up-wrong, up-zero, up-all}
+use Rattle.factor.proofs.UpTo.{upTo, up-none, up-old, up-new, up-wrong, up-all}
 use Rattle.families.proofs.Counted.{counted-yes, counted-no}
 use Rattle.families.proofs.numbered_classes.Statement.{statement}
 use Rattle.families.proofs.numbered_classes.Tie as tie

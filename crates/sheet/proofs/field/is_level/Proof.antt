@@ -1,16 +1,17 @@
 -- `sheet::field::is_level` meets its contract.
 -- Assumes nothing.
-use mathlib.Core.Path.{sym}
+use mathlib.Core.Path.{sym, ap, _∙_}
+use Prim.Native.Nat.{ℕ}
 use native.Mathlib.Omega.{arith}
 use borrow.Author.Needs.{needs}
 use borrow.Author.Tests.{eqb-true, eqb-false}
 use denote.Ref.{now}
-use lib.Dec.{eqb}
+use lib.Dec.{eqb, leb}
 use lib.ListN.{drop}
 use Rattle.sheet.specs.Walk.{fieldOf}
 use Rattle.rules.proofs.Numbering.{by-cases}
 use Rattle.sheet.proofs.LevelLaws.{level-not, level-yes}
-use Rattle.sheet.proofs.DigitLaws.{level-empty, level-zero, level-few, level-five}
+use Rattle.sheet.proofs.DigitLaws.{level-empty, level-zero, level-few, level-five, five-digits}
 use Rattle.sheet.proofs.field.is_level.Statement.{statement}
 use Rattle.sheet.proofs.field.is_level.Tie as tie
 
@@ -36,14 +37,17 @@ returns-3 c =
     let s = b .before .before .before .before in
     sym (level-few (now (s .args .text)) (s .args .start) (omega arith) (omega arith) (s .pre .2) (b .if2 .left) (omega arith))
 
-shared-slice-read-if5 : tie.Need-shared-slice-read-if5
-shared-slice-read-if5 c = search needs
+five-digits-requires : tie.Need-five-digits-requires
+five-digits-requires c κs =
+    let s = c .before .before .before .before .before .before in
+    five-digits (now (s .args .text)) (s .args .start) (omega arith) (omega arith) (s .pre .2)
 
 returns-4 : tie.Need-returns-4
 returns-4 c =
-    let b = c .before .before .before .before in
+    let b = c .before .before .before in
     let s = b .before .before .before .before in
-    sym (level-five (now (s .args .text)) (s .args .start) (omega arith) (omega arith) (s .pre .2) (b .if2 .left) (omega arith) (omega arith))
+    let e = level-five (now (s .args .text)) (s .args .start) (omega arith) (omega arith) (s .pre .2) (b .if2 .left) in
+    ap (λ (k : ℕ). leb k 65535) (c .five-digits .ensures) ∙ e
 
 read-level-requires : tie.Need-read-level-requires
 read-level-requires c κs = search needs
@@ -66,7 +70,7 @@ is-level-spec =
     returns-2
     sub-digits
     returns-3
-    shared-slice-read-if5
+    five-digits-requires
     returns-4
     read-level-requires
     returns-5)

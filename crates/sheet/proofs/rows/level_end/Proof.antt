@@ -1,8 +1,8 @@
 -- `sheet::rows::level_end` meets its contract.
 -- Assumes nothing.
 use Prim.Native.Nat.{ℕ, _+_}
-use mathlib.Core.Path.{_≡_, refl, sym, ap, _∙_}
-use mathlib.Core.Bool.{true, _||_}
+use mathlib.Core.Path.{_≡_, sym, ap, _∙_}
+use mathlib.Core.Bool.{_||_}
 use mathlib.Core.List.{List}
 use native.Mathlib.Omega.{arith}
 use borrow.Author.Needs.{needs}
@@ -10,9 +10,8 @@ use borrow.Author.Tests.{not-true, not-false}
 use denote.Ref.{now}
 use lib.Dec.{eqb}
 use lib.ListN.{length, getD, drop}
-use Rattle.rules.specs.Sheet.{all, digit}
 use Rattle.rules.proofs.Numbering.{by-cases}
-use Rattle.sheet.specs.Walk.{fieldOf, digitsOf, levelThere}
+use Rattle.sheet.specs.Walk.{fieldOf, digitsOf}
 use Rattle.sheet.proofs.DigitLaws.{digits-all, digits-far, digits-stop, digits-other}
 use Rattle.sheet.proofs.RowLaws.{level-bad, level-far, level-other, level-good, level-end-off, level-end-at}
 use Rattle.sheet.proofs.rows.level_end.Statement.{statement}
