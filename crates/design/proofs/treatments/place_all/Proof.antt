@@ -36,7 +36,7 @@ place-one-requires : tie.Need-place-one-requires Inv-loop μ-loop
 place-one-requires c κs =
     let b = c .before .before .before in
     let s = b .before .before .before in
-    (b .loop .inv .1 .held, s .pre .2, omega arith)
+    (b .loop .inv .1 .held, omega arith, omega arith)
 
 same-length : tie.Need-same-length Inv-loop μ-loop
 same-length c = search needs
