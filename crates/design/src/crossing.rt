@@ -52,17 +52,31 @@ fn add(store: &mut [u8], counts: &mut [u8; MEMBERS], size: usize, column: &[u8],
     grown(size, p)
 }
 
+// The number of classes of a column that is numbered: its largest label.
+fn largest(column: &[u8]) -> u8
+    requires { ⌜ number (now column) ≡ now column ⌝ }
+    ensures { λ r. ⌜ r ≡ classes (now (column .entry)) ⌝ }
+{
+    let mut k: u8 = 0;
+    for u in 0..column.len() {
+        let x = column[u];
+        if k < x {
+            k = x;
+        }
+    }
+    k
+}
+
 // Numbers of classes by place.
 fn class_counts(family: &[u8], n: usize, size: usize) -> [u8; MEMBERS]
-    requires { ⌜ (n ≤ 240) × (7680 ≤ length (now family)) × (size ≤ 32) ⌝ }
+    requires { ⌜ (n ≤ 240) × Numbered n (now family) size ⌝ }
     ensures { λ r. ⌜ ((i : ℕ) → i < size → getD r i 0 ≡ classes (columnIn n (now (family .entry)) i)) ⌝ }
 {
     let mut counts = [0u8; MEMBERS];
     for i in 0..size {
         let at = PLOTS * i;
         let end = at + n;
-        let k = factor::classes(&family[at..end]);
-        counts[i] = k as u8;
+        counts[i] = largest(&family[at..end]);
     }
     counts
 }
