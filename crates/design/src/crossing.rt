@@ -11,6 +11,7 @@ ghost use Rattle.design.specs.Search.{crossPartner, crossFirst, crossSec
 ghost use Rattle.design.specs.Treatments.{Growing, Placing, orthogonalAt, knownFiner, Member, Numbered};
 use crate::closing::TOO_MANY;
 use crate::store::grown;
+use crate::store::largest;
 use crate::store::place;
 use limits::MEMBERS;
 use limits::PLOTS;
@@ -50,21 +51,6 @@ fn add(store: &mut [u8], counts: &mut [u8; MEMBERS], size: usize, column: &[u8],
         return TOO_MANY;
     }
     grown(size, p)
-}
-
-// The number of classes of a column that is numbered: its largest label.
-fn largest(column: &[u8]) -> u8
-    requires { ⌜ number (now column) ≡ now column ⌝ }
-    ensures { λ r. ⌜ r ≡ classes (now (column .entry)) ⌝ }
-{
-    let mut k: u8 = 0;
-    for u in 0..column.len() {
-        let x = column[u];
-        if k < x {
-            k = x;
-        }
-    }
-    k
 }
 
 // Numbers of classes by place.

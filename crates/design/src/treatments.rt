@@ -16,6 +16,7 @@ use crate::closing::close;
 use crate::sorting::sort;
 use crate::sorting::write;
 use crate::store::grown;
+use crate::store::largest;
 use crate::store::place;
 use crate::store::put;
 use limits::COLUMNS;
@@ -120,14 +121,14 @@ fn place_one(
     counts: &mut [u8; MEMBERS],
     size: usize,
 ) -> usize
-    requires { ⌜ Held n (now store) (now counts) size × (240 * e + 240 ≤ length (now infima)) × (e < 64) ⌝ }
+    requires { ⌜ Held n (now store) (now counts) size × (240 * e + 240 ≤ length (now infima)) × (e < 64) × (number (columnIn n (now infima) e) ≡ columnIn n (now infima) e) ⌝ }
     ensures { λ r. ⌜ Placed n (membersOf n (now (store .entry)) size) (columnIn n (now (infima .entry)) e) r (now (store .exit)) (now (counts .exit)) ⌝ }
 {
     let at = PLOTS * e;
     let end = at + n;
     let column = &infima[at..end];
-    let k = factor::classes(column);
-    place(store, counts, size, column, k as u8)
+    let k = largest(column);
+    place(store, counts, size, column, k)
 }
 
 // Places the first `total` columns; answers how many members they make, or TOO_MANY.

@@ -10,8 +10,8 @@ use lib.ListN.{length, take}
 use lib.Seq.{take-all}
 use Rattle.rules.specs.Factor.{at, classes, labels}
 use Rattle.design.proofs.Suprema.{largest-next}
-use Rattle.design.proofs.crossing.largest.Statement.{statement}
-use Rattle.design.proofs.crossing.largest.Tie as tie
+use Rattle.design.proofs.store.largest.Statement.{statement}
+use Rattle.design.proofs.store.largest.Tie as tie
 
 abbrev Inv-loop : tie.InvT-loop
 Inv-loop column k₀ u₀ u-end k u = (u ≤ length column) × (k ≡ classes (take u column)) × ((j : ℕ) → j < u → at column j ≤ k) × (u-end ≡ length column)
