@@ -1,4 +1,4 @@
-// The closing step: the plot family. It grows in memory of its own. (The first treatment family: `first_family` in treatments.rt.)
+// The closing step: the plot family, which grows in a store. (The first treatment family: `first_family` in treatments.rt.)
 ghost use mathlib.Core.Path.{_≡_};
 ghost use mathlib.Core.Bool.{true};
 ghost use Prim.Native.Nat.{_≤_};
@@ -14,7 +14,6 @@ use crate::closing::close;
 use crate::columns::place_plot_columns;
 use crate::sorting::sort;
 use crate::sorting::write;
-use limits::FAMILY;
 use limits::Level;
 use limits::MEMBERS;
 
@@ -46,13 +45,18 @@ fn close_plots(
 }
 
 // Closes the plot family and writes it in its order, where it is not too large, with the tables that question 10 is decided by.
-pub fn close_plot_family(levels: &[Level], n: usize, columns: usize, plot: &mut [u8]) -> PlotClosing
-    requires { ⌜ (1 ≤ n) × (n ≤ 240) × (columns ≤ 6) × (2880 ≤ length (now levels)) × (7680 ≤ length (now plot)) ⌝ }
+pub fn close_plot_family(
+    levels: &[Level],
+    n: usize,
+    columns: usize,
+    store: &mut [u8],
+    plot: &mut [u8],
+) -> PlotClosing
+    requires { ⌜ (1 ≤ n) × (n ≤ 240) × (columns ≤ 6) × (2880 ≤ length (now levels)) × (7680 ≤ length (now plot)) × (length (now store) ≡ 7680) ⌝ }
     ensures family { λ r. ⌜ closedIn n (now (plot .exit)) (r .size) ≡ plotFamily n (columnsFrom n (now (levels .entry)) 0 columns) ⌝ }
     ensures buffer { λ _. ⌜ now (plot .exit) ≡ plotBuffer (now (plot .entry)) (question8 n (plotFamily n (columnsFrom n (now (levels .entry)) 0 columns))) ⌝ }
     ensures tables { λ r. ⌜ Ready n (r .size) (now (plot .exit)) (r .order) (r .counts) (r .meets) (r .joins) ⌝ }
 {
-    let mut store = [0u8; FAMILY];
     let mut counts = [0u8; MEMBERS];
     let mut meets = [0u8; PAIRS];
     let mut joins = [0u8; PAIRS];
@@ -60,7 +64,7 @@ pub fn close_plot_family(levels: &[Level], n: usize, columns: usize, plot: &mut 
         levels,
         n,
         columns,
-        &mut store,
+        store,
         &mut counts,
         &mut meets,
         &mut joins,
@@ -75,8 +79,8 @@ pub fn close_plot_family(levels: &[Level], n: usize, columns: usize, plot: &mut 
             joins,
         };
     }
-    let order = sort(&store, &counts, n, size);
-    write(&store, &order, n, size, plot);
+    let order = sort(store, &counts, n, size);
+    write(store, &order, n, size, plot);
     PlotClosing {
         size,
         order,

@@ -1,4 +1,4 @@
-// After questions 6 and 7: a family is closed, then judged; the plot family first, then the treatments.
+// After questions 6 and 7: a family is closed, then judged; the plot family first, then the treatments. Each grows in one store.
 ghost use mathlib.Core.Path.{_≡_};
 ghost use Prim.Native.Nat.{_≤_};
 ghost use lib.ListN.{length};
@@ -24,7 +24,8 @@ pub fn plot_from_8(levels: &[Level], n: usize, columns: usize, family: &mut [u8]
     ensures answer { λ r. ⌜ plotNumbers r ≡ plotNumbersOf (question8 n (plotFamily n (columnsFrom n (now (levels .entry)) 0 columns))) ⌝ }
     ensures buffer { λ _. ⌜ now (family .exit) ≡ plotBuffer (now (family .entry)) (question8 n (plotFamily n (columnsFrom n (now (levels .entry)) 0 columns))) ⌝ }
 {
-    let closing = close_plot_family(levels, n, columns, family);
+    let mut store = [0u8; FAMILY];
+    let closing = close_plot_family(levels, n, columns, &mut store, family);
     judge_plots(family, closing, n)
 }
 
@@ -43,7 +44,8 @@ pub fn full_from_8(
     ensures plots { λ _. ⌜ now («plot_family» .exit) ≡ plotBuffer (now («plot_family» .entry)) (withTreatments n k (columnsFrom n (now (levels .entry)) 6 d) (question8 n (plotFamily n (columnsFrom n (now (levels .entry)) 0 c)))) ⌝ }
     ensures treatments { λ _. ⌜ now («treatment_family» .exit) ≡ treatmentBuffer (now («treatment_family» .entry)) (withTreatments n k (columnsFrom n (now (levels .entry)) 6 d) (question8 n (plotFamily n (columnsFrom n (now (levels .entry)) 0 c)))) ⌝ }
 {
-    let closing = close_plot_family(levels, n, c, plot_family);
+    let mut store = [0u8; FAMILY];
+    let closing = close_plot_family(levels, n, c, &mut store, plot_family);
     let answer = judge_plots(plot_family, closing, n);
     match answer {
         PlotDesign::Refused(r) => FullDesign::Refused(FullRefusal {
@@ -54,7 +56,16 @@ pub fn full_from_8(
             treatment: 0,
         }),
         PlotDesign::Accepted(held) => {
-            full_from_11(levels, n, d, k, plot_family, held, treatment_family)
+            full_from_11(
+                levels,
+                n,
+                d,
+                k,
+                plot_family,
+                held,
+                &mut store,
+                treatment_family,
+            )
         }
     }
 }
@@ -67,13 +78,13 @@ fn full_from_11(
     k: usize,
     plot: &[u8],
     held: usize,
+    store: &mut [u8],
     treatment_family: &mut [u8],
 ) -> FullDesign
-    requires { ⌜ (1 ≤ n) × (n ≤ 240) × (d ≤ 6) × (1 ≤ k) × (k ≤ 6) × (2880 ≤ length (now levels)) × Numbered n (now plot) held × (equality n ∈ membersOf n (now plot) held) × (7680 ≤ length (now «treatment_family»)) ⌝ }
+    requires { ⌜ (1 ≤ n) × (n ≤ 240) × (d ≤ 6) × (1 ≤ k) × (k ≤ 6) × (2880 ≤ length (now levels)) × Numbered n (now plot) held × (equality n ∈ membersOf n (now plot) held) × (7680 ≤ length (now «treatment_family»)) × (length (now store) ≡ 7680) ⌝ }
     ensures answer { λ r. ⌜ fullNumbers r ≡ fullNumbersOf (question11 n (membersOf n (now (plot .entry)) held) (firstTreatmentFamily n k (columnsFrom n (now (levels .entry)) 6 d))) ⌝ }
     ensures buffer { λ _. ⌜ now («treatment_family» .exit) ≡ treatmentBuffer (now («treatment_family» .entry)) (question11 n (membersOf n (now (plot .entry)) held) (firstTreatmentFamily n k (columnsFrom n (now (levels .entry)) 6 d))) ⌝ }
 {
-    let mut store = [0u8; FAMILY];
-    let size = first_family(levels, n, d, k, &mut store, treatment_family);
-    judge_treatments(plot, held, size, n, &mut store, treatment_family)
+    let size = first_family(levels, n, d, k, store, treatment_family);
+    judge_treatments(plot, held, size, n, store, treatment_family)
 }

@@ -16,17 +16,17 @@ use Rattle.design.proofs.Judge.{PutInOrder, put-in-order, judging-as}
 use Rattle.design.proofs.closed.close_plot_family.Statement.{statement}
 use Rattle.design.proofs.closed.close_plot_family.Tie as tie
 
-slice-aggregate-close-plots : tie.Need-slice-aggregate-close-plots
-slice-aggregate-close-plots c = search needs
-
 close-plots-requires : tie.Need-close-plots-requires
 close-plots-requires c κs = search needs
+
+same-length : tie.Need-same-length
+same-length c = search needs
 
 returns : tie.Need-returns
 unfolding written
 returns c =
-    let p = c .before .before in
-    let s = p .before .before .before .before .before .before .before in
+    let p = c .before .before .before in
+    let s = p .before .before .before .before .before .before .before .before in
     let n = s .args .n in
     let Fs : List Column = columnsFrom n (now (s .args .levels)) 0 (s .args .columns) in
     let over = closed-over n Fs (p .close-plots .ensures) (c .if1 .taken) in (
@@ -37,35 +37,29 @@ returns c =
       ),
     )
 
-slice-aggregate-sort : tie.Need-slice-aggregate-sort
-slice-aggregate-sort c = search needs
-
 sort-requires : tie.Need-sort-requires
 sort-requires c κs =
     let e = c .before .before in
-    let p = e .before .before in
-    let s = p .before .before .before .before .before .before .before in
+    let p = e .before .before .before in
+    let s = p .before .before .before .before .before .before .before .before in
     let Fs : List Column = columnsFrom (s .args .n) (now (s .args .levels)) 0 (s .args .columns) in
     let w = closed-work (s .args .n) Fs (p .close-plots .ensures) (e .if1 .left) in
     (w .held, w .found .distinct)
-
-slice-aggregate-write : tie.Need-slice-aggregate-write
-slice-aggregate-write c = search needs
 
 -- what is known once the members are put in order
 Ordered : (q : tie.After-sort) → Type 0
 Ordered q =
     let e = q .before .before .before in
-    let p = e .before .before in
-    let s = p .before .before .before .before .before .before .before in
+    let p = e .before .before .before in
+    let s = p .before .before .before .before .before .before .before .before in
     PutInOrder (s .args .n) (s .args .columns) (now (s .args .levels)) (now (s .args .plot)) (p .close-plots .last .1 .1 .1 .0) (p .close-plots .last .1 .1 .1 .1 .0) (p .close-plots .last .1 .1 .1 .1 .1 .0) (p .close-plots .last .1 .1 .1 .1 .1 .1 .0) (q .sort .result) (p .close-plots .result)
 
 ordered : (q : tie.After-sort) → Ordered q
 unfolding Ordered
 ordered q =
     let e = q .before .before .before in
-    let p = e .before .before in
-    let s = p .before .before .before .before .before .before .before in
+    let p = e .before .before .before in
+    let s = p .before .before .before .before .before .before .before .before in
     let Fs : List Column = columnsFrom (s .args .n) (now (s .args .levels)) 0 (s .args .columns) in
     let w = closed-work (s .args .n) Fs (p .close-plots .ensures) (e .if1 .left) in
     let is = closed-family (s .args .n) Fs (p .close-plots .ensures) (e .if1 .left) in
@@ -77,10 +71,15 @@ unfolding Ordered
 write-requires c κs =
     let q = c .before .before .before in
     let o = ordered q in
-    (o .most, o .room, o .few, search needs, q .sort .ensures .entries, o .entries)
+    let p = q .before .before .before .before .before .before in
+    let s = p .before .before .before .before .before .before .before .before in
+    (o .most, o .room, o .few, s .pre .4, q .sort .ensures .entries, o .entries)
 
-same-length : tie.Need-same-length
-same-length c = search needs
+same-length-2 : tie.Need-same-length-2
+same-length-2 c = search needs
+
+same-length-3 : tie.Need-same-length-3
+same-length-3 c = search needs
 
 returns-2 : tie.Need-returns-2
 unfolding Ordered
@@ -89,8 +88,8 @@ returns-2 c =
     let q = v .before .before .before .before in
     let o = ordered q in
     let e = q .before .before .before in
-    let p = e .before .before in
-    let s = p .before .before .before .before .before .before .before in
+    let p = e .before .before .before in
+    let s = p .before .before .before .before .before .before .before .before in
     let n = s .args .n in
     let size = p .close-plots .result in
     let same = v .write .ensures ∙ o .same in
@@ -108,12 +107,11 @@ pub close-plot-family-spec : {M : Type 1} → statement M
 close-plot-family-spec =
     tie.close
     (tie.spec
-    slice-aggregate-close-plots
     close-plots-requires
-    returns
-    slice-aggregate-sort
-    sort-requires
-    slice-aggregate-write
-    write-requires
     same-length
+    returns
+    sort-requires
+    write-requires
+    same-length-2
+    same-length-3
     returns-2)

@@ -18,18 +18,12 @@ use Rattle.design.proofs.FullAnswered.{first-held, first-numbered, firs
 use Rattle.design.proofs.steps.full_from_11.Statement.{statement}
 use Rattle.design.proofs.steps.full_from_11.Tie as tie
 
-slice-aggregate-first-family : tie.Need-slice-aggregate-first-family
-slice-aggregate-first-family c = search needs
-
 first-family-requires : tie.Need-first-family-requires
 first-family-requires c κs = search needs
 
-slice-aggregate-judge-treatments : tie.Need-slice-aggregate-judge-treatments
-slice-aggregate-judge-treatments c = search needs
-
 -- where the function starts, seen from the place at which the treatments are closed
 abbrev start : tie.After-first-family → tie.Start
-start f = f .before .before .before .before .before .before
+start f = f .before .before .before .before .before .before .before
 
 -- the treatment columns, which are on n plots
 abbrev columns : tie.After-first-family → List Column
@@ -44,17 +38,20 @@ after f = f .first-family .last .1 .1 .1 .1 .1 .0
 
 judge-treatments-requires : tie.Need-judge-treatments-requires
 judge-treatments-requires c κs =
-    let f = c .before .before .before .before .before in
+    let f = c .before .before .before .before .before .before in
     let s = start f in
     (s .pre .0, s .pre .1, s .pre .6, first-numbered (s .args .n) (s .args .k) (columns f) (on f) (now (s .args .treatment-family)) (after f) (f .first-family .result) (s .pre .1) (s .pre .8) (f .first-family .ensures), search needs)
 
 same-length : tie.Need-same-length
 same-length c = search needs
 
+same-length-2 : tie.Need-same-length-2
+same-length-2 c = search needs
+
 returns : tie.Need-returns
 returns c =
-    let k = c .before .before .before in
-    let f = k .before .before .before .before .before .before in
+    let k = c .before .before .before .before in
+    let f = k .before .before .before .before .before .before .before in
     let s = start f in
     let n = s .args .n in
     let P = membersOf n (now (s .args .plot)) (s .args .held) in
@@ -66,10 +63,4 @@ returns c =
 pub full-from-11-spec : {M : Type 1} → statement M
 full-from-11-spec =
     tie.close
-    (tie.spec
-    slice-aggregate-first-family
-    first-family-requires
-    slice-aggregate-judge-treatments
-    judge-treatments-requires
-    same-length
-    returns)
+    (tie.spec first-family-requires judge-treatments-requires same-length same-length-2 returns)

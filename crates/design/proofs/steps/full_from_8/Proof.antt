@@ -17,6 +17,9 @@ use Rattle.design.proofs.WithTreatments.{plot-alone, with-refused, with
 use Rattle.design.proofs.steps.full_from_8.Statement.{statement}
 use Rattle.design.proofs.steps.full_from_8.Tie as tie
 
+slice-aggregate-close-plot-family : tie.Need-slice-aggregate-close-plot-family
+slice-aggregate-close-plot-family c = search needs
+
 close-plot-family-requires : tie.Need-close-plot-family-requires
 close-plot-family-requires c κs = search needs
 
@@ -31,14 +34,14 @@ enum-known-answer-2 c = search needs
 
 -- the place at which the plot family is closed, seen from the place at which it is judged, and where the function starts
 abbrev closed : tie.After-judge-plots → tie.After-close-plot-family
-closed f = f .before .before .before .before
+closed f = f .before .before .before .before .before
 
 abbrev start : tie.After-judge-plots → tie.Start
-start f = closed f .before .before .before .before .before
+start f = closed f .before .before .before .before .before .before
 
 -- the memory that holds the plot family
 abbrev memory : tie.After-judge-plots → List ℕ
-memory f = closed f .close-plot-family .last .1 .1 .1 .0
+memory f = closed f .close-plot-family .last .1 .1 .1 .1 .0
 
 -- what is answered to it
 abbrev answered : tie.After-judge-plots → Answer
@@ -93,16 +96,19 @@ accepted-here c =
     goes-on (s .args .n) (memory f) (closed f .close-plot-family .result .size) (s .pre .1) (λ ne. closed f .close-plot-family .ensures .1 .1 .judging ne .few)
     (sym (ap plotNumbers (c .answer2 .given .1)) ∙ f .judge-plots .ensures)
 
+slice-aggregate-full-from-11 : tie.Need-slice-aggregate-full-from-11
+slice-aggregate-full-from-11 c = search needs
+
 full-from-11-requires : tie.Need-full-from-11-requires
 unfolding AcceptedHere
 full-from-11-requires c κs =
-    let q = c .before .before .before in
+    let q = c .before .before .before .before in
     let f = q .before .before in
     let s = start f in
     let n = s .args .n in
     let on = column-length n (now (s .args .levels)) (s .args .c) 0 (s .pre .1) (s .pre .6) (omega (arith, s .pre .2)) in
     let w = goes-numbered n (columnsFrom n (now (s .args .levels)) 0 (s .args .c)) on (memory f) (q .answer2 .given .0 .0) (s .pre .1) (closed f .close-plot-family .ensures .1 .1 .room) (closed f .close-plot-family .ensures .0) (accepted-here q) in
-    (s .pre .0, s .pre .1, s .pre .3, s .pre .4, s .pre .5, s .pre .6, w .0, w .1, s .pre .8)
+    (s .pre .0, s .pre .1, s .pre .3, s .pre .4, s .pre .5, s .pre .6, w .0, w .1, s .pre .8, search needs)
 
 same-length : tie.Need-same-length
 same-length c = search needs
@@ -133,8 +139,8 @@ same-length-3 c = search needs
 returns-2 : tie.Need-returns-2
 unfolding AcceptedHere Goal LeftPlots
 returns-2 c =
-    let k = c .before .before in
-    let q = k .before .before .before .before in
+    let k = c .before .before .before in
+    let q = k .before .before .before .before .before in
     let f = q .before .before in
     let s = start f in
     let n = s .args .n in
@@ -151,10 +157,12 @@ pub full-from-8-spec : {M : Type 1} → statement M
 full-from-8-spec =
     tie.close
     (tie.spec
+    slice-aggregate-close-plot-family
     close-plot-family-requires
     judge-plots-requires
     enum-known-answer
     enum-known-answer-2
+    slice-aggregate-full-from-11
     full-from-11-requires
     same-length
     returns
