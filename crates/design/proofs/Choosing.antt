@@ -25,6 +25,7 @@ use Rattle.rules.proofs.Families.{choices-chosen}
 use Rattle.factor.specs.Lent.{onCommon, overlay}
 use Rattle.factor.proofs.Lent.{common-all, take-overlay}
 use Rattle.design.specs.State.{columnIn, Placed, full, old, new, grownTo, Begun, makeOf, Work, Closed, exceeded, complete}
+use Rattle.design.specs.Judging.{Listed, unlisted, listed}
 use Rattle.design.specs.Treatments.{shorter, extended, Room, Infima, AllPlaced, over, on, FirstFamily, no-first, a-first}
 use Rattle.design.proofs.Placing.{grown-old, part-column}
 use Rattle.design.proofs.Start.{begun-more}
@@ -512,13 +513,13 @@ begun-own {n} {As} {store} {counts} {size} b = record {
 -- ---- the closed family
 
 -- all pairs are combined
-pub closed-on : {n : ℕ} {infima : Bool} {Gs : List Column} {store counts meets joins : List ℕ} {r : ℕ} → (r ≡ 33 → ⊥) → Closed n infima Gs store counts meets joins r
-    → Work n infima Gs store counts meets joins r r 0 × (close (makeOf infima) Gs ≡ family (insertAll (membersOf n store r) []))
+pub closed-on : {n : ℕ} {infima : Bool} {Gs : List Column} {store counts marks : List ℕ} {r : ℕ} → (r ≡ 33 → ⊥) → Closed n infima Gs store counts marks r
+    → Work n infima Gs store counts marks r r 0 × (close (makeOf infima) Gs ≡ family (insertAll (membersOf n store r) []))
 closed-on d (exceeded e q) = absurd (d e)
 closed-on d (complete w q) = (w, q)
 
 -- the family is too large
-pub closed-over : {n : ℕ} {infima : Bool} {Gs : List Column} {store counts meets joins : List ℕ} {r : ℕ} → r ≡ 33 → Closed n infima Gs store counts meets joins r → close (makeOf infima) Gs ≡ tooMany
+pub closed-over : {n : ℕ} {infima : Bool} {Gs : List Column} {store counts marks : List ℕ} {r : ℕ} → r ≡ 33 → Closed n infima Gs store counts marks r → close (makeOf infima) Gs ≡ tooMany
 closed-over e (exceeded w q) = q
 closed-over e (complete w q) = absurd (beyond e (w .held .few))
 
@@ -528,10 +529,10 @@ unfolding firstTreatmentFamily
 first-over e q s = no-first e q s
 
 -- the first treatment family is written in its order
-pub first-listed : {n k : ℕ} {Ts : List Column} {before after : List ℕ} {r : ℕ} (store : List ℕ) → n ≤ 240 → r ≤ 32 → Distinct (membersOf n store r) → close onlySupremum (treatmentGenerators n k Ts) ≡ family (insertAll (membersOf n store r) [])
-    → after ≡ written before 0 (insertAll (membersOf n store r) []) → FirstFamily n k Ts before after r
+pub first-listed : {n k : ℕ} {Ts : List Column} {before after marks order : List ℕ} {r : ℕ} → Listed n false (treatmentGenerators n k Ts) before after marks order r → FirstFamily n k Ts before after r
 unfolding firstTreatmentFamily
-first-listed {n} {r = r} store small few d q w = a-first (insertAll (membersOf n store r) []) q (sym (length-sorted (membersOf n store r) d ∙ length-members n small store r)) few w
+first-listed (unlisted e q s) = no-first e q s
+first-listed (listed S q l few w t) = a-first S q l few w
 
 -- ---- the infima are numbered
 

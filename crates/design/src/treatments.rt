@@ -9,11 +9,9 @@ ghost use Rattle.rules.specs.Family.{_∈_, columnsFrom, membersOf};
 ghost use Rattle.rules.specs.Closing.{treatmentGenerators};
 ghost use Rattle.design.specs.State.{columnIn, Held, Placed, Begun};
 ghost use Rattle.design.specs.Treatments.{extended, Room, Infima, AllPlaced, FirstFamily};
+use crate::closed::close_family;
 use crate::closing::PAIRS;
 use crate::closing::TOO_MANY;
-use crate::closing::close;
-use crate::sorting::sort;
-use crate::sorting::write;
 use crate::store::grown;
 use crate::store::place;
 use crate::store::put;
@@ -178,13 +176,7 @@ fn close_first(
     requires { ⌜ Begun n (membersOf n (now store) start) (now store) (now counts) start × (7680 ≤ length (now family)) ⌝ }
     ensures { λ r. ⌜ ((k : ℕ) (Ts : List Column) → Begun n (treatmentGenerators n k Ts) (now (store .entry)) (now (counts .entry)) start → FirstFamily n k Ts (now (family .entry)) (now (family .exit)) r) ⌝ }
 {
-    let mut meets = [0u8; PAIRS];
-    let mut joins = [0u8; PAIRS];
-    let size = close(store, counts, &mut meets, &mut joins, start, n, false);
-    if size == TOO_MANY {
-        return TOO_MANY;
-    }
-    let order = sort(store, counts, n, size);
-    write(store, &order, n, size, family);
-    size
+    let mut marks = [0u8; PAIRS];
+    let closed = close_family(store, counts, &mut marks, start, n, false, family);
+    closed.size
 }

@@ -14,7 +14,7 @@ use crate::FullRefusal;
 use crate::PlotDesign;
 use crate::PlotRefusal;
 use crate::Sizes;
-use crate::closed::PlotClosing;
+use crate::closed::ClosedFamily;
 use crate::closing::PAIRS;
 use crate::closing::TOO_MANY;
 use crate::crossing::cross;
@@ -53,32 +53,27 @@ pub fn full_refused(number: u32) -> FullDesign
 }
 
 // Questions 8 to 10 of a closed plot family.
-pub fn judge_plots(plot: &[u8], closing: PlotClosing, n: usize) -> PlotDesign
-    requires { ⌜ Ready n (closing .size) (now plot) (closing .order) (closing .counts) (closing .meets) (closing .joins) ⌝ }
-    ensures { λ r. ⌜ plotNumbers r ≡ plotNumbersOf (question8 n (closedIn n (now (plot .entry)) (closing .size))) ⌝ }
+pub fn judge_plots(plot: &[u8], closed: ClosedFamily, marks: &[u8; PAIRS], n: usize) -> PlotDesign
+    requires { ⌜ Ready n (closed .size) (now plot) (closed .order) (now marks) ⌝ }
+    ensures { λ r. ⌜ plotNumbers r ≡ plotNumbersOf (question8 n (closedIn n (now (plot .entry)) (closed .size))) ⌝ }
 {
-    let size = closing.size;
+    let size = closed.size;
     if size == TOO_MANY {
         return refused(8);
     }
-    let order = closing.order;
-    let counts = closing.counts;
-    let meets = closing.meets;
-    let joins = closing.joins;
-    from_9(&order, &counts, &meets, &joins, n, size, plot)
+    let order = closed.order;
+    from_9(&order, marks, n, size, plot)
 }
 
 // Questions 9 and 10 of a family that is written.
 fn from_9(
     order: &[u8; MEMBERS],
-    counts: &[u8; MEMBERS],
-    meets: &[u8; PAIRS],
-    joins: &[u8; PAIRS],
+    marks: &[u8; PAIRS],
     n: usize,
     size: usize,
     family: &[u8],
 ) -> PlotDesign
-    requires { ⌜ Judging n size (now family) (now order) (now counts) (now meets) (now joins) ⌝ }
+    requires { ⌜ Judging n size (now family) (now order) (now marks) ⌝ }
     ensures { λ r. ⌜ plotNumbers r ≡ plotNumbersOf (question9 n (membersOf n (now (family .entry)) size) (firstFailing (uniform n) 1 (membersOf n (now (family .entry)) size))) ⌝ }
 {
     let unequal = first_unequal(family, n, size);
@@ -90,7 +85,7 @@ fn from_9(
             size,
         });
     }
-    let apart = first_apart(order, counts, meets, joins, size);
+    let apart = first_apart(order, marks, size);
     let first = apart.first;
     if first != 0 {
         return PlotDesign::Refused(PlotRefusal {
