@@ -4,7 +4,7 @@ use mathlib.Core.Path.{_≡_, refl, sym, ap, ap₂, _∙_, subst}
 use mathlib.Core.Logic.{_⊎_, inl, inr}
 use mathlib.Core.Bool.{Bool, true, false}
 use mathlib.Core.List.{List, [], _∷_, _++_, map, map-append, append-nil, append-assoc, List·Memᴰ·head, List·Memᴰ·tail, List·Memᴰ·not-nil, List·Memᴰ·cases-cons, Memᴰ·of-map, List·Memᴰ·append-cases, List·Memᴰ·eq-of-singleton, Memᴰ·cast, Memᴰ·append-left}
-use Prim.Native.Nat.{ℕ, zero, suc, _+_, _*_, _-_, _≤_, _<_}
+use Prim.Native.Nat.{ℕ, zero, suc, _+_, _*_, _-_, _≤_, _<_, _/_}
 use native.Mathlib.Nat.{le-of-eq, not-suc-le-zero, le-of-suc-le-suc, lt-irrefl, zero-add}
 use native.Mathlib.Numerals.{add-one}
 use native.Mathlib.Omega.{arith}
@@ -140,7 +140,7 @@ unfoldable pub doubled : ℕ → ℕ → ℕ
 doubled zero t = t
 doubled (suc c) t = doubled c (2 * t)
 
-doubled-least : (c t : ℕ) → t ≤ doubled c t
+pub doubled-least : (c t : ℕ) → t ≤ doubled c t
 unfolding doubled
 doubled-least zero t = omega arith
 doubled-least (suc c) t = let h = doubled-least c (2 * t) in omega arith
@@ -164,20 +164,33 @@ doubled-first c h = subst (λ (m : ℕ). doubled c 1 ≤ m) six (doubled-longer 
     six : doubled 6 1 ≡ 64
     six = refl
 
--- there is room to double once more
-pub doubled-room : (c t : ℕ) → 0 < c → doubled c t ≤ 64 → 2 * t ≤ 64
+-- 1 doubled at most 3 times
+doubled-few : (c : ℕ) → c ≤ 3 → doubled c 1 ≤ 8
 unfolding doubled
-doubled-room zero t z h = absurd (not-suc-le-zero z)
-doubled-room (suc c) t z h = let q = doubled-least c (2 * t) in omega arith
+doubled-few c h = subst (λ (m : ℕ). doubled c 1 ≤ m) three (doubled-longer c 3 1 h)
+  where
+    three : doubled 3 1 ≡ 8
+    three = refl
+
+-- there are bytes for as many infima
+pub doubled-bytes : (c bytes : ℕ) → c ≤ 6 → ((c ≤ 3) × (1920 ≤ bytes)) ⊎ (15360 ≤ bytes) → doubled c 1 ≤ bytes / 240
+doubled-bytes c bytes h (inl w) = omega (arith, doubled-few c (w .0), w .1)
+doubled-bytes c bytes h (inr w) = omega (arith, doubled-first c h)
+
+-- there is room to double once more
+pub doubled-room : (m c t : ℕ) → 0 < c → doubled c t ≤ m → 2 * t ≤ m
+unfolding doubled
+doubled-room m zero t z h = absurd (not-suc-le-zero z)
+doubled-room m (suc c) t z h = let q = doubled-least c (2 * t) in omega arith
 
 -- and after it
-pub doubled-next : (c t s : ℕ) → 0 < c → doubled c t ≤ 64 → s ≤ 2 * t → doubled (c - 1) s ≤ 64
+pub doubled-next : (m c t s : ℕ) → 0 < c → doubled c t ≤ m → s ≤ 2 * t → doubled (c - 1) s ≤ m
 unfolding doubled
-doubled-next zero t s z h l = absurd (not-suc-le-zero z)
-doubled-next (suc c) t s z h l =
+doubled-next m zero t s z h l = absurd (not-suc-le-zero z)
+doubled-next m (suc c) t s z h l =
     let e : suc c - 1 ≡ c = omega arith in
     let q = doubled-mono c s (2 * t) l in
-    subst (λ (m : ℕ). doubled m s ≤ 64) (sym e) (omega arith)
+    subst (λ (x : ℕ). doubled x s ≤ m) (sym e) (omega arith)
 
 -- ---- infima
 
@@ -242,11 +255,10 @@ module _ (T : Column) (b : List ℕ) (e : ℕ) (small : length T ≤ 240) (fits 
     long-met = rw (array-is, length-append) (omega (arith, length-met))
 
 -- room stays
-pub room-more : (n : ℕ) (infima lengths : List ℕ) (m v : ℕ) (F : Column) → Room n infima lengths → length F ≡ n → m < 64 → v ≤ 6 → Room n (paste infima (240 * m) F n) (set lengths m v)
-room-more n infima lengths m v F r l h f = record {
+pub room-more : (n : ℕ) (lengths : List ℕ) (m v : ℕ) → Room n lengths → m < 64 → v ≤ 6 → Room n (set lengths m v)
+room-more n lengths m v r h f = record {
   some = r .some;
   most = r .most;
-  bytes = length-pasted n (r .most) infima m F l (rw (r .bytes) (omega arith)) ∙ r .bytes;
   cells = length-set lengths m v ∙ r .cells;
   small = λ j. below j (eqb j m) refl;
 }
@@ -262,7 +274,7 @@ module _ (n : ℕ) (infima lengths : List ℕ) (m : ℕ) (Cs : List (List Column
       sym (member-is n (i .room .most) infima m e h) ∙ ap (λ (S : Family). getD S e []) (i .columns)
       ∙ getD-map (infimumAll n) Cs e [] [] (rw (i .count) h)
 
-  module _ (T : Column) (l : length T ≡ n) (e : ℕ) (h : e < m) (less : m < 64) (short : getD lengths e 0 + 1 ≤ 6) where
+  module _ (T : Column) (l : length T ≡ n) (e : ℕ) (h : e < m) (less : m < 64) (short : getD lengths e 0 + 1 ≤ 6) (wide : 240 * m + 240 ≤ length infima) where
     abbrev C : List Column
     C = getD Cs e []
 
@@ -270,7 +282,7 @@ module _ (n : ℕ) (infima lengths : List ℕ) (m : ℕ) (Cs : List (List Column
     F = infimum (number T) (columnIn n infima e)
 
     on-n : length (columnIn n infima e) ≡ n
-    on-n = length-part n e infima (i .room .most) (rw (i .room .bytes) (omega arith))
+    on-n = length-part n e infima (i .room .most) (omega (arith, i .fits))
 
     length-F : length F ≡ n
     length-F = length-infimum (number T) (columnIn n infima e) (length-number T ∙ l ∙ sym on-n) ∙ length-number T ∙ l
@@ -282,11 +294,12 @@ module _ (n : ℕ) (infima lengths : List ℕ) (m : ℕ) (Cs : List (List Column
     -- one infimum more
     pub infima-more : Infima n (paste infima (240 * m) F n) (set lengths m (getD lengths e 0 + 1)) (m + 1) (Cs ++ (T ∷ C) ∷ [])
     infima-more = record {
-      room = room-more n infima lengths m (getD lengths e 0 + 1) F (i .room) length-F less short;
+      room = room-more n lengths m (getD lengths e 0 + 1) (i .room) less short;
       count = length-append Cs ((T ∷ C) ∷ []) ∙ omega (arith, i .count);
       few = omega arith;
+      fits = rw (length-pasted n (i .room .most) infima m F length-F wide) (omega arith);
       columns = ap (membersOf n (paste infima (240 * m) F n)) (add-one m)
-          ∙ members-paste n (i .room .most) infima m F length-F (rw (i .room .bytes) (omega arith))
+          ∙ members-paste n (i .room .most) infima m F length-F wide
           ∙ ap₂ (λ (S : Family) (G : Column). S ++ G ∷ []) (i .columns) is
           ∙ sym (map-append (infimumAll n) Cs ((T ∷ C) ∷ []));
       sizes = λ j k. size j k (ltb j m) refl;
@@ -310,21 +323,30 @@ module _ (n : ℕ) (infima lengths : List ℕ) (m : ℕ) (Cs : List (List Column
 module _ (column : Column) (k : ℕ) (infima₀ lengths₀ : List ℕ) (total : ℕ) where
   -- the first e infima are looked at
   pub record Extending (infima lengths : List ℕ) (size e : ℕ) : Type 0 where
-    pub room : Room (length column) infima lengths
+    pub room : Room (length column) lengths
+    pub bytes : length infima ≡ length infima₀
     pub low : total ≤ size
     pub high : size ≤ total + e
     pub chosen : (T : Column) (Cs : List (List Column)) → number T ≡ column → Infima (length column) infima₀ lengths₀ total Cs → Infima (length column) infima lengths size (reached k T Cs e)
 
   -- none is looked at
-  pub extending-none : Room (length column) infima₀ lengths₀ → Extending infima₀ lengths₀ total 0
+  pub extending-none : Room (length column) lengths₀ → Extending infima₀ lengths₀ total 0
   extending-none r = record {
     room = r;
+    bytes = refl;
     low = omega arith;
     high = omega arith;
     chosen = λ T Cs q i. subst (λ (Ds : List (List Column)). Infima (length column) infima₀ lengths₀ total Ds) (sym (reached-none k T Cs)) i;
   }
 
-  module _ (infima lengths : List ℕ) (size e : ℕ) (x : Extending infima lengths size e) (less : e < total) (few : 2 * total ≤ 64) (narrow : k ≤ 6) where
+  module _ (infima lengths : List ℕ) (size e : ℕ) (x : Extending infima lengths size e) (less : e < total) (few : 2 * total ≤ 64) (narrow : k ≤ 6) (wide : 480 * total ≤ length infima₀) where
+    -- the infimum at e lies in the buffer, and so does the next
+    fits-here : 240 * e + 240 ≤ length infima
+    fits-here = omega (arith, x .bytes)
+
+    fits-next : 240 * size + 240 ≤ length infima
+    fits-next = omega (arith, x .bytes, x .high)
+
     -- the number of columns at e
     columns-at : (T : Column) (Cs : List (List Column)) → number T ≡ column → Infima (length column) infima₀ lengths₀ total Cs → getD lengths e 0 ≡ length (getD Cs e [])
     columns-at T Cs q i = x .chosen T Cs q i .sizes e (omega (arith, x .low)) ∙ ap length (reached-at k T Cs e e (rw (i .count) less))
@@ -333,8 +355,8 @@ module _ (column : Column) (k : ℕ) (infima₀ lengths₀ : List ℕ) (total : 
     pub extending-more : getD lengths e 0 < k → (after lengths′ : List ℕ) (size′ : ℕ) → after ≡ paste infima (240 * size) (infimum column (columnIn (length column) infima e)) (length column)
         → lengths′ ≡ set lengths size (getD lengths e 0 + 1) → size′ ≡ size + 1 → Extending after lengths′ size′ (e + 1)
     extending-more short after lengths′ size′ p q z = rw (p, q, z) record {
-      room = room-more (length column) infima lengths size (getD lengths e 0 + 1) (infimum column (columnIn (length column) infima e)) (x .room)
-          (length-met column infima e (x .room .most) (rw (x .room .bytes) (omega arith))) (omega (arith, x .high)) (omega arith);
+      room = room-more (length column) lengths size (getD lengths e 0 + 1) (x .room) (omega (arith, x .high)) (omega arith);
+      bytes = length-pasted (length column) (x .room .most) infima size (infimum column (columnIn (length column) infima e)) (length-met column infima e (x .room .most) fits-here) fits-next ∙ x .bytes;
       low = omega (arith, x .low);
       high = omega (arith, x .high);
       chosen = next-chosen;
@@ -346,7 +368,7 @@ module _ (column : Column) (k : ℕ) (infima₀ lengths₀ : List ℕ) (total : 
             let l : length T ≡ length column = sym (length-number T) ∙ ap length w in
             let h : e < length Cs = rw (i .count) less in
             let s : length (getD Cs e []) < k = subst (λ (m : ℕ). m < k) (columns-at T Cs w i) short in
-            let j = infima-more (length column) infima lengths size (reached k T Cs e) (x .chosen T Cs w i) T l e (omega (arith, x .low)) (omega (arith, x .high)) (omega arith) in
+            let j = infima-more (length column) infima lengths size (reached k T Cs e) (x .chosen T Cs w i) T l e (omega (arith, x .low)) (omega (arith, x .high)) (omega arith) fits-next in
             subst (λ (Ds : List (List Column)). Infima (length column) (paste infima (240 * size) (infimum column (columnIn (length column) infima e)) (length column)) (set lengths size (getD lengths e 0 + 1)) (size + 1) Ds)
             (ap (λ (D : List Column). reached k T Cs e ++ (T ∷ D) ∷ []) (reached-at k T Cs e e h) ∙ sym (reached-more k T Cs e h s))
             (subst (λ (N : Column). Infima (length column) (paste infima (240 * size) (infimum N (columnIn (length column) infima e)) (length column)) (set lengths size (getD lengths e 0 + 1)) (size + 1) (reached k T Cs e ++ (T ∷ getD (reached k T Cs e) e []) ∷ [])) w j)
@@ -355,6 +377,7 @@ module _ (column : Column) (k : ℕ) (infima₀ lengths₀ : List ℕ) (total : 
     pub extending-same : k ≤ getD lengths e 0 → (after lengths′ : List ℕ) (size′ : ℕ) → after ≡ infima → lengths′ ≡ lengths → size′ ≡ size → Extending after lengths′ size′ (e + 1)
     extending-same long after lengths′ size′ p q z = rw (p, q, z) record {
       room = x .room;
+      bytes = x .bytes;
       low = x .low;
       high = omega (arith, x .high);
       chosen = λ T Cs w i.
@@ -378,19 +401,14 @@ zero-at (suc m) zero = refl
 zero-at (suc m) (suc j) = zero-at m j
 
 -- U alone
-pub infima-none : (n k : ℕ) (infima lengths : List ℕ) → Room n infima lengths → getD lengths 0 0 ≡ 0 → Infima n (paste infima 0 (universal n) n) lengths 1 (choices k [])
+pub infima-none : (n k : ℕ) (infima lengths : List ℕ) → Room n lengths → 240 ≤ length infima → getD lengths 0 0 ≡ 0 → Infima n (paste infima 0 (universal n) n) lengths 1 (choices k [])
 unfolding membersOf columnsFrom infimumAll
-infima-none n k infima lengths r z = subst (λ (Cs : List (List Column)). Infima n (paste infima 0 (universal n) n) lengths 1 Cs) (sym (choices-none k)) record {
-  room = record {
-    some = r .some;
-    most = r .most;
-    bytes = length-pasted n (r .most) infima 0 (universal n) (length-universal n) (rw (r .bytes) (omega arith)) ∙ r .bytes;
-    cells = r .cells;
-    small = r .small;
-  };
+infima-none n k infima lengths r wide z = subst (λ (Cs : List (List Column)). Infima n (paste infima 0 (universal n) n) lengths 1 Cs) (sym (choices-none k)) record {
+  room = r;
   count = refl;
   few = omega arith;
-  columns = members-paste n (r .most) infima 0 (universal n) (length-universal n) (rw (r .bytes) (omega arith));
+  fits = rw (length-pasted n (r .most) infima 0 (universal n) (length-universal n) (omega arith)) (omega arith);
+  columns = members-paste n (r .most) infima 0 (universal n) (length-universal n) (omega arith);
   sizes = λ e h. let q : e ≡ 0 = omega arith in rw q z;
 }
 

@@ -4,15 +4,17 @@ use mathlib.Core.Path.{_≡_, refl, sym, ap, ap₂, _∙_, subst}
 use mathlib.Core.Logic.{_⊎_, inl, inr}
 use mathlib.Core.Bool.{Bool, true, false, _||_}
 use mathlib.Core.List.{List, [], _∷_, _++_, append-nil, append-assoc, List·Memᴰ·not-nil, List·Memᴰ·append-cases, List·Memᴰ·eq-of-singleton, Memᴰ·cast, Memᴰ·append-left, Memᴰ·append-right}
-use Prim.Native.Nat.{ℕ, suc, _+_, _*_, _-_, _≤_, _<_}
-use native.Mathlib.Nat.{le-of-eq, le-trans, zero-add}
+use Prim.Native.Nat.{ℕ, suc, _+_, _*_, _-_, _≤_, _<_, max}
+use native.Mathlib.Nat.{le-of-eq, le-trans, zero-add, lt-irrefl}
 use native.Mathlib.Numerals.{add-one}
 use native.Mathlib.Omega.{arith}
-use lib.Dec.{eqb}
+use lib.Dec.{eqb, ltb}
 use lib.ListN.{length, getD, take, drop, length-append}
-use lib.Seq.{paste, take-all, take-at}
-use borrow.Author.Tests.{eqb-true}
-use Rattle.rules.specs.Factor.{Column, number, classes, supremum, finer, orthogonal}
+use lib.Seq.{paste, take-all, take-at, length-take-le, getD-take}
+use borrow.Author.Tests.{eqb-true, ltb-true, ltb-false}
+use Rattle.rules.specs.Factor.{Column, at, number, indexOf, classes, supremum, finer, orthogonal}
+use Rattle.rules.proofs.Numbering.{by-cases, eqb-self, has-or-new, has-getD, getD-place}
+use Rattle.rules.proofs.Walk.{Next, next}
 use Rattle.rules.specs.Family.{Family, _∈_, empty, columnsFrom, membersOf, insertAll, written}
 use Rattle.rules.specs.Closing.{onlySupremum, productsOf, products, finalTreatmentFamily}
 use Rattle.rules.specs.Relation.{memberAt}
@@ -89,6 +91,46 @@ module _ (n i j : ℕ) (plot first : List ℕ) (small : n ≤ 240) (a : 240 * i 
     -- the array is long enough
     pub long-made : n ≤ length after
     long-made = rw (written-made, length-append) (omega (arith, length-made))
+
+-- ---- the largest label
+
+module _ (F : Column) (numbered : number F ≡ F) (u k : ℕ) (h : u < length F) (counted : k ≡ classes (take u F)) (bound : (j : ℕ) → j < u → at F j ≤ k) where
+  -- the label of plot u is an earlier one, or the next
+  label-next : ((at F u ≤ k) × (classes (take (suc u) F) ≡ k)) ⊎ ((at F u ≡ suc k) × (classes (take (suc u) F) ≡ suc k))
+  unfolding number classes
+  label-next = go (has-or-new eqb eqb-true eqb-self (take u F) (at F u))
+    where
+      len : length (take u F) ≡ u
+      len = length-take-le u F (omega arith)
+
+      step : Next eqb eqb-true eqb-self 0 F u
+      step = next eqb eqb-true eqb-self 0 F u h
+
+      go : (indexOf eqb (take u F) (at F u) < length (take u F)) ⊎ (indexOf eqb (take u F) (at F u) ≡ length (take u F)) → ((at F u ≤ k) × (classes (take (suc u) F) ≡ k)) ⊎ ((at F u ≡ suc k) × (classes (take (suc u) F) ≡ suc k))
+      go (inl l) =
+          let j = indexOf eqb (take u F) (at F u) in
+          let hj : j < u = omega (arith, len) in
+          let e : at F j ≡ at F u = sym (getD-take u F j 0 hj) ∙ getD-place eqb eqb-true eqb-self (take u F) (at F u) 0 l in
+          inl (subst (λ (x : ℕ). x ≤ k) e (bound j hj), step .old j hj e .1 ∙ sym counted)
+      go (inr l) =
+          let w = step .new (λ j hj e. let m = has-getD eqb eqb-true eqb-self (take u F) j 0 (rw len hj) in lt-irrefl (length (take u F)) (rw (getD-take u F j 0 hj ∙ e, l) at m)) in
+          inr (ap (λ (G : Column). at G u) (sym numbered) ∙ w .0 ∙ ap suc (sym counted), w .1 ∙ ap suc (sym counted))
+
+  -- the larger of it and those before
+  pub largest-next : (m : ℕ) → m ≡ max k (at F u) → (m ≡ classes (take (u + 1) F)) × ((j : ℕ) → j < u + 1 → at F j ≤ m)
+  largest-next m e = (go label-next ∙ ap (λ (i : ℕ). classes (take i F)) (sym (add-one u)), λ j l. by-cases (ltb j u) (λ b. below j (ltb-true j u b)) (λ b. here j (ltb-false j u b) l))
+    where
+      go : ((at F u ≤ k) × (classes (take (suc u) F) ≡ k)) ⊎ ((at F u ≡ suc k) × (classes (take (suc u) F) ≡ suc k)) → m ≡ classes (take (suc u) F)
+      go (inl w) = let a : m ≡ k = omega (arith, w .0) in a ∙ sym (w .1)
+      go (inr w) = let a : m ≡ suc k = omega (arith, w .0) in a ∙ sym (w .1)
+
+      below : (j : ℕ) → j < u → at F j ≤ m
+      below j l = omega (arith, bound j l)
+
+      here : (j : ℕ) → u ≤ j → j < u + 1 → at F j ≤ m
+      here j a b =
+          let q : j ≡ u = omega arith in
+          rw q (omega arith)
 
 -- ---- nested members
 

@@ -3,7 +3,7 @@
 use mathlib.Core.Path.{_≡_}
 use mathlib.Core.Bool.{Bool, true, false, _||_}
 use mathlib.Core.List.{List, [], _∷_, _++_, map}
-use Prim.Native.Nat.{ℕ, _≤_, _<_}
+use Prim.Native.Nat.{ℕ, _*_, _≤_, _<_}
 use lib.Dec.{eqb, ltb}
 use lib.ListN.{length, getD}
 use Rattle.rules.specs.Factor.{Column, number, classes, orthogonal}
@@ -21,19 +21,19 @@ unfoldable pub extended : ℕ → Column → List (List Column) → List (List C
 unfolding shorter
 extended k T Cs = Cs ++ map (λ (C : List Column). T ∷ C) (shorter k Cs)
 
--- room for the infima of 64 choices and for how many columns each has, which are at most 6
-pub record Room (n : ℕ) (infima lengths : List ℕ) : Type 0 where
+-- room for how many columns each of 64 choices has, which are at most 6
+pub record Room (n : ℕ) (lengths : List ℕ) : Type 0 where
   pub some : 1 ≤ n
   pub most : n ≤ 240
-  pub bytes : length infima ≡ 15360
   pub cells : length lengths ≡ 64
   pub small : (e : ℕ) → getD lengths e 0 ≤ 6
 
 -- the infima of the choices Cs are written, with how many columns each has
 pub record Infima (n : ℕ) (infima lengths : List ℕ) (total : ℕ) (Cs : List (List Column)) : Type 0 where
-  pub room : Room n infima lengths
+  pub room : Room n lengths
   pub count : length Cs ≡ total
   pub few : total ≤ 64
+  pub fits : 240 * total ≤ length infima
   pub columns : membersOf n infima total ≡ map (infimumAll n) Cs
   pub sizes : (e : ℕ) → e < total → getD lengths e 0 ≡ length (getD Cs e [])
 

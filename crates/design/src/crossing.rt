@@ -11,6 +11,7 @@ ghost use Rattle.design.specs.Search.{crossPartner, crossFirst, crossSec
 ghost use Rattle.design.specs.Treatments.{Growing, Placing, orthogonalAt, knownFiner, Member, Numbered};
 use crate::closing::TOO_MANY;
 use crate::store::grown;
+use crate::store::largest;
 use crate::store::place;
 use limits::MEMBERS;
 use limits::PLOTS;
@@ -54,15 +55,14 @@ fn add(store: &mut [u8], counts: &mut [u8; MEMBERS], size: usize, column: &[u8],
 
 // Numbers of classes by place.
 fn class_counts(family: &[u8], n: usize, size: usize) -> [u8; MEMBERS]
-    requires { ⌜ (n ≤ 240) × (7680 ≤ length (now family)) × (size ≤ 32) ⌝ }
+    requires { ⌜ (n ≤ 240) × Numbered n (now family) size ⌝ }
     ensures { λ r. ⌜ ((i : ℕ) → i < size → getD r i 0 ≡ classes (columnIn n (now (family .entry)) i)) ⌝ }
 {
     let mut counts = [0u8; MEMBERS];
     for i in 0..size {
         let at = PLOTS * i;
         let end = at + n;
-        let k = factor::classes(&family[at..end]);
-        counts[i] = k as u8;
+        counts[i] = largest(&family[at..end]);
     }
     counts
 }

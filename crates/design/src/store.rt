@@ -3,11 +3,26 @@ ghost use mathlib.Core.Path.{_≡_};
 ghost use Prim.Native.Nat.{_+_, _*_, _≤_, _<_};
 ghost use lib.ListN.{length};
 ghost use lib.Seq.{paste};
-ghost use Rattle.rules.specs.Factor.{classes, indexOf};
+ghost use Rattle.rules.specs.Factor.{number, classes, indexOf};
 ghost use Rattle.rules.specs.Family.{membersOf, alike};
 ghost use Rattle.design.specs.State.{Held, Placed, grownTo};
 use limits::MEMBERS;
 use limits::PLOTS;
+
+// The number of classes of a column that is numbered: its largest label.
+pub fn largest(column: &[u8]) -> u8
+    requires { ⌜ number (now column) ≡ now column ⌝ }
+    ensures { λ r. ⌜ r ≡ classes (now (column .entry)) ⌝ }
+{
+    let mut k: u8 = 0;
+    for u in 0..column.len() {
+        let x = column[u];
+        if k < x {
+            k = x;
+        }
+    }
+    k
+}
 
 // The place, from 0, of the member equal to `column`, which has `count` classes; `size` where there is none.
 fn find(store: &[u8], counts: &[u8; MEMBERS], size: usize, column: &[u8], count: u8) -> usize

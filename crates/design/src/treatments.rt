@@ -1,6 +1,7 @@
 // The first treatment family. (The final one: crossing.rt.)
 ghost use mathlib.Core.Path.{_≡_};
 ghost use mathlib.Core.List.{List};
+ghost use mathlib.Core.Logic.{_⊎_};
 ghost use Prim.Native.Nat.{ℕ, _+_, _*_, _≤_, _<_};
 ghost use lib.ListN.{length, take};
 ghost use lib.Seq.{paste};
@@ -13,6 +14,7 @@ use crate::closed::close_family;
 use crate::closing::PAIRS;
 use crate::closing::TOO_MANY;
 use crate::store::grown;
+use crate::store::largest;
 use crate::store::place;
 use crate::store::put;
 use limits::COLUMNS;
@@ -26,9 +28,15 @@ const CHOICES: usize = 64;
 // Bytes for an infimum of each choice.
 const INFIMA: usize = 15360;
 
+// Fewer columns than these, which most sheets have, make at most 8 choices.
+const FEW_COLUMNS: usize = 4;
+
+// Bytes for an infimum of each of these.
+const FEW_INFIMA: usize = 1920;
+
 // Writes the infimum of `column` with infimum `e` at place `total`.
 fn add_infimum(infima: &mut [u8], total: usize, column: &[u8], e: usize)
-    requires { ⌜ (1 ≤ length (now column)) × (length (now column) ≤ 240) × (length (now infima) ≡ 15360) × (total < 64) × (e < 64) ⌝ }
+    requires { ⌜ (1 ≤ length (now column)) × (length (now column) ≤ 240) × (240 * total + 240 ≤ length (now infima)) × (240 * e + 240 ≤ length (now infima)) × (total < 64) × (e < 64) ⌝ }
     ensures { λ _. ⌜ now (infima .exit) ≡ paste (now (infima .entry)) (240 * total) (infimum (now (column .entry)) (columnIn (length (now (column .entry))) (now (infima .entry)) e)) (length (now (column .entry))) ⌝ }
 {
     let n = column.len();
@@ -47,8 +55,8 @@ fn extend(
     column: &[u8],
     k: usize,
 ) -> usize
-    requires { ⌜ Room (length (now column)) (now infima) (now lengths) × (2 * total ≤ 64) × (k ≤ 6) ⌝ }
-    ensures kept { λ r. ⌜ Room (length (now (column .entry))) (now (infima .exit)) (now (lengths .exit)) × (r ≤ 2 * total) ⌝ }
+    requires { ⌜ Room (length (now column)) (now lengths) × (2 * total ≤ 64) × (k ≤ 6) × (480 * total ≤ length (now infima)) ⌝ }
+    ensures kept { λ r. ⌜ Room (length (now (column .entry))) (now (lengths .exit)) × (r ≤ 2 * total) ⌝ }
     ensures extends { λ r. ⌜ ((T : Column) (Cs : List (List Column)) → number T ≡ now (column .entry) → Infima (length (now (column .entry))) (now (infima .entry)) (now (lengths .entry)) total Cs → Infima (length (now (column .entry))) (now (infima .exit)) (now (lengths .exit)) r (extended k T Cs)) ⌝ }
 {
     let mut now = total;
@@ -73,8 +81,8 @@ fn extend_by(
     n: usize,
     k: usize,
 ) -> usize
-    requires { ⌜ Room n (now infima) (now lengths) × (2 * total ≤ 64) × (k ≤ 6) × (240 * c + 240 ≤ length (now levels)) ⌝ }
-    ensures kept { λ r. ⌜ Room n (now (infima .exit)) (now (lengths .exit)) × (r ≤ 2 * total) ⌝ }
+    requires { ⌜ Room n (now lengths) × (2 * total ≤ 64) × (k ≤ 6) × (240 * c + 240 ≤ length (now levels)) × (480 * total ≤ length (now infima)) ⌝ }
+    ensures kept { λ r. ⌜ Room n (now (lengths .exit)) × (r ≤ 2 * total) ⌝ }
     ensures extends { λ r. ⌜ ((Cs : List (List Column)) → Infima n (now (infima .entry)) (now (lengths .entry)) total Cs → Infima n (now (infima .exit)) (now (lengths .exit)) r (extended k (columnIn n (now (levels .entry)) c) Cs)) ⌝ }
 {
     let at = PLOTS * c;
@@ -86,8 +94,8 @@ fn extend_by(
 
 // Writes U and all infima of 1 to `k` different treatment columns; answers how many they are.
 fn fill_infima(levels: &[Level], n: usize, d: usize, k: usize, infima: &mut [u8]) -> usize
-    requires { ⌜ (1 ≤ n) × (n ≤ 240) × (d ≤ 6) × (1 ≤ k) × (k ≤ 6) × (2880 ≤ length (now levels)) × (length (now infima) ≡ 15360) ⌝ }
-    ensures few { λ r. ⌜ r ≤ 64 ⌝ }
+    requires { ⌜ (1 ≤ n) × (n ≤ 240) × (d ≤ 6) × (1 ≤ k) × (k ≤ 6) × (2880 ≤ length (now levels)) × (((d ≤ 3) × (1920 ≤ length (now infima))) ⊎ (15360 ≤ length (now infima))) ⌝ }
+    ensures few { λ r. ⌜ (r ≤ 64) × (240 * r ≤ length (now (infima .exit))) ⌝ }
     ensures columns { λ r. ⌜ membersOf n (now (infima .exit)) r ≡ treatmentGenerators n k (columnsFrom n (now (levels .entry)) 6 d) ⌝ }
 {
     let ones = [1u8; PLOTS];
@@ -111,14 +119,14 @@ fn place_one(
     counts: &mut [u8; MEMBERS],
     size: usize,
 ) -> usize
-    requires { ⌜ Held n (now store) (now counts) size × (length (now infima) ≡ 15360) × (e < 64) ⌝ }
+    requires { ⌜ Held n (now store) (now counts) size × (240 * e + 240 ≤ length (now infima)) × (e < 64) × (number (columnIn n (now infima) e) ≡ columnIn n (now infima) e) ⌝ }
     ensures { λ r. ⌜ Placed n (membersOf n (now (store .entry)) size) (columnIn n (now (infima .entry)) e) r (now (store .exit)) (now (counts .exit)) ⌝ }
 {
     let at = PLOTS * e;
     let end = at + n;
     let column = &infima[at..end];
-    let k = factor::classes(column);
-    place(store, counts, size, column, k as u8)
+    let k = largest(column);
+    place(store, counts, size, column, k)
 }
 
 // Places the first `total` columns; answers how many members they make, or TOO_MANY.
@@ -129,7 +137,7 @@ fn place_all(
     store: &mut [u8],
     counts: &mut [u8; MEMBERS],
 ) -> usize
-    requires { ⌜ (1 ≤ n) × (n ≤ 240) × (length (now infima) ≡ 15360) × (total ≤ 64) × (length (now store) ≡ 7680) × (length (now counts) ≡ 32) × ((F : Column) → F ∈ membersOf n (now infima) total → number F ≡ F) ⌝ }
+    requires { ⌜ (1 ≤ n) × (n ≤ 240) × (240 * total ≤ length (now infima)) × (total ≤ 64) × (length (now store) ≡ 7680) × (length (now counts) ≡ 32) × ((F : Column) → F ∈ membersOf n (now infima) total → number F ≡ F) ⌝ }
     ensures { λ r. ⌜ AllPlaced n (membersOf n (now (infima .entry)) total) (now (store .exit)) (now (counts .exit)) r ⌝ }
 {
     let mut size = 0;
@@ -155,10 +163,30 @@ pub fn first_family(
     requires { ⌜ (1 ≤ n) × (n ≤ 240) × (d ≤ 6) × (1 ≤ k) × (k ≤ 6) × (2880 ≤ length (now levels)) × (7680 ≤ length (now family)) × (length (now store) ≡ 7680) ⌝ }
     ensures { λ r. ⌜ FirstFamily n k (columnsFrom n (now (levels .entry)) 6 d) (now (family .entry)) (now (family .exit)) r ⌝ }
 {
+    if d < FEW_COLUMNS {
+        let mut infima = [0u8; FEW_INFIMA];
+        return first_by(levels, n, d, k, &mut infima, store, family);
+    }
     let mut infima = [0u8; INFIMA];
-    let total = fill_infima(levels, n, d, k, &mut infima);
+    first_by(levels, n, d, k, &mut infima, store, family)
+}
+
+// The same, with memory for the infima of the choices.
+fn first_by(
+    levels: &[Level],
+    n: usize,
+    d: usize,
+    k: usize,
+    infima: &mut [u8],
+    store: &mut [u8],
+    family: &mut [u8],
+) -> usize
+    requires { ⌜ (1 ≤ n) × (n ≤ 240) × (d ≤ 6) × (1 ≤ k) × (k ≤ 6) × (2880 ≤ length (now levels)) × (7680 ≤ length (now family)) × (length (now store) ≡ 7680) × (((d ≤ 3) × (1920 ≤ length (now infima))) ⊎ (15360 ≤ length (now infima))) ⌝ }
+    ensures { λ r. ⌜ FirstFamily n k (columnsFrom n (now (levels .entry)) 6 d) (now (family .entry)) (now (family .exit)) r ⌝ }
+{
+    let total = fill_infima(levels, n, d, k, infima);
     let mut counts = [0u8; MEMBERS];
-    let start = place_all(&infima, total, n, store, &mut counts);
+    let start = place_all(infima, total, n, store, &mut counts);
     if start == TOO_MANY {
         return TOO_MANY;
     }

@@ -11,10 +11,9 @@ use denote.Ref.{now}
 use lib.Dec.{eqb}
 use lib.ListN.{length, getD, set, length-set, length-replicate}
 use lib.Seq.{getD-set-same, getD-set-other}
-use Rattle.rules.specs.Factor.{classes}
-use Rattle.rules.proofs.ClassCount.{classes-most}
+use Rattle.rules.specs.Factor.{number, classes}
 use Rattle.design.specs.State.{columnIn}
-use Rattle.design.proofs.Asked.{part-is, length-column}
+use Rattle.design.proofs.Asked.{part-is}
 use Rattle.design.proofs.crossing.class_counts.Statement.{statement}
 use Rattle.design.proofs.crossing.class_counts.Tie as tie
 
@@ -39,18 +38,14 @@ turn n i k family counts h e before p l = go (eqb p i) refl
         getD-set-other counts i p k 0 d ∙ before p (omega arith)
 
 -- where the loop stands, seen from the place at which a member is counted
-abbrev here : tie.After-classes Inv-loop μ-loop → tie.At-loop Inv-loop μ-loop
+abbrev here : tie.After-largest Inv-loop μ-loop → tie.At-loop Inv-loop μ-loop
 here w = w .before .before .before
 
 -- the number of classes of member i
-counted : (w : tie.After-classes Inv-loop μ-loop) → let s = here w .before .before .args in (w .classes .result ≡ classes (columnIn (s .n) (now (s .family)) (here w .loop .i))) × (w .classes .result ≤ 240)
+counted : (w : tie.After-largest Inv-loop μ-loop) → let s = here w .before .before .args in w .largest .result ≡ classes (columnIn (s .n) (now (s .family)) (here w .loop .i))
 counted w =
-    let start = here w .before .before in
-    let s = start .args in
-    let i = here w .loop .i in
-    let e : w .classes .result ≡ classes (columnIn (s .n) (now (s .family)) i) = w .classes .ensures ∙ ap classes (part-is (s .n) (240 * i) (now (s .family))) in
-    let l : length (columnIn (s .n) (now (s .family)) i) ≡ s .n = length-column (s .n) i (now (s .family)) (omega arith) in
-    (e, omega (arith, classes-most (columnIn (s .n) (now (s .family)) i)))
+    let s = here w .before .before .args in
+    w .largest .ensures ∙ ap classes (part-is (s .n) (240 * here w .loop .i) (now (s .family)))
 
 loop-holds : tie.Need-loop-holds Inv-loop μ-loop
 loop-holds c = (omega arith, length-replicate {A = ℕ} 32 0, λ p h. absurd (not-suc-le-zero h))
@@ -61,20 +56,23 @@ mul-at c = omega arith
 add-end : tie.Need-add-end Inv-loop μ-loop
 add-end c = omega arith
 
-sub-classes : tie.Need-sub-classes Inv-loop μ-loop
-sub-classes c = omega arith
+sub-largest : tie.Need-sub-largest Inv-loop μ-loop
+sub-largest c = omega arith
 
-part-classes-start : tie.Need-part-classes-start Inv-loop μ-loop
-part-classes-start c = omega arith
+part-largest-start : tie.Need-part-largest-start Inv-loop μ-loop
+part-largest-start c = omega arith
 
-part-classes-end : tie.Need-part-classes-end Inv-loop μ-loop
-part-classes-end c = omega arith
+part-largest-end : tie.Need-part-largest-end Inv-loop μ-loop
+part-largest-end c = omega arith
 
-classes-requires : tie.Need-classes-requires Inv-loop μ-loop
-classes-requires c κs = tt
-
-cast-counts : tie.Need-cast-counts Inv-loop μ-loop
-cast-counts c = omega (arith, counted c .1)
+largest-requires : tie.Need-largest-requires Inv-loop μ-loop
+largest-requires c κs =
+    let b = c .before .before in
+    let start = b .before .before in
+    let s = start .args in
+    let i = b .loop .i in
+    let is = part-is (s .n) (240 * i) (now (s .family)) in
+    ap number is ∙ start .pre .1 .numbered i (omega arith) ∙ sym is
 
 array-write-counts : tie.Need-array-write-counts Inv-loop μ-loop
 array-write-counts c = omega arith
@@ -91,8 +89,8 @@ loop-again c =
     let s = b .before .before .args in
     let i = b .loop .i in (
       omega arith,
-      length-set (b .loop .counts) i (c .classes .result) ∙ b .loop .inv .1,
-      turn (s .n) i (c .classes .result) (now (s .family)) (b .loop .counts) (omega arith) (counted c .0) (b .loop .inv .2),
+      length-set (b .loop .counts) i (c .largest .result) ∙ b .loop .inv .1,
+      turn (s .n) i (c .largest .result) (now (s .family)) (b .loop .counts) (omega arith) (counted c) (b .loop .inv .2),
     )
 
 returns : tie.Need-returns Inv-loop μ-loop
@@ -111,11 +109,10 @@ class-counts-spec =
     loop-holds
     mul-at
     add-end
-    sub-classes
-    part-classes-start
-    part-classes-end
-    classes-requires
-    cast-counts
+    sub-largest
+    part-largest-start
+    part-largest-end
+    largest-requires
     array-write-counts
     add-i
     loop-less

@@ -38,10 +38,10 @@ abbrev treatments : tie.Start Inv-loop μ-loop → Family
 treatments start = let s = start .args in membersOf (s .n) (now (s .first)) (s .first-size)
 
 class-counts-requires : tie.Need-class-counts-requires Inv-loop μ-loop
-class-counts-requires c κs = let s = c .before .before .before in (s .pre .1, s .pre .2 .room, s .pre .2 .few)
+class-counts-requires c κs = let s = c .before .before .before in (s .pre .1, s .pre .2)
 
 class-counts-requires-2 : tie.Need-class-counts-requires-2 Inv-loop μ-loop
-class-counts-requires-2 c κs = let s = c .before .before .before .before in (s .pre .1, s .pre .3 .room, s .pre .3 .few)
+class-counts-requires-2 c κs = let s = c .before .before .before .before in (s .pre .1, s .pre .3)
 
 loop-holds : tie.Need-loop-holds Inv-loop μ-loop
 loop-holds c =

@@ -24,7 +24,7 @@ met w = infimum (now (start w .args .column)) (columnIn (length (now (start w .a
 
 -- the part lies in the buffer
 fits : (w : tie.After-infimum) → 240 * start w .args .e + 240 ≤ length (now (start w .args .infima))
-fits w = omega arith
+fits w = start w .pre .3
 
 -- what is put is the infimum
 taken : (w : tie.After-infimum) → take (length (now (start w .args .column))) (w .infimum .last .1 .1 .0) ≡ met w

@@ -32,7 +32,7 @@ add-infimum-requires : tie.Need-add-infimum-requires Inv-loop μ-loop
 add-infimum-requires c κs =
     let b = c .before .before .before in
     let x = b .before .loop .inv .1 in
-    (x .room .some, x .room .most, x .room .bytes, omega (arith, x .high), omega arith)
+    (x .room .some, x .room .most, omega (arith, x .high, x .bytes), omega (arith, x .bytes), omega (arith, x .high), omega arith)
 
 add-lengths : tie.Need-add-lengths Inv-loop μ-loop
 add-lengths c = omega arith
@@ -65,15 +65,13 @@ loop-again c =
     let less : e < s .args .total = omega arith in (
       omega arith,
       ⊎-elim
-          (λ w. extending-more column (s .args .k) (now (s .args .infima)) (now (s .args .lengths)) (s .args .total) (b .loop .infima) (b .loop .lengths) (b .loop .now) e x less (s .pre .1) (s .pre .2) (w .0 .taken) (c .if1 .infima) (c .if1 .lengths) (c .if1 .now) (w .5 ∙ w .2 .ensures) (w .6) (w .7))
-          (λ w. extending-same column (s .args .k) (now (s .args .infima)) (now (s .args .lengths)) (s .args .total) (b .loop .infima) (b .loop .lengths) (b .loop .now) e x less (s .pre .1) (s .pre .2) (w .0 .left) (c .if1 .infima) (c .if1 .lengths) (c .if1 .now) (w .1) (w .2) (w .3))
+          (λ w. extending-more column (s .args .k) (now (s .args .infima)) (now (s .args .lengths)) (s .args .total) (b .loop .infima) (b .loop .lengths) (b .loop .now) e x less (s .pre .1) (s .pre .2) (s .pre .3) (w .0 .taken) (c .if1 .infima) (c .if1 .lengths) (c .if1 .now) (w .5 ∙ w .2 .ensures) (w .6) (w .7))
+          (λ w. extending-same column (s .args .k) (now (s .args .infima)) (now (s .args .lengths)) (s .args .total) (b .loop .infima) (b .loop .lengths) (b .loop .now) e x less (s .pre .1) (s .pre .2) (s .pre .3) (w .0 .left) (c .if1 .infima) (c .if1 .lengths) (c .if1 .now) (w .1) (w .2) (w .3))
           (c .if1 .came),
     )
 
 same-length : tie.Need-same-length Inv-loop μ-loop
-same-length c =
-    let b = c .before in
-    b .loop .inv .1 .room .bytes ∙ sym (b .before .before .before .pre .0 .bytes)
+same-length c = c .before .loop .inv .1 .bytes
 
 returns : tie.Need-returns Inv-loop μ-loop
 returns c =

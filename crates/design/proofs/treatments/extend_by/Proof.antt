@@ -76,7 +76,7 @@ extend-requires : tie.Need-extend-requires
 extend-requires c κs =
     let w = c .before .before .before in
     let s = start w in
-    (subst (λ (m : ℕ). Room m (now (s .args .infima)) (now (s .args .lengths))) (sym (length-is w)) (s .pre .0), s .pre .1, s .pre .2)
+    (subst (λ (m : ℕ). Room m (now (s .args .lengths))) (sym (length-is w)) (s .pre .0), s .pre .1, s .pre .2, s .pre .4)
 
 same-length : tie.Need-same-length
 same-length c = search needs
@@ -87,7 +87,7 @@ returns c =
     let w = q .before .before .before .before in
     let s = start w in
     let k = s .args .k in (
-      (subst (λ (m : ℕ). Room m (q .extend .last .0) (q .extend .last .1 .0)) (length-is w) (q .extend .ensures .0 .0), q .extend .ensures .0 .1),
+      (subst (λ (m : ℕ). Room m (q .extend .last .1 .0)) (length-is w) (q .extend .ensures .0 .0), q .extend .ensures .0 .1),
       λ Cs i. subst (λ (m : ℕ). Infima m (q .extend .last .0) (q .extend .last .1 .0) (q .extend .result) (extended k (column w) Cs)) (length-is w)
           (q .extend .ensures .1 (column w) Cs (sym (taken w)) (subst (λ (m : ℕ). Infima m (now (s .args .infima)) (now (s .args .lengths)) (s .args .total) Cs) (sym (length-is w)) i)),
     )

@@ -1,107 +1,63 @@
--- `first_family` meets its contract: the infima are filled in and placed, and the family is closed.
+-- `first_family` meets its contract: the first treatment family, with memory for as many infima as there may be.
 -- Assumes nothing.
-use mathlib.Core.Path.{_≡_, refl, subst}
-use mathlib.Core.List.{List}
-use Prim.Native.Nat.{ℕ}
+use mathlib.Core.Path.{sym}
+use mathlib.Core.Logic.{inl, inr}
+use Prim.Native.Nat.{ℕ, _≤_}
+use native.Mathlib.Nat.{le-of-eq}
 use native.Mathlib.Omega.{arith}
-use borrow.Author.Needs.{needs}
-use denote.Ref.{now}
 use lib.ListN.{length-replicate}
-use Rattle.rules.specs.Factor.{Column, number}
-use Rattle.rules.specs.Family.{_∈_, columnsFrom, membersOf}
-use Rattle.rules.specs.Closing.{treatmentGenerators, onlySupremum, tooMany, close}
-use Rattle.design.specs.State.{Begun}
-use Rattle.design.proofs.Choosing.{generators-numbered, all-on, all-over, begun-own, first-over}
+use borrow.Author.Needs.{needs}
 use Rattle.design.proofs.treatments.first_family.Statement.{statement}
 use Rattle.design.proofs.treatments.first_family.Tie as tie
 
--- where the function starts, seen from the place at which the infima are filled in
-abbrev start : tie.After-fill-infima → tie.Start
-start f = f .before .before .before .before .before
+slice-aggregate-first-by : tie.Need-slice-aggregate-first-by
+slice-aggregate-first-by c = search needs
 
--- the infima
-abbrev infima : tie.After-fill-infima → List ℕ
-infima f = f .fill-infima .last .1 .1 .1 .1 .0
-
--- the treatment columns
-abbrev columns : tie.After-fill-infima → List Column
-columns f = columnsFrom (start f .args .n) (now (start f .args .levels)) 6 (start f .args .d)
-
--- the infima of the choices
-abbrev generators : tie.After-fill-infima → List Column
-generators f = treatmentGenerators (start f .args .n) (start f .args .k) (columns f)
-
--- they are numbered
-numbered : (f : tie.After-fill-infima) (F : Column) → F ∈ membersOf (start f .args .n) (infima f) (f .fill-infima .result) → number F ≡ F
-numbered f F m =
-    let s = start f in
-    generators-numbered (s .args .n) (s .args .k) (s .pre .1) (now (s .args .levels)) 6 (s .args .d) (omega arith) F (subst (λ (S : List Column). F ∈ S) (f .fill-infima .ensures .1) m)
-
--- where the infima are filled in, seen from the place at which they are placed
-abbrev filled : tie.After-place-all → tie.After-fill-infima
-filled p = p .before .before .before .before .before
-
--- there is no place for one
-too-large : (p : tie.After-place-all) → p .place-all .result ≡ 33 → close onlySupremum (generators (filled p)) ≡ tooMany
-too-large p e = subst (λ (S : List Column). close onlySupremum S ≡ tooMany) (filled p .fill-infima .ensures .1) (all-over e (p .place-all .ensures))
-
--- all are placed
-begun : (p : tie.After-place-all) → (p .place-all .result ≡ 33 → ⊥) → Begun (start (filled p) .args .n) (generators (filled p)) (p .place-all .last .1 .1 .1 .0) (p .place-all .last .1 .1 .1 .1 .0) (p .place-all .result)
-begun p d =
-    subst (λ (S : List Column). Begun (start (filled p) .args .n) S (p .place-all .last .1 .1 .1 .0) (p .place-all .last .1 .1 .1 .1 .0) (p .place-all .result)) (filled p .fill-infima .ensures .1)
-    (all-on d (p .place-all .ensures))
-
-slice-aggregate-fill-infima : tie.Need-slice-aggregate-fill-infima
-slice-aggregate-fill-infima c = search needs
-
-fill-infima-requires : tie.Need-fill-infima-requires
-fill-infima-requires c κs = search needs
-
-slice-aggregate-place-all : tie.Need-slice-aggregate-place-all
-slice-aggregate-place-all c = search needs
-
-place-all-requires : tie.Need-place-all-requires
-place-all-requires c κs =
-    let f = c .before .before .before .before in
-    let s = start f in
-    (s .pre .0, s .pre .1, search needs, f .fill-infima .ensures .0, s .pre .7, length-replicate {A = ℕ} 32 0, numbered f)
+first-by-requires : tie.Need-first-by-requires
+first-by-requires c κs =
+    let t = c .before .before .before in
+    let s = t .before .before .before .before in
+    let few : s .args .d ≤ 3 = omega (arith, t .if1 .taken) in
+    (s .pre .0, s .pre .1, s .pre .2, s .pre .3, s .pre .4, s .pre .5, s .pre .6, s .pre .7, inl (few, le-of-eq (sym (length-replicate {A = ℕ} 1920 0))))
 
 same-length : tie.Need-same-length
 same-length c = search needs
 
-returns : tie.Need-returns
-returns c = first-over refl (too-large (c .before .before .before) (c .if1 .taken)) refl
-
-close-first-requires : tie.Need-close-first-requires
-close-first-requires c κs =
-    let l = c .before .before .before in
-    let p = l .before .before .before in
-    (begun-own (begun p (l .if1 .left)), start (filled p) .pre .6)
-
 same-length-2 : tie.Need-same-length-2
 same-length-2 c = search needs
+
+returns : tie.Need-returns
+returns c = search needs
+
+slice-aggregate-first-by-2 : tie.Need-slice-aggregate-first-by-2
+slice-aggregate-first-by-2 c = search needs
+
+first-by-requires-2 : tie.Need-first-by-requires-2
+first-by-requires-2 c κs =
+    let t = c .before .before .before in
+    let s = t .before .before .before .before in
+    (s .pre .0, s .pre .1, s .pre .2, s .pre .3, s .pre .4, s .pre .5, s .pre .6, s .pre .7, inr (le-of-eq (sym (length-replicate {A = ℕ} 15360 0))))
 
 same-length-3 : tie.Need-same-length-3
 same-length-3 c = search needs
 
+same-length-4 : tie.Need-same-length-4
+same-length-4 c = search needs
+
 returns-2 : tie.Need-returns-2
-returns-2 c =
-    let z = c .before .before .before .before in
-    let l = z .before .before .before .before in
-    let p = l .before .before .before in
-    z .close-first .ensures (start (filled p) .args .k) (columns (filled p)) (begun p (l .if1 .left))
+returns-2 c = search needs
 
 pub first-family-spec : {M : Type 1} → statement M
 first-family-spec =
     tie.close
     (tie.spec
-    slice-aggregate-fill-infima
-    fill-infima-requires
-    slice-aggregate-place-all
-    place-all-requires
+    slice-aggregate-first-by
+    first-by-requires
     same-length
-    returns
-    close-first-requires
     same-length-2
+    returns
+    slice-aggregate-first-by-2
+    first-by-requires-2
     same-length-3
+    same-length-4
     returns-2)

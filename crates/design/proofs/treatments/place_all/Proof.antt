@@ -36,7 +36,9 @@ place-one-requires : tie.Need-place-one-requires Inv-loop μ-loop
 place-one-requires c κs =
     let b = c .before .before .before in
     let s = b .before .before .before in
-    (b .loop .inv .1 .held, s .pre .2, omega arith)
+    let e = b .loop .e in
+    let less : e < s .args .total = omega arith in
+    (b .loop .inv .1 .held, omega arith, omega arith, s .pre .6 (columnIn (s .args .n) (now (s .args .infima)) e) (column-member (s .args .n) (s .pre .1) (now (s .args .infima)) e (s .args .total) less))
 
 same-length : tie.Need-same-length Inv-loop μ-loop
 same-length c = search needs

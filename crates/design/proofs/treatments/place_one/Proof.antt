@@ -1,13 +1,12 @@
 -- `place_one` meets its contract: what is placed is the column of the buffer.
 -- Assumes nothing.
-use mathlib.Core.Path.{_≡_, ap, _∙_}
+use mathlib.Core.Path.{_≡_, sym, ap, _∙_}
 use Prim.Native.Nat.{_≤_}
 use native.Mathlib.Omega.{arith}
 use borrow.Author.Needs.{needs}
 use denote.Ref.{now}
 use lib.ListN.{length}
-use Rattle.rules.specs.Factor.{Column, classes}
-use Rattle.rules.proofs.ClassCount.{classes-most}
+use Rattle.rules.specs.Factor.{Column, number}
 use Rattle.design.specs.State.{columnIn}
 use Rattle.design.proofs.Placing.{part-column}
 use Rattle.design.proofs.Start.{lentColumn, placed-on, held-on}
@@ -16,25 +15,22 @@ use Rattle.design.proofs.treatments.place_one.Statement.{statement}
 use Rattle.design.proofs.treatments.place_one.Tie as tie
 
 -- where the function starts, seen from the place at which the classes are counted
-abbrev start : tie.After-classes → tie.Start
+abbrev start : tie.After-largest → tie.Start
 start w = w .before .before .before .before
 
 -- the column of the buffer
-abbrev column : tie.After-classes → Column
+abbrev column : tie.After-largest → Column
 column w = columnIn (start w .args .n) (now (start w .args .infima)) (start w .args .e)
 
 -- it is on n plots
-length-is : (w : tie.After-classes) → length (column w) ≡ start w .args .n
+length-is : (w : tie.After-largest) → length (column w) ≡ start w .args .n
 length-is w =
     let s = start w in
     length-part (s .args .n) (s .args .e) (now (s .args .infima)) (s .pre .0 .most) (omega arith)
 
--- its number of classes is small
-counted : (w : tie.After-classes) → w .classes .result ≤ 240
-counted w =
-    let s = start w in
-    let e : w .classes .result ≡ classes (column w) = w .classes .ensures ∙ ap classes (part-column (s .args .n) (now (s .args .infima)) (s .args .e)) in
-    omega (arith, classes-most (column w), length-is w, s .pre .0 .most)
+-- it is lent as it is
+is : (s : tie.Start) → lentColumn (s .args .n) (s .args .e) (now (s .args .infima)) (s .pre .0 .most) (s .pre .1) ≡ columnIn (s .args .n) (now (s .args .infima)) (s .args .e)
+is s = part-column (s .args .n) (now (s .args .infima)) (s .args .e)
 
 mul-at : tie.Need-mul-at
 mul-at c = search needs
@@ -51,18 +47,17 @@ part-column-start c = search needs
 part-column-end : tie.Need-part-column-end
 part-column-end c = search needs
 
-classes-requires : tie.Need-classes-requires
-classes-requires c κs = search needs
-
-cast-place : tie.Need-cast-place
-cast-place c = omega (arith, counted (c .before .before))
+largest-requires : tie.Need-largest-requires
+largest-requires c κs =
+    let s = c .before .before .before in
+    ap number (is s) ∙ s .pre .3 ∙ sym (is s)
 
 place-requires : tie.Need-place-requires
 place-requires c κs =
     let w = c .before .before in
     let s = start w in (
       held-on (s .args .n) (now (s .args .store)) (now (s .args .counts)) (s .args .size) (lentColumn (s .args .n) (s .args .e) (now (s .args .infima)) (s .pre .0 .most) (omega arith)) (column w) (part-column (s .args .n) (now (s .args .infima)) (s .args .e)) (length-is w) (s .pre .0),
-      w .classes .ensures,
+      w .largest .ensures,
     )
 
 same-length : tie.Need-same-length
@@ -84,8 +79,7 @@ place-one-spec =
     sub-column
     part-column-start
     part-column-end
-    classes-requires
-    cast-place
+    largest-requires
     place-requires
     same-length
     returns)
