@@ -14,7 +14,7 @@ use lib.Seq.{paste, take-suc, take-all, take-length, length-take-le, getD-set-sa
 use borrow.Author.Tests.{lt-ltb, le-ltb, ltb-true, ltb-false, eqb-true, eqb-false}
 use Rattle.rules.specs.Factor.{Column, number, infimum, universal}
 use Rattle.rules.specs.Family.{Family, _∈_, Distinct, columnsFrom, membersOf, insertAll, written}
-use Rattle.rules.specs.Closing.{choices, infimumAll, treatmentGenerators, firstTreatmentFamily, onlySupremum, tooMany, family, close, given, Chosen, none-of, skipping, taking}
+use Rattle.rules.specs.Closing.{choices, infimumAll, treatmentGenerators, onlySupremum, tooMany, family, close, given, Chosen, none-of, skipping, taking}
 use Rattle.rules.proofs.Numbering.{by-cases, length-number, length-infimum, number-infimum}
 use Rattle.rules.proofs.Supremum.{infimum-equivalent, number-equivalent, equivalent-refl}
 use Rattle.rules.proofs.Bounds.{numbered-equal}
@@ -25,8 +25,7 @@ use Rattle.rules.proofs.Families.{choices-chosen}
 use Rattle.factor.specs.Lent.{onCommon, overlay}
 use Rattle.factor.proofs.Lent.{common-all, take-overlay}
 use Rattle.design.specs.State.{columnIn, Placed, full, old, new, grownTo, Begun, makeOf, Work, Closed, exceeded, complete}
-use Rattle.design.specs.Judging.{Listed, unlisted, listed}
-use Rattle.design.specs.Treatments.{shorter, extended, Room, Infima, AllPlaced, over, on, FirstFamily, no-first, a-first}
+use Rattle.design.specs.Treatments.{shorter, extended, Room, Infima, AllPlaced, over, on}
 use Rattle.design.proofs.Placing.{grown-old, part-column}
 use Rattle.design.proofs.Start.{begun-more}
 
@@ -540,17 +539,6 @@ closed-on d (complete w q) = (w, q)
 pub closed-over : {n : ℕ} {infima : Bool} {Gs : List Column} {store counts marks : List ℕ} {r : ℕ} → r ≡ 33 → Closed n infima Gs store counts marks r → close (makeOf infima) Gs ≡ tooMany
 closed-over e (exceeded w q) = q
 closed-over e (complete w q) = absurd (beyond e (w .held .few))
-
--- the first treatment family is too large
-pub first-over : {n k : ℕ} {Ts : List Column} {before after : List ℕ} {r : ℕ} → r ≡ 33 → close onlySupremum (treatmentGenerators n k Ts) ≡ tooMany → after ≡ before → FirstFamily n k Ts before after r
-unfolding firstTreatmentFamily
-first-over e q s = no-first e q s
-
--- the first treatment family is written in its order
-pub first-listed : {n k : ℕ} {Ts : List Column} {before after marks order : List ℕ} {r : ℕ} → Listed n false (treatmentGenerators n k Ts) before after marks order r → FirstFamily n k Ts before after r
-unfolding firstTreatmentFamily
-first-listed (unlisted e q s) = no-first e q s
-first-listed (listed S q l few w t) = a-first S q l few w
 
 -- ---- the infima are numbered
 

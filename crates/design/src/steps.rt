@@ -88,6 +88,7 @@ fn full_from_11(
     ensures answer { λ r. ⌜ fullNumbers r ≡ fullNumbersOf (question11 n (membersOf n (now (plot .entry)) held) (firstTreatmentFamily n k (columnsFrom n (now (levels .entry)) 6 d))) ⌝ }
     ensures buffer { λ _. ⌜ now («treatment_family» .exit) ≡ treatmentBuffer (now («treatment_family» .entry)) (question11 n (membersOf n (now (plot .entry)) held) (firstTreatmentFamily n k (columnsFrom n (now (levels .entry)) 6 d))) ⌝ }
 {
-    let size = first_family(levels, n, d, k, store, treatment_family);
-    judge_treatments(plot, held, size, n, store, treatment_family)
+    let mut marks = [0u8; PAIRS];
+    let closed = first_family(levels, n, d, k, store, &mut marks, treatment_family);
+    judge_treatments(plot, held, closed, &marks, n, store, treatment_family)
 }

@@ -5,7 +5,7 @@ ghost use lib.ListN.{length};
 ghost use Rattle.rules.specs.Factor.{uniform, orthogonal};
 ghost use Rattle.rules.specs.Family.{membersOf};
 ghost use Rattle.rules.specs.Design.{refused, question8, question9, firstFailing, plotBuffer, question11, question12, question13, firstPair, firstCross, treatmentBuffer};
-ghost use Rattle.design.specs.Judging.{Judging};
+ghost use Rattle.design.specs.Judging.{Tells, Judging};
 ghost use Rattle.design.specs.Closings.{closedIn, Ready};
 ghost use Rattle.design.specs.Treatments.{Numbered};
 ghost use Rattle.design.specs.Answers.{plotNumbers, plotNumbersOf, fullNumbers, fullNumbersOf, fullRefusing};
@@ -18,7 +18,7 @@ use crate::closed::ClosedFamily;
 use crate::closing::PAIRS;
 use crate::closing::TOO_MANY;
 use crate::crossing::cross;
-use crate::pairs::first_pair;
+use crate::questions::Places;
 use crate::questions::first_apart;
 use crate::questions::first_unequal;
 use crate::sorting::sort;
@@ -116,35 +116,39 @@ fn treatments_refused(number: u32, i: usize, j: usize, plot: usize, treatment: u
 pub fn judge_treatments(
     plot_family: &[u8],
     plot: usize,
-    size: usize,
+    closed: ClosedFamily,
+    marks: &[u8; PAIRS],
     n: usize,
     store: &mut [u8],
     treatment_family: &mut [u8],
 ) -> FullDesign
-    requires { ⌜ (1 ≤ n) × (n ≤ 240) × Numbered n (now «plot_family») plot × ((size ≡ 33 → ⊥) → Numbered n (now «treatment_family») size) × (length (now store) ≡ 7680) ⌝ }
-    ensures answer { λ r. ⌜ fullNumbers r ≡ fullNumbersOf (question11 n (membersOf n (now («plot_family» .entry)) plot) (closedIn n (now («treatment_family» .entry)) size)) ⌝ }
-    ensures buffer { λ _. ⌜ now («treatment_family» .exit) ≡ treatmentBuffer (now («treatment_family» .entry)) (question11 n (membersOf n (now («plot_family» .entry)) plot) (closedIn n (now («treatment_family» .entry)) size)) ⌝ }
+    requires { ⌜ (1 ≤ n) × (n ≤ 240) × Numbered n (now «plot_family») plot × ((closed .size ≡ 33 → ⊥) → Numbered n (now «treatment_family») (closed .size) × Tells (orthogonal n) (membersOf n (now «treatment_family») (closed .size)) (closed .order) (now marks) (closed .size)) × (length (now store) ≡ 7680) ⌝ }
+    ensures answer { λ r. ⌜ fullNumbers r ≡ fullNumbersOf (question11 n (membersOf n (now («plot_family» .entry)) plot) (closedIn n (now («treatment_family» .entry)) (closed .size))) ⌝ }
+    ensures buffer { λ _. ⌜ now («treatment_family» .exit) ≡ treatmentBuffer (now («treatment_family» .entry)) (question11 n (membersOf n (now («plot_family» .entry)) plot) (closedIn n (now («treatment_family» .entry)) (closed .size))) ⌝ }
 {
+    let size = closed.size;
     if size == TOO_MANY {
         return treatments_refused(11, 0, 0, plot, 0);
     }
-    from_12(plot_family, plot, size, n, store, treatment_family)
+    let order = closed.order;
+    let pair = first_apart(&order, marks, size);
+    from_12(plot_family, plot, pair, size, n, store, treatment_family)
 }
 
-// Questions 12 to 14.
+// Questions 12 to 14, with the first pair of treatment members that are not orthogonal.
 fn from_12(
     plot_family: &[u8],
     plot: usize,
+    pair: Places,
     size: usize,
     n: usize,
     store: &mut [u8],
     treatment_family: &mut [u8],
 ) -> FullDesign
-    requires { ⌜ (1 ≤ n) × (n ≤ 240) × Numbered n (now «plot_family») plot × Numbered n (now «treatment_family») size × (length (now store) ≡ 7680) ⌝ }
+    requires { ⌜ (1 ≤ n) × (n ≤ 240) × Numbered n (now «plot_family») plot × Numbered n (now «treatment_family») size × (pair .first ≡ firstPair (orthogonal n) 1 (membersOf n (now «treatment_family») size) .first) × (pair .second ≡ firstPair (orthogonal n) 1 (membersOf n (now «treatment_family») size) .second) × (length (now store) ≡ 7680) ⌝ }
     ensures answer { λ r. ⌜ fullNumbers r ≡ fullNumbersOf (question12 n (membersOf n (now («plot_family» .entry)) plot) (membersOf n (now («treatment_family» .entry)) size) (firstPair (orthogonal n) 1 (membersOf n (now («treatment_family» .entry)) size))) ⌝ }
     ensures buffer { λ _. ⌜ now («treatment_family» .exit) ≡ treatmentBuffer (now («treatment_family» .entry)) (question12 n (membersOf n (now («plot_family» .entry)) plot) (membersOf n (now («treatment_family» .entry)) size) (firstPair (orthogonal n) 1 (membersOf n (now («treatment_family» .entry)) size))) ⌝ }
 {
-    let pair = first_pair(treatment_family, n, size);
     let at = pair.first;
     if at != 0 {
         return treatments_refused(12, at, pair.second, plot, size);
