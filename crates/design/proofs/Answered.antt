@@ -86,19 +86,19 @@ module _ (n : ℕ) (memory : List ℕ) (m : ℕ) where
 
 module _ (n : ℕ) (Fs : List Column) where
   -- closing says which
-  module _ {store counts meets joins : List ℕ} {r : ℕ} (c : Closed n true (plotGenerators n Fs) store counts meets joins r) where
+  module _ {store counts marks : List ℕ} {r : ℕ} (c : Closed n true (plotGenerators n Fs) store counts marks r) where
     pub closed-over : r ≡ 33 → plotFamily n Fs ≡ tooMany
     unfolding plotFamily
     closed-over e = go c
       where
-        go : Closed n true (plotGenerators n Fs) store counts meets joins r → close both (plotGenerators n Fs) ≡ tooMany
+        go : Closed n true (plotGenerators n Fs) store counts marks r → close both (plotGenerators n Fs) ≡ tooMany
         go (exceeded q t) = t
         go (complete w t) = absurd (omega (arith, w .held .few))
 
-    pub closed-work : (r ≡ 33 → ⊥) → Work n true (plotGenerators n Fs) store counts meets joins r r 0
+    pub closed-work : (r ≡ 33 → ⊥) → Work n true (plotGenerators n Fs) store counts marks r r 0
     closed-work ne = go c
       where
-        go : Closed n true (plotGenerators n Fs) store counts meets joins r → Work n true (plotGenerators n Fs) store counts meets joins r r 0
+        go : Closed n true (plotGenerators n Fs) store counts marks r → Work n true (plotGenerators n Fs) store counts marks r r 0
         go (exceeded q t) = absurd (ne q)
         go (complete w t) = w
 
@@ -106,7 +106,7 @@ module _ (n : ℕ) (Fs : List Column) where
     unfolding plotFamily
     closed-family ne = go c
       where
-        go : Closed n true (plotGenerators n Fs) store counts meets joins r → close both (plotGenerators n Fs) ≡ family (insertAll (membersOf n store r) [])
+        go : Closed n true (plotGenerators n Fs) store counts marks r → close both (plotGenerators n Fs) ≡ family (insertAll (membersOf n store r) [])
         go (exceeded q t) = absurd (ne q)
         go (complete w t) = t
 

@@ -14,7 +14,7 @@ use lib.Seq.{paste, take-suc, take-all, take-length, length-take-le, getD-set-sa
 use borrow.Author.Tests.{lt-ltb, le-ltb, ltb-true, ltb-false, eqb-true, eqb-false}
 use Rattle.rules.specs.Factor.{Column, number, infimum, universal}
 use Rattle.rules.specs.Family.{Family, _∈_, Distinct, columnsFrom, membersOf, insertAll, written}
-use Rattle.rules.specs.Closing.{choices, infimumAll, treatmentGenerators, firstTreatmentFamily, onlySupremum, tooMany, family, close, given, Chosen, none-of, skipping, taking}
+use Rattle.rules.specs.Closing.{choices, infimumAll, treatmentGenerators, onlySupremum, tooMany, family, close, given, Chosen, none-of, skipping, taking}
 use Rattle.rules.proofs.Numbering.{by-cases, length-number, length-infimum, number-infimum}
 use Rattle.rules.proofs.Supremum.{infimum-equivalent, number-equivalent, equivalent-refl}
 use Rattle.rules.proofs.Bounds.{numbered-equal}
@@ -25,7 +25,7 @@ use Rattle.rules.proofs.Families.{choices-chosen}
 use Rattle.factor.specs.Lent.{onCommon, overlay}
 use Rattle.factor.proofs.Lent.{common-all, take-overlay}
 use Rattle.design.specs.State.{columnIn, Placed, full, old, new, grownTo, Begun, makeOf, Work, Closed, exceeded, complete}
-use Rattle.design.specs.Treatments.{shorter, extended, Room, Infima, AllPlaced, over, on, FirstFamily, no-first, a-first}
+use Rattle.design.specs.Treatments.{shorter, extended, Room, Infima, AllPlaced, over, on}
 use Rattle.design.proofs.Placing.{grown-old, part-column}
 use Rattle.design.proofs.Start.{begun-more}
 
@@ -530,26 +530,15 @@ begun-own {n} {As} {store} {counts} {size} b = record {
 -- ---- the closed family
 
 -- all pairs are combined
-pub closed-on : {n : ℕ} {infima : Bool} {Gs : List Column} {store counts meets joins : List ℕ} {r : ℕ} → (r ≡ 33 → ⊥) → Closed n infima Gs store counts meets joins r
-    → Work n infima Gs store counts meets joins r r 0 × (close (makeOf infima) Gs ≡ family (insertAll (membersOf n store r) []))
+pub closed-on : {n : ℕ} {infima : Bool} {Gs : List Column} {store counts marks : List ℕ} {r : ℕ} → (r ≡ 33 → ⊥) → Closed n infima Gs store counts marks r
+    → Work n infima Gs store counts marks r r 0 × (close (makeOf infima) Gs ≡ family (insertAll (membersOf n store r) []))
 closed-on d (exceeded e q) = absurd (d e)
 closed-on d (complete w q) = (w, q)
 
 -- the family is too large
-pub closed-over : {n : ℕ} {infima : Bool} {Gs : List Column} {store counts meets joins : List ℕ} {r : ℕ} → r ≡ 33 → Closed n infima Gs store counts meets joins r → close (makeOf infima) Gs ≡ tooMany
+pub closed-over : {n : ℕ} {infima : Bool} {Gs : List Column} {store counts marks : List ℕ} {r : ℕ} → r ≡ 33 → Closed n infima Gs store counts marks r → close (makeOf infima) Gs ≡ tooMany
 closed-over e (exceeded w q) = q
 closed-over e (complete w q) = absurd (beyond e (w .held .few))
-
--- the first treatment family is too large
-pub first-over : {n k : ℕ} {Ts : List Column} {before after : List ℕ} {r : ℕ} → r ≡ 33 → close onlySupremum (treatmentGenerators n k Ts) ≡ tooMany → after ≡ before → FirstFamily n k Ts before after r
-unfolding firstTreatmentFamily
-first-over e q s = no-first e q s
-
--- the first treatment family is written in its order
-pub first-listed : {n k : ℕ} {Ts : List Column} {before after : List ℕ} {r : ℕ} (store : List ℕ) → n ≤ 240 → r ≤ 32 → Distinct (membersOf n store r) → close onlySupremum (treatmentGenerators n k Ts) ≡ family (insertAll (membersOf n store r) [])
-    → after ≡ written before 0 (insertAll (membersOf n store r) []) → FirstFamily n k Ts before after r
-unfolding firstTreatmentFamily
-first-listed {n} {r = r} store small few d q w = a-first (insertAll (membersOf n store r) []) q (sym (length-sorted (membersOf n store r) d ∙ length-members n small store r)) few w
 
 -- ---- the infima are numbered
 

@@ -2,7 +2,7 @@
 -- Assumes nothing.
 use Rattle.rules.specs.Factor.{Column, number, orthogonal, equality}
 use Rattle.rules.specs.Family.{Family, _∈_, written, membersOf}
-use Rattle.rules.specs.Closing.{Closing, tooMany, family, finalTreatmentFamily, firstTreatmentFamily, Chosen, none-of, skipping, taking, infimumAll, InFirstTreatmentFamily, of-universal, of-infimum, of-supremum}
+use Rattle.rules.specs.Closing.{Closing, tooMany, family, finalTreatmentFamily, firstTreatmentFamily, treatmentGenerators, Chosen, none-of, skipping, taking, infimumAll, InFirstTreatmentFamily, of-universal, of-infimum, of-supremum}
 use Rattle.rules.specs.Design.{Places, Answer, firstPair, firstCross, question11, question12, question13, question14, treatmentBuffer}
 use Rattle.rules.proofs.Families.{first-family-lists}
 use Rattle.rules.proofs.Supremum.{length-supremum}
@@ -17,11 +17,12 @@ use Rattle.rules.specs.Relation.{memberAt}
 use Rattle.design.proofs.Rewriting.{written-over}
 use mathlib.Core.Logic.{_⊎_, inl, inr}
 use Rattle.design.proofs.Answered.{held-over, held-on}
-use Rattle.design.proofs.Search.{pair-found, cross-found}
-use Rattle.design.specs.Search.{firstPairOf, crossFirst, crossSecond}
+use Rattle.design.proofs.Search.{cross-found}
+use Rattle.design.specs.Search.{crossFirst, crossSecond}
 use Rattle.design.specs.State.{columnIn}
 use Rattle.design.specs.Closings.{closedIn}
-use Rattle.design.specs.Treatments.{FirstFamily, no-first, a-first, orthogonalAt, Numbered}
+use Rattle.design.specs.Judging.{Tells, Listed, unlisted, listed}
+use Rattle.design.specs.Treatments.{orthogonalAt, Numbered}
 use mathlib.Core.Path.{_≡_, refl, sym, ap, _∙_, subst, ap₂}
 use mathlib.Core.Bool.{Bool, true, false}
 use mathlib.Core.List.{List, [], _∷_, List·Memᴰ·head, List·Memᴰ·tail, List·Memᴰ·cases-cons}
@@ -98,20 +99,6 @@ module _ (n : ℕ) (P : Family) where
 -- ---- the pairs found by place are those of the members
 
 module _ (n : ℕ) (small : n ≤ 240) where
-  pub pair-members : (b : List ℕ) (m : ℕ)
-      → (firstPairOf (λ i j. orthogonal n (columnIn n b i) (columnIn n b j)) m .first ≡ firstPair (orthogonal n) 1 (membersOf n b m) .first)
-      × (firstPairOf (λ i j. orthogonal n (columnIn n b i) (columnIn n b j)) m .second ≡ firstPair (orthogonal n) 1 (membersOf n b m) .second)
-  pair-members b m =
-      subst (λ (k : ℕ). (firstPairOf test k .first ≡ firstPair (orthogonal n) 1 (membersOf n b m) .first) × (firstPairOf test k .second ≡ firstPair (orthogonal n) 1 (membersOf n b m) .second)) len
-      (pair-found (orthogonal n) test (membersOf n b m) (λ i j h k. let kj : j < m = rw len at k in
-      sym (ap₂ (orthogonal n) (member-is n small b m i (omega arith)) (member-is n small b m j kj))))
-    where
-      test : ℕ → ℕ → Bool
-      test i j = orthogonal n (columnIn n b i) (columnIn n b j)
-
-      len : length (membersOf n b m) ≡ m
-      len = length-members n small b m
-
   pub cross-members : (a : List ℕ) (l : ℕ) (b : List ℕ) (m : ℕ)
       → (crossFirst (orthogonalAt n a b) l m ≡ firstCross (orthogonal n) 1 (membersOf n a l) (membersOf n b m) .first)
       × (crossSecond (orthogonalAt n a b) m (crossFirst (orthogonalAt n a b) l m) ≡ firstCross (orthogonal n) 1 (membersOf n a l) (membersOf n b m) .second)
@@ -191,7 +178,7 @@ module _ (n k : ℕ) (Ts : List Column) (on : (T : Column) → T ∈ Ts → leng
   first-length F (of-infimum {T} {C} c h) = infimum-length (T ∷ C) (λ U m. on U (chosen-in c U m))
   first-length F (of-supremum {F = G} {G = H} p q) = length-supremum G H (first-length G p ∙ sym (first-length H q)) ∙ first-length G p
 
-  module _ (before after : List ℕ) (r : ℕ) (small : n ≤ 240) (room : 7680 ≤ length before) where
+  module _ (before after marks order : List ℕ) (r : ℕ) (small : n ≤ 240) (room : 7680 ≤ length before) where
     module _ (S : Family) (is : firstTreatmentFamily n k Ts ≡ family S) (q : r ≡ length S) (h : r ≤ 32) (s : after ≡ written before 0 S) where
       on-first : (F : Column) → F ∈ S → length F ≡ n
       on-first F m = first-length F (first-family-lists n k Ts S is .only F m)
@@ -204,20 +191,29 @@ module _ (n k : ℕ) (Ts : List Column) (on : (T : Column) → T ∈ Ts → leng
       room-after = rw s (rw (length-written n small S before 0 on-first (omega (arith, room, h, q))) room)
 
     -- memory holds it
-    pub first-held : FirstFamily n k Ts before after r → closedIn n after r ≡ firstTreatmentFamily n k Ts
-    first-held (no-first q t s) = held-over n after r q ∙ sym t
-    first-held (a-first S is q h s) = held-on n after r (λ z. omega arith) ∙ ap family (same S is q h s) ∙ sym is
+    pub first-held : Listed n false (treatmentGenerators n k Ts) before after marks order r → closedIn n after r ≡ firstTreatmentFamily n k Ts
+    unfolding firstTreatmentFamily
+    first-held (unlisted q t s) = held-over n after r q ∙ sym t
+    first-held (listed S is q h s t) = held-on n after r (λ z. omega arith) ∙ ap family (same S is q h s) ∙ sym is
 
     -- its members are numbered
-    pub first-numbered : FirstFamily n k Ts before after r → (r ≡ 33 → ⊥) → Numbered n after r
-    first-numbered (no-first q t s) d = absurd (d q)
-    first-numbered (a-first S is q h s) d = numbered-made n small after r (room-after S is q h s) h (subst (WellMade n) (sym (same S is q h s)) (first-made n k Ts on S is))
+    pub first-numbered : Listed n false (treatmentGenerators n k Ts) before after marks order r → (r ≡ 33 → ⊥) → Numbered n after r
+    unfolding firstTreatmentFamily
+    first-numbered (unlisted q t s) d = absurd (d q)
+    first-numbered (listed S is q h s t) d = numbered-made n small after r (room-after S is q h s) h (subst (WellMade n) (sym (same S is q h s)) (first-made n k Ts on S is))
+
+    -- the marks tell which are orthogonal
+    pub first-tells : Listed n false (treatmentGenerators n k Ts) before after marks order r → (r ≡ 33 → ⊥) → Tells (orthogonal n) (membersOf n after r) order marks r
+    unfolding firstTreatmentFamily
+    first-tells (unlisted q t s) d = absurd (d q)
+    first-tells (listed S is q h s t) d = subst (λ (T : Family). Tells (orthogonal n) T order marks r) (sym (same S is q h s)) t
 
     -- what is written next covers it
-    pub first-covered : (P : Family) → ((F : Column) → F ∈ P → length F ≡ n) → equality n ∈ P → FirstFamily n k Ts before after r
+    pub first-covered : (P : Family) → ((F : Column) → F ∈ P → length F ≡ n) → equality n ∈ P → Listed n false (treatmentGenerators n k Ts) before after marks order r
         → treatmentBuffer after (question11 n P (firstTreatmentFamily n k Ts)) ≡ treatmentBuffer before (question11 n P (firstTreatmentFamily n k Ts))
-    first-covered P onP e (no-first q t s) = ap (λ (b : List ℕ). treatmentBuffer b (question11 n P (firstTreatmentFamily n k Ts))) s
-    first-covered P onP e (a-first S is q h s) =
+    unfolding firstTreatmentFamily
+    first-covered P onP e (unlisted q t s) = ap (λ (b : List ℕ). treatmentBuffer b (question11 n P (firstTreatmentFamily n k Ts))) s
+    first-covered P onP e (listed S is q h s t) =
         let p = passed-11 n P (firstTreatmentFamily n k Ts) S is in
         ap (treatmentBuffer after) p ∙ ap (λ (b : List ℕ). written b 0 T) s ∙ go (treatments-either n P S (firstPair (orthogonal n) 1 S)) ∙ ap (treatmentBuffer before) (sym p)
       where

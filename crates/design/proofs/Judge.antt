@@ -1,7 +1,7 @@
--- Laws for the plot design: what closing and sorting leave is what questions 9 and 10 need.
+-- Laws of a closed family in its order: the marks tell what questions 10 and 12 ask; and of the plot family as it is written.
 -- Assumes nothing.
 use mathlib.Core.Path.{_≡_, refl, sym, ap, ap₂, _∙_, subst}
-use mathlib.Core.Bool.{Bool, true}
+use mathlib.Core.Bool.{Bool, true, false}
 use mathlib.Core.List.{List, [], _∷_, map, Memᴰ·cast}
 use Prim.Native.Nat.{ℕ, zero, suc, _+_, _*_, _≤_, _<_, zero-le, suc-le-suc}
 use native.Mathlib.Nat.{not-suc-le-zero, le-of-suc-le-suc, mul-comm}
@@ -13,28 +13,28 @@ use lib.Seq.{length-take-le, getD-take}
 use borrow.Author.Tests.{ltb-true, ltb-false}
 use Rattle.rules.specs.Factor.{Column, classes, uniform, orthogonal}
 use Rattle.rules.specs.Family.{Family, _∈_, Distinct, apart, empty, insertAll, membersOf, columnsFrom, written}
-use Rattle.rules.specs.Closing.{plotGenerators, plotFamily, family}
-use Rattle.rules.specs.Design.{firstFailing, firstPair}
+use Rattle.rules.specs.Closing.{plotGenerators, plotFamily, family, close}
+use Rattle.rules.specs.Design.{Places, firstFailing, firstPair, question8, plotBuffer}
 use Rattle.rules.specs.Relation.{memberAt}
 use Rattle.rules.proofs.Numbering.{by-cases}
 use Rattle.rules.proofs.Members.{ascending-insertAll}
 use Rattle.rules.proofs.Closing.{ascending-distinct}
 use Rattle.rules.proofs.Bounds.{infimum-comm, supremum-comm}
 use Rattle.rules.proofs.Buffer.{member-is, length-members, written-members, length-written}
-use Rattle.rules.proofs.Orthogonality.{byCounts}
+use Rattle.rules.proofs.Orthogonality.{same-test, byCounts}
+use Rattle.rules.proofs.Tests.{orthogonal-test, orthogonal-sym}
 use Rattle.rules.proofs.Questions.{question-10, plot-length}
 use Rattle.rules.proofs.WorkList.{length-sorted, member-in}
-use Rattle.design.specs.State.{columnIn, Recorded, Work, Sorted}
-use Rattle.design.specs.Search.{firstPairOf, agreeRow, agree, PairIn}
-use Rattle.design.specs.Judging.{apartAt, Judging}
-use Rattle.design.proofs.Search.{pair-found}
+use Rattle.design.specs.State.{columnIn, makeOf, markOf, marked, Work, Sorted}
+use Rattle.design.specs.Search.{firstPairOf}
+use Rattle.design.specs.Judging.{apartAt, Tells, Listed, unlisted, listed, Judging}
+use Rattle.design.specs.Closings.{closedIn, Ready}
+use Rattle.design.proofs.Answered.{eight-over, eight-buffer, held-over, held-on}
+use Rattle.design.proofs.Order.{sorted-columns}
+use Rattle.design.proofs.Search.{pair-found, marked-below, marked-above}
+use Rattle.design.proofs.Work.{member-length}
 
 -- ---- lists
-
--- functions that agree on a list's elements
-pub map-agree : {A : Type 0} (f g : ℕ → A) (l : List ℕ) → ((i : ℕ) → i < length l → f (getD l i 0) ≡ g (getD l i 0)) → map f l ≡ map g l
-map-agree f g [] h = refl
-map-agree f g (x ∷ l) h = ap₂ (λ (y : _) (ys : List _). y ∷ ys) (h 0 (suc-le-suc zero-le)) (map-agree f g l (λ i k. h (suc i) (suc-le-suc k)))
 
 -- an element of a list that is made by a function
 pub getD-map : {A : Type 0} (f : ℕ → A) (l : List ℕ) (d : A) (i : ℕ) → i < length l → getD (map f l) i d ≡ f (getD l i 0)
@@ -48,13 +48,19 @@ distinct-places S (apart {x = F} {xs = T} n d) zero (suc j) h k e = n (Memᴰ·c
 distinct-places S (apart {x = F} {xs = T} n d) (suc i) (suc j) h k e = distinct-places T d i j (le-of-suc-le-suc h) (le-of-suc-le-suc k) e
 distinct-places S d i zero h k e = absurd (not-suc-le-zero h)
 
--- ---- the plot family as it is written
+-- ---- marks
 
-module _ (n c : ℕ) (levels buffer store counts meets joins order : List ℕ) (size : ℕ)
-    (w : Work n true (plotGenerators n (columnsFrom n levels 0 c)) store counts meets joins size size 0)
-    (is : plotFamily n (columnsFrom n levels 0 c) ≡ family (insertAll (membersOf n store size) []))
-    (s : Sorted (membersOf n store size) order)
-    (lengths : (F : Column) → F ∈ columnsFrom n levels 0 c → length F ≡ n) where
+-- the order of the two does not matter
+mark-sym : (infima : Bool) (n : ℕ) (F G : Column) → length F ≡ n → length G ≡ n → markOf infima n F G ≡ markOf infima n G F
+mark-sym true n F G lF lG = ap₂ eqb (ap₂ _*_ (ap classes (infimum-comm n F G lF lG)) (ap classes (supremum-comm n F G lF lG))) (mul-comm (classes F) (classes G))
+mark-sym false n F G lF lG =
+    same-test (orthogonal n F G) (orthogonal n G F)
+    (λ e. orthogonal-test n G F .1 (orthogonal-sym n F G lF lG (orthogonal-test n F G .0 e)))
+    (λ e. orthogonal-test n F G .1 (orthogonal-sym n G F lG lF (orthogonal-test n G F .0 e)))
+
+-- ---- a closed family in its order
+
+module _ {n : ℕ} {infima : Bool} {Gs : List Column} {store counts marks order : List ℕ} {size : ℕ} (w : Work n infima Gs store counts marks size size 0) (s : Sorted (membersOf n store size) order) where
   abbrev S : Family
   S = membersOf n store size
 
@@ -68,25 +74,13 @@ module _ (n c : ℕ) (levels buffer store counts meets joins order : List ℕ) (
   lenP = length-sorted S (w .found .distinct) ∙ len
 
   -- the entries are places of members
-  pub entry-less : (i : ℕ) → i < size → getD order i 0 < size
+  entry-less : (i : ℕ) → i < size → getD order i 0 < size
   entry-less i h = rw len at (s .places i (rw len h))
 
   taken : length (take size order) ≡ size
   taken = length-take-le size order (rw (s .entries) (w .held .few))
 
-  in-store : (k : ℕ) → k < size → memberAt S k ≡ columnIn n store k
-  in-store k h = member-is n (w .held .most) store size k h
-
-  -- the members in order, as the store has them
-  pub in-order : map (λ (i : ℕ). columnIn n store i) (take size order) ≡ P
-  in-order =
-      map-agree (λ (i : ℕ). columnIn n store i) (λ (i : ℕ). memberAt S i) (take size order) (λ i h. sym (in-store (getD (take size order) i 0) (less i (rw taken at h))))
-      ∙ (rw len at (s .members))
-    where
-      less : (i : ℕ) → i < size → getD (take size order) i 0 < size
-      less i h = rw (getD-take size order i 0 h) (entry-less i h)
-
-  pub place-is : (i : ℕ) → i < size → memberAt P i ≡ memberAt S (getD order i 0)
+  place-is : (i : ℕ) → i < size → memberAt P i ≡ memberAt S (getD order i 0)
   place-is i h =
       ap (λ (l : Family). getD l i []) (sym (rw len at (s .members)))
       ∙ getD-map (λ (k : ℕ). memberAt S k) (take size order) [] i (rw taken h) ∙ ap (λ (k : ℕ). memberAt S k) (getD-take size order i 0 h)
@@ -96,110 +90,73 @@ module _ (n c : ℕ) (levels buffer store counts meets joins order : List ℕ) (
       distinct-places P (ascending-distinct (ascending-insertAll S [] empty)) i j h (rw lenP k)
       (place-is i (omega arith) ∙ ap (λ (x : ℕ). memberAt S x) e ∙ sym (place-is j k))
 
-  -- what is recorded of two members found at b and a < b
-  recorded : (b a : ℕ) → a < b → b < size → Recorded true S meets joins b a
-  recorded b a h k = w .rows b a h k
+  plots : (k : ℕ) → k < size → length (memberAt S k) ≡ n
+  plots k h = member-length (w .held) (memberAt S k) (member-in S k (rw len h))
 
-  pair-less : (b a : ℕ) → a < b → b < size → (getD meets (32 * b + a) 0 < 32) × (getD joins (32 * b + a) 0 < 32)
-  pair-less b a h k = (below (recorded b a h k .meet refl .0), below (recorded b a h k .join .0))
-    where
-      below : {x : ℕ} → x < length S → x < 32
-      below l = omega (arith, len, w .held .few)
-
-  counted : (k : ℕ) → k < size → getD counts k 0 ≡ classes (memberAt S k)
-  counted k h = w .held .counted k h ∙ ap classes (sym (in-store k h))
-
-  row-agrees : (b a : ℕ) → a < b → b < size → agreeRow counts meets joins b a ≡ byCounts (memberAt S b) (memberAt S a)
-  row-agrees b a h k =
-      ap₂ eqb
-      (ap₂ _*_ (counted _ (rw len at (r .meet refl .0)) ∙ ap classes (r .meet refl .1)) (counted _ (rw len at (r .join .0)) ∙ ap classes (r .join .1)))
-      (ap₂ _*_ (counted b k) (counted a (omega arith)))
-    where
-      r : Recorded true S meets joins b a
-      r = recorded b a h k
-
-  on : (k : ℕ) → k < size → length (memberAt S k) ≡ n
-  on k h = ap length (in-store k h) ∙ length-take-le n (drop (240 * k) store) (rw (length-drop, w .held .room) (omega (arith, w .held .most, w .held .few)))
-
-  turned : (a b : ℕ) → a < size → b < size → byCounts (memberAt S b) (memberAt S a) ≡ byCounts (memberAt S a) (memberAt S b)
-  turned a b ha hb =
-      ap₂ eqb
-      (ap₂ _*_ (ap classes (infimum-comm n (memberAt S b) (memberAt S a) (on b hb) (on a ha))) (ap classes (supremum-comm n (memberAt S b) (memberAt S a) (on b hb) (on a ha))))
-      (mul-comm (classes (memberAt S b)) (classes (memberAt S a)))
-
-  -- the numbers of classes of two members, and of their infimum and supremum, tell whether they agree
-  agrees : (a b : ℕ) → a < size → b < size → (a ≡ b → ⊥) → agree counts meets joins a b ≡ byCounts (memberAt S a) (memberAt S b)
-  agrees a b ha hb ne =
+  -- the marks of two members, in whichever order they were found
+  marks-are : (a b : ℕ) → a < size → b < size → (a ≡ b → ⊥) → marked marks a b ≡ markOf infima n (memberAt S a) (memberAt S b)
+  marks-are a b ha hb ne =
       by-cases (ltb a b)
-      (λ e. rw (e, agree) (row-agrees b a (ltb-true a b e) hb ∙ turned a b ha hb))
-      (λ e. rw (e, agree) (row-agrees a b (lt-of-le-ne (ltb-false a b e) (λ q. ne (sym q))) ha))
+      (λ e. let h = ltb-true a b e in marked-below marks a b h ∙ w .rows b a h hb ∙ mark-sym infima n (memberAt S b) (memberAt S a) (plots b hb) (plots a ha))
+      (λ e. let h = ltb-false a b e in marked-above marks a b h ∙ w .rows a b (lt-of-le-ne h (λ q. ne (sym q))) ha)
 
-  pairs-in : (a b : ℕ) → a < size → b < size → (a ≡ b → ⊥) → PairIn meets joins a b
-  pairs-in a b ha hb ne = (λ h. pair-less b a h hb, λ h. pair-less a b (lt-of-le-ne h (λ q. ne (sym q))) ha)
-
-  found-pair : (firstFailing (uniform n) 1 P ≡ 0) → (apartAt order counts meets joins size .first ≡ firstPair (orthogonal n) 1 P .first) × (apartAt order counts meets joins size .second ≡ firstPair (orthogonal n) 1 P .second)
+  -- the first pair without a mark
+  marks-find : (apartAt order marks size .first ≡ firstPair (markOf infima n) 1 P .first) × (apartAt order marks size .second ≡ firstPair (markOf infima n) 1 P .second)
   unfolding apartAt
-  found-pair e =
-      rw (question-10 n (columnsFrom n levels 0 c) fits P is (w .held .some) e)
-      (subst (λ (m : ℕ). (firstPairOf test m .first ≡ firstPair byCounts 1 P .first) × (firstPairOf test m .second ≡ firstPair byCounts 1 P .second)) lenP (pair-found byCounts test P same))
+  marks-find = subst (λ (m : ℕ). (firstPairOf test m .first ≡ firstPair (markOf infima n) 1 P .first) × (firstPairOf test m .second ≡ firstPair (markOf infima n) 1 P .second)) lenP (pair-found (markOf infima n) test P same)
     where
       test : ℕ → ℕ → Bool
-      test i j = agree counts meets joins (getD order i 0) (getD order j 0)
+      test i j = marked marks (getD order i 0) (getD order j 0)
 
-      same : (i j : ℕ) → i < j → j < length P → test i j ≡ byCounts (getD P i []) (getD P j [])
-      same i j h k = let kj : j < size = rw lenP at k in
-          rw (place-is i (omega arith), place-is j kj) (agrees (getD order i 0) (getD order j 0) (entry-less i (omega arith)) (entry-less j kj) (different i j h kj))
+      same : (i j : ℕ) → i < j → j < length P → test i j ≡ markOf infima n (getD P i []) (getD P j [])
+      same i j h k =
+          let kj : j < size = rw lenP at k in
+          rw (place-is i (omega arith), place-is j kj) (marks-are (getD order i 0) (getD order j 0) (entry-less i (omega arith)) (entry-less j kj) (different i j h kj))
 
-      fits : (F : Column) → F ∈ columnsFrom n levels 0 c → length F ≡ n
-      fits = lengths
+  -- the marks tell the members that the test tells apart
+  marks-tell : Tells (markOf infima n) P order marks size
+  marks-tell = record { places = λ i h. omega (arith, entry-less i h, w .held .few); first = marks-find .0; second = marks-find .1 }
 
-  onP : (F : Column) → F ∈ P → length F ≡ n
-  onP F m = plot-length n (columnsFrom n levels 0 c) lengths P is F m
+  -- the family is written
+  pub family-listed : (Hs : List Column) {before after : List ℕ} → close (makeOf infima) Hs ≡ family P → after ≡ written before 0 (map (λ (i : ℕ). columnIn n store i) (take size order)) → Listed n infima Hs before after marks order size
+  family-listed Hs {before} is e = listed P is (sym lenP) (w .held .few) (e ∙ ap (written before 0) (sorted-columns n (w .held .most) store size order (w .held .few) s)) marks-tell
 
-  -- the members left in the buffer
-  pub left : 7680 ≤ length buffer → membersOf n (written buffer 0 P) size ≡ P
-  unfolding membersOf
-  left h = subst (λ (m : ℕ). columnsFrom n (written buffer 0 P) 0 m ≡ P) lenP (written-members n (w .held .most) P buffer 0 onP (omega (arith, lenP, w .held .few)))
+-- ---- the plot family as it is written
 
-  pub judging : 7680 ≤ length buffer → Judging n size (written buffer 0 P) order counts meets joins
-  judging h = record {
-    most = w .held .most;
-    few = w .held .few;
-    room = rw (length-written n (w .held .most) P buffer 0 onP (omega (arith, lenP, w .held .few))) h;
-    places = λ i k. omega (arith, entry-less i k, w .held .few);
-    pairs = λ i j l k. pairs-in (getD order i 0) (getD order j 0) (entry-less i (omega arith)) (entry-less j k) (different i j l k);
-    first = λ e. rw (left h) (found-pair (rw (left h) at e) .0);
-    second = λ e. rw (left h) (found-pair (rw (left h) at e) .1);
-  }
+module _ (n : ℕ) (small : n ≤ 240) (some : 1 ≤ n) (Fs : List Column) (on : (F : Column) → F ∈ Fs → length F ≡ n) (before after marks order : List ℕ) (r : ℕ) (room : 7680 ≤ length before) where
+  module _ (S : Family) (is : plotFamily n Fs ≡ family S) (q : r ≡ length S) (h : r ≤ 32) (e : after ≡ written before 0 S) where
+    -- its members are in memory
+    held-members : membersOf n after r ≡ S
+    unfolding membersOf
+    held-members = ap₂ (λ (b : List ℕ) (m : ℕ). membersOf n b m) e q ∙ written-members n small S before 0 (plot-length n Fs on S is) (omega (arith, room, h, q))
 
--- what the plot design knows once its members are put in order
-pub record PutInOrder (n c : ℕ) (levels buffer store counts meets joins order : List ℕ) (size : ℕ) : Type 0 where
-  pub most : n ≤ 240
-  pub room : length store ≡ 7680
-  pub few : size ≤ 32
-  pub entries : (p : ℕ) → p < size → getD order p 0 < 32
-  pub is : plotFamily n (columnsFrom n levels 0 c) ≡ family (insertAll (membersOf n store size) [])
-  -- what is written is the family
-  pub same : written buffer 0 (map (λ (i : ℕ). columnIn n store i) (take size order)) ≡ written buffer 0 (insertAll (membersOf n store size) [])
-  pub left : membersOf n (written buffer 0 (insertAll (membersOf n store size) [])) size ≡ insertAll (membersOf n store size) []
-  pub judging : Judging n size (written buffer 0 (insertAll (membersOf n store size) [])) order counts meets joins
+    -- what questions 9 and 10 need to know
+    judging : Tells byCounts S order marks r → Judging n r after order marks
+    judging t = record {
+      most = small;
+      few = h;
+      room = rw e (rw (length-written n small S before 0 (plot-length n Fs on S is) (omega (arith, room, h, q))) room);
+      places = t .places;
+      tells = λ z. rw held-members (told (rw held-members at z));
+    }
+      where
+        told : firstFailing (uniform n) 1 S ≡ 0 → Tells (orthogonal n) S order marks r
+        told z = let f = question-10 n Fs on S is some z in record { places = t .places; first = t .first ∙ ap (λ (p : Places). p .first) (sym f); second = t .second ∙ ap (λ (p : Places). p .second) (sym f) }
 
-pub put-in-order : (n c : ℕ) (levels buffer store counts meets joins order : List ℕ) (size : ℕ)
-    → Work n true (plotGenerators n (columnsFrom n levels 0 c)) store counts meets joins size size 0
-    → plotFamily n (columnsFrom n levels 0 c) ≡ family (insertAll (membersOf n store size) [])
-    → Sorted (membersOf n store size) order → ((F : Column) → F ∈ columnsFrom n levels 0 c → length F ≡ n) → 7680 ≤ length buffer
-    → PutInOrder n c levels buffer store counts meets joins order size
-put-in-order n c levels buffer store counts meets joins order size w is s on h = record {
-  most = w .held .most;
-  room = w .held .room;
-  few = w .held .few;
-  entries = λ p k. omega (arith, entry-less n c levels buffer store counts meets joins order size w is s on p k, w .held .few);
-  is = is;
-  same = ap (written buffer 0) (in-order n c levels buffer store counts meets joins order size w is s on);
-  left = left n c levels buffer store counts meets joins order size w is s on h;
-  judging = judging n c levels buffer store counts meets joins order size w is s on h;
-}
+  -- memory holds it
+  pub plot-held : Listed n true (plotGenerators n Fs) before after marks order r → closedIn n after r ≡ plotFamily n Fs
+  unfolding plotFamily
+  plot-held (unlisted q t e) = held-over n after r q ∙ sym t
+  plot-held (listed S is q h e t) = held-on n after r (λ z. omega arith) ∙ ap family (held-members S is q h e) ∙ sym is
 
--- the same of a buffer that holds the same
-pub judging-as : {n size : ℕ} {f g order counts meets joins : List ℕ} → f ≡ g → Judging n size g order counts meets joins → Judging n size f order counts meets joins
-judging-as {n} {size} {order = order} {counts = counts} {meets = meets} {joins = joins} e j = subst (λ (l : List ℕ). Judging n size l order counts meets joins) (sym e) j
+  -- the buffer is as the rules say
+  pub plot-left : Listed n true (plotGenerators n Fs) before after marks order r → after ≡ plotBuffer before (question8 n (plotFamily n Fs))
+  unfolding plotFamily written
+  plot-left (unlisted q t e) = e ∙ ap (plotBuffer before) (sym (eight-over n (plotFamily n Fs) t))
+  plot-left (listed S is q h e t) = e ∙ sym (eight-buffer n (plotFamily n Fs) S before is)
+
+  -- it is held with what the questions need
+  pub plot-ready : Listed n true (plotGenerators n Fs) before after marks order r → Ready n r after order marks
+  unfolding plotFamily
+  plot-ready (unlisted q t e) = record { most = small; room = rw e room; judging = λ d. absurd (d q) }
+  plot-ready (listed S is q h e t) = let j = judging S is q h e t in record { most = small; room = j .room; judging = λ d. j }

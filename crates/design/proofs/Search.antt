@@ -9,11 +9,13 @@ use native.Mathlib.Numerals.{add-one}
 use native.Mathlib.Omega.{arith}
 use lib.Dec.{eqb}
 use lib.ListN.{length, getD}
+use mir.Val.{boolByte}
 use borrow.Author.Tests.{eq-eqb, ne-eqb, lt-ltb, le-ltb}
 use Rattle.rules.specs.Factor.{Column}
 use Rattle.rules.specs.Family.{Family}
 use Rattle.rules.specs.Design.{firstFailing, pairAt, firstPair, firstCross}
-use Rattle.design.specs.Search.{firstFrom, partner, firstPlace, secondPlace, firstPairOf, crossPartner, crossFirst, crossSecond, agreeRow, agree}
+use Rattle.design.specs.Search.{firstFrom, partner, firstPlace, secondPlace, firstPairOf, crossPartner, crossFirst, crossSecond}
+use Rattle.design.specs.State.{markedRow, marked}
 
 -- ---- a turn
 
@@ -168,11 +170,16 @@ module _ (p : Column → Column → Bool) (S : Family) where
   unfolding crossFirst
   cross-found t P h = crosses-from t 0 P (λ i j l m. ap (λ (x : ℕ). t x j) (zero-add i) ∙ h i j l m)
 
--- ---- the test of two members by their numbers of classes
+-- ---- the mark of two members
 
-module _ (counts meets joins : List ℕ) (i j : ℕ) where
-  pub agree-below : i < j → agree counts meets joins i j ≡ agreeRow counts meets joins j i
-  agree-below h = ap (λ (b : Bool). elim b [ true ↦ agreeRow counts meets joins j i | false ↦ agreeRow counts meets joins i j ]) (lt-ltb i j h)
+-- a mark as a byte
+pub mark-byte : (b : Bool) → eqb (boolByte b) 1 ≡ b
+mark-byte true = refl
+mark-byte false = refl
 
-  pub agree-above : j ≤ i → agree counts meets joins i j ≡ agreeRow counts meets joins i j
-  agree-above h = ap (λ (b : Bool). elim b [ true ↦ agreeRow counts meets joins j i | false ↦ agreeRow counts meets joins i j ]) (le-ltb i j h)
+module _ (marks : List ℕ) (i j : ℕ) where
+  pub marked-below : i < j → marked marks i j ≡ markedRow marks j i
+  marked-below h = ap (λ (b : Bool). elim b [ true ↦ markedRow marks j i | false ↦ markedRow marks i j ]) (lt-ltb i j h)
+
+  pub marked-above : j ≤ i → marked marks i j ≡ markedRow marks i j
+  marked-above h = ap (λ (b : Bool). elim b [ true ↦ markedRow marks j i | false ↦ markedRow marks i j ]) (le-ltb i j h)

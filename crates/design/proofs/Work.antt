@@ -2,17 +2,17 @@
 -- Assumes nothing.
 use mathlib.Core.Path.{_≡_, refl, sym, ap, ap₂, _∙_, subst}
 use mathlib.Core.Logic.{_⊎_, inl, inr, ⊎-elim}
-use mathlib.Core.Bool.{Bool, true, false, true≢false}
+use mathlib.Core.Bool.{Bool, true, false}
 use mathlib.Core.List.{List, [], _∷_, _++_, List·Memᴰ·head, List·Memᴰ·tail, List·Memᴰ·cases-cons, List·Memᴰ·append-cases, List·Memᴰ·eq-of-singleton, Memᴰ·append-left}
 use Prim.Native.Nat.{ℕ, suc, _+_, _*_, _≤_, _<_}
-use native.Mathlib.Nat.{not-suc-le-zero, add-zero}
+use native.Mathlib.Nat.{not-suc-le-zero, add-zero, mul-comm}
 use native.Mathlib.Numerals.{add-one}
 use native.Mathlib.Omega.{arith}
-use lib.Dec.{ltb}
+use lib.Dec.{eqb, ltb}
 use lib.ListN.{length, getD, set, length-append, length-set, List·getD-append}
 use lib.Seq.{getD-append-add, getD-set-same, getD-set-other}
-use borrow.Author.Tests.{ltb-true, ltb-false}
-use Rattle.rules.specs.Factor.{Column, finer, number, infimum, supremum}
+use borrow.Author.Tests.{ltb-true, ltb-false, eq-eqb}
+use Rattle.rules.specs.Factor.{Column, finer, number, classes, infimum, supremum, orthogonal}
 use Rattle.rules.specs.Family.{Family, _∈_, membersOf, insertAll}
 use Rattle.rules.specs.Closing.{both, onlySupremum, Made, given, made, tooMany, family, close}
 use Rattle.rules.specs.Relation.{memberAt}
@@ -20,11 +20,13 @@ use Rattle.rules.proofs.Numbering.{by-cases, number-infimum}
 use Rattle.rules.proofs.Supremum.{number-supremum}
 use Rattle.rules.proofs.Classes.{finer-test}
 use Rattle.rules.proofs.Bounds.{infimum-comm, supremum-comm, infimum-finer-is, supremum-coarser-is, infimum-self, supremum-self}
+use Rattle.rules.proofs.Orthogonality.{byCounts}
 use Rattle.rules.proofs.Buffer.{member-is, length-members}
 use Rattle.rules.proofs.WorkList.{PlaceOf, place-of, member-in, Found, found-more, found-over, Combined, combined-none, combined-more, combined-step, combined-row, combined-close}
 use Rattle.design.proofs.Common.{column-length}
+use Rattle.design.proofs.Extremes.{finer-orthogonal, coarser-orthogonal}
 use Rattle.design.proofs.Placing.{grown-new, grown-old}
-use Rattle.design.specs.State.{columnIn, Held, Placed, full, old, new, grownTo, Begun, makeOf, Recorded, Work, Known, Advanced, Stepped, over, on}
+use Rattle.design.specs.State.{columnIn, Held, Placed, full, old, new, grownTo, Begun, makeOf, markOf, markedRow, Work, Known, Advanced, Stepped, over, on}
 
 -- ---- members by their places
 
@@ -105,79 +107,73 @@ column-kept held s k h = sym (member-column (s .held) k (omega (arith, s .more, 
 
 -- ---- the work on the members of a family
 
+-- the pair b, a has its mark
+abbrev Marked : ℕ → Bool → Family → List ℕ → ℕ → ℕ → Type 0
+Marked n infima S marks b a = markedRow marks b a ≡ markOf infima n (memberAt S b) (memberAt S a)
+
 -- the facts of the work, whatever store the members S are in
-pub record Going (infima : Bool) (Gs : List Column) (S : Family) (meets joins : List ℕ) (i j : ℕ) : Type 0 where
-  pub meet-cells : length meets ≡ 1024
-  pub join-cells : length joins ≡ 1024
+pub record Going (n : ℕ) (infima : Bool) (Gs : List Column) (S : Family) (marks : List ℕ) (i j : ℕ) : Type 0 where
+  pub cells : length marks ≡ 1024
   pub numbered : (F : Column) → F ∈ S → number F ≡ F
   pub found : Found (makeOf infima) Gs S
   pub given : (G : Column) → G ∈ Gs → G ∈ S
   pub combined : Combined (makeOf infima) Gs S i j
-  pub rows : (b a : ℕ) → a < b → b < i → Recorded infima S meets joins b a
-  pub row : (a : ℕ) → a < j → Recorded infima S meets joins i a
+  pub rows : (b a : ℕ) → a < b → b < i → Marked n infima S marks b a
+  pub row : (a : ℕ) → a < j → Marked n infima S marks i a
 
 -- the work without its store
-going : {n : ℕ} {infima : Bool} {Gs : List Column} {store counts meets joins : List ℕ} {size i j : ℕ} → Work n infima Gs store counts meets joins size i j → Going infima Gs (membersOf n store size) meets joins i j
-going w = record { meet-cells = w .meet-cells; join-cells = w .join-cells; numbered = w .numbered; found = w .found; given = w .given; combined = w .combined; rows = w .rows; row = w .row }
+going : {n : ℕ} {infima : Bool} {Gs : List Column} {store counts marks : List ℕ} {size i j : ℕ} → Work n infima Gs store counts marks size i j → Going n infima Gs (membersOf n store size) marks i j
+going w = record { cells = w .cells; numbered = w .numbered; found = w .found; given = w .given; combined = w .combined; rows = w .rows; row = w .row }
 
 -- the work in a store that holds the members
-work : {n : ℕ} {infima : Bool} {Gs : List Column} {store counts meets joins : List ℕ} {size i j : ℕ} → Held n store counts size → Going infima Gs (membersOf n store size) meets joins i j → Work n infima Gs store counts meets joins size i j
-work h g = record { held = h; meet-cells = g .meet-cells; join-cells = g .join-cells; numbered = g .numbered; found = g .found; given = g .given; combined = g .combined; rows = g .rows; row = g .row }
-
--- a pair's places stay when a member is added at the end
-recorded-more : (infima : Bool) (S : Family) (F : Column) (meets joins : List ℕ) (b a : ℕ) → b < length S → a < length S → Recorded infima S meets joins b a → Recorded infima (S ++ F ∷ []) meets joins b a
-recorded-more infima S F meets joins b a hb ha r = record {
-  meet = λ e. (up _ (r .meet e .0), kept _ (r .meet e .0) ∙ r .meet e .1 ∙ sym (ap₂ infimum (kept b hb) (kept a ha)));
-  join = (up _ (r .join .0), kept _ (r .join .0) ∙ r .join .1 ∙ sym (ap₂ supremum (kept b hb) (kept a ha)));
-}
-  where
-    kept : (k : ℕ) → k < length S → memberAt (S ++ F ∷ []) k ≡ memberAt S k
-    kept k h = List·getD-append S (F ∷ []) [] k h
-
-    up : (k : ℕ) → k < length S → k < length (S ++ F ∷ [])
-    up k h = rw length-append (omega arith)
+work : {n : ℕ} {infima : Bool} {Gs : List Column} {store counts marks : List ℕ} {size i j : ℕ} → Held n store counts size → Going n infima Gs (membersOf n store size) marks i j → Work n infima Gs store counts marks size i j
+work h g = record { held = h; cells = g .cells; numbered = g .numbered; found = g .found; given = g .given; combined = g .combined; rows = g .rows; row = g .row }
 
 -- a member found on the way
-going-more : (infima : Bool) (Gs : List Column) (S : Family) (F : Column) (meets joins : List ℕ) (i j : ℕ) → i < length S → j ≤ i → Made (makeOf infima) Gs F → number F ≡ F → (F ∈ S → ⊥) → Going infima Gs S meets joins i j → Going infima Gs (S ++ F ∷ []) meets joins i j
-going-more infima Gs S F meets joins i j hi hj p e f g = record {
-  meet-cells = g .meet-cells;
-  join-cells = g .join-cells;
+going-more : (n : ℕ) (infima : Bool) (Gs : List Column) (S : Family) (F : Column) (marks : List ℕ) (i j : ℕ) → i < length S → j ≤ i → Made (makeOf infima) Gs F → number F ≡ F → (F ∈ S → ⊥) → Going n infima Gs S marks i j → Going n infima Gs (S ++ F ∷ []) marks i j
+going-more n infima Gs S F marks i j hi hj p e f g = record {
+  cells = g .cells;
   numbered = λ G m. fresh G (List·Memᴰ·append-cases S m);
   found = found-more (makeOf infima) Gs S F (g .found) p f;
   given = λ G m. Memᴰ·append-left _ (g .given G m);
   combined = combined-more (makeOf infima) Gs S F i j hi hj (g .combined);
-  rows = λ b a ab bi. recorded-more infima S F meets joins b a (omega arith) (omega arith) (g .rows b a ab bi);
-  row = λ a aj. recorded-more infima S F meets joins i a hi (omega arith) (g .row a aj);
+  rows = λ b a ab bi. kept b a (omega arith) (omega arith) (g .rows b a ab bi);
+  row = λ a aj. kept i a hi (omega arith) (g .row a aj);
 }
   where
     fresh : (G : Column) → (G ∈ S) ⊎ (G ∈ F ∷ []) → number G ≡ G
     fresh G (inl m) = g .numbered G m
     fresh G (inr m) = let q = List·Memᴰ·eq-of-singleton m in ap number q ∙ e ∙ sym q
 
--- the pair i, j has its places: what the tables have elsewhere is as it was
-going-step : (infima : Bool) (Gs : List Column) (S : Family) (meets joins meets′ joins′ : List ℕ) (i j : ℕ) → i < 32 → j < i → length meets′ ≡ 1024 → length joins′ ≡ 1024
-    → ((k : ℕ) → (k ≡ 32 * i + j → ⊥) → getD meets′ k 0 ≡ getD meets k 0) → ((k : ℕ) → (k ≡ 32 * i + j → ⊥) → getD joins′ k 0 ≡ getD joins k 0)
-    → ((H : Column) → H ∈ makeOf infima (memberAt S i) (memberAt S j) → H ∈ S) → Recorded infima S meets′ joins′ i j
-    → Going infima Gs S meets joins i j → Going infima Gs S meets′ joins′ i (suc j)
-going-step infima Gs S meets joins meets′ joins′ i j hi hj lm lj km kj all r g = record {
-  meet-cells = lm;
-  join-cells = lj;
+    same : (k : ℕ) → k < length S → memberAt (S ++ F ∷ []) k ≡ memberAt S k
+    same k h = List·getD-append S (F ∷ []) [] k h
+
+    kept : (b a : ℕ) → b < length S → a < length S → Marked n infima S marks b a → Marked n infima (S ++ F ∷ []) marks b a
+    kept b a hb ha m = m ∙ sym (ap₂ (markOf infima n) (same b hb) (same a ha))
+
+-- the pair i, j has its mark: what the table has elsewhere is as it was
+going-step : (n : ℕ) (infima : Bool) (Gs : List Column) (S : Family) (marks : List ℕ) (i j mark : ℕ) → i < 32 → j < i → ((H : Column) → H ∈ makeOf infima (memberAt S i) (memberAt S j) → H ∈ S)
+    → eqb mark 1 ≡ markOf infima n (memberAt S i) (memberAt S j) → Going n infima Gs S marks i j → Going n infima Gs S (set marks (32 * i + j) mark) i (suc j)
+going-step n infima Gs S marks i j mark hi hj all e g = record {
+  cells = length-set marks (32 * i + j) mark ∙ g .cells;
   numbered = g .numbered;
   found = g .found;
   given = g .given;
   combined = combined-step (makeOf infima) Gs S i j (g .combined) all;
   rows = λ b a ab bi. elsewhere b a (λ q. omega arith) (g .rows b a ab bi);
-  row = λ a h. by-cases (ltb a j) (λ e. let l : a < j = ltb-true a j e in elsewhere i a (λ q. omega arith) (g .row a l)) (λ e. let q : a ≡ j = omega (arith, ltb-false a j e) in rw q r);
+  row = λ a h. by-cases (ltb a j) (λ e. let l : a < j = ltb-true a j e in elsewhere i a (λ q. omega arith) (g .row a l)) (λ e. let q : a ≡ j = omega (arith, ltb-false a j e) in rw q here);
 }
   where
-    elsewhere : (b a : ℕ) → (32 * b + a ≡ 32 * i + j → ⊥) → Recorded infima S meets joins b a → Recorded infima S meets′ joins′ b a
-    elsewhere b a d s = record { meet = λ e. rw (km (32 * b + a) d) (s .meet e); join = rw (kj (32 * b + a) d) (s .join) }
+    elsewhere : (b a : ℕ) → (32 * b + a ≡ 32 * i + j → ⊥) → Marked n infima S marks b a → Marked n infima S (set marks (32 * i + j) mark) b a
+    elsewhere b a d m = ap (λ (k : ℕ). eqb k 1) (getD-set-other marks (32 * i + j) (32 * b + a) mark 0 d) ∙ m
+
+    here : Marked n infima S (set marks (32 * i + j) mark) i j
+    here = ap (λ (k : ℕ). eqb k 1) (getD-set-same marks (32 * i + j) mark 0 (omega (arith, g .cells))) ∙ e
 
 -- a row is done
-going-row : (infima : Bool) (Gs : List Column) (S : Family) (meets joins : List ℕ) (i : ℕ) → Going infima Gs S meets joins i i → Going infima Gs S meets joins (suc i) 0
-going-row infima Gs S meets joins i g = record {
-  meet-cells = g .meet-cells;
-  join-cells = g .join-cells;
+going-row : (n : ℕ) (infima : Bool) (Gs : List Column) (S : Family) (marks : List ℕ) (i : ℕ) → Going n infima Gs S marks i i → Going n infima Gs S marks (suc i) 0
+going-row n infima Gs S marks i g = record {
+  cells = g .cells;
   numbered = g .numbered;
   found = g .found;
   given = g .given;
@@ -186,7 +182,7 @@ going-row infima Gs S meets joins i g = record {
   row = λ a h. absurd (not-suc-le-zero h);
 }
   where
-    last : (b a : ℕ) → a < b → b < suc i → i ≤ b → Recorded infima S meets joins b a
+    last : (b a : ℕ) → a < b → b < suc i → i ≤ b → Marked n infima S marks b a
     last b a ab h k = let q : b ≡ i = omega arith in rw q (g .row a (omega arith))
 
 -- ---- what two members make
@@ -202,17 +198,25 @@ infimum-in : (F G : Column) → infimum F G ∈ both F G
 unfolding both
 infimum-in F G = List·Memᴰ·head refl
 
--- what a pair with its places makes is among the members
-makes-in : (infima : Bool) (S : Family) (meets joins : List ℕ) (i j : ℕ) → Recorded infima S meets joins i j → (H : Column) → H ∈ makeOf infima (memberAt S i) (memberAt S j) → H ∈ S
-unfolding both onlySupremum
-makes-in infima S meets joins i j r H m = go infima (r .meet) m
-  where
-    joined : H ∈ supremum (memberAt S i) (memberAt S j) ∷ [] → H ∈ S
-    joined k = subst (λ (F : Column). F ∈ S) (r .join .1 ∙ sym (List·Memᴰ·eq-of-singleton k)) (member-in S _ (r .join .0))
+-- the member at place p is what the operation makes of the members at places i and j
+pub record PairAt (op : Column → Column → Column) (S : Family) (i j p : ℕ) : Type 0 where
+  pub less : p < length S
+  pub is : memberAt S p ≡ op (memberAt S i) (memberAt S j)
 
-    go : (t : Bool) → (t ≡ true → (getD meets (32 * i + j) 0 < length S) × (memberAt S (getD meets (32 * i + j) 0) ≡ infimum (memberAt S i) (memberAt S j))) → H ∈ makeOf t (memberAt S i) (memberAt S j) → H ∈ S
-    go true f k = ⊎-elim (λ e. subst (λ (F : Column). F ∈ S) (f refl .1 ∙ sym e) (member-in S _ (f refl .0))) joined (List·Memᴰ·cases-cons k)
-    go false f k = joined k
+-- what it makes is among the members
+at-in : {op : Column → Column → Column} {S : Family} {i j p : ℕ} {H : Column} → PairAt op S i j p → H ≡ op (memberAt S i) (memberAt S j) → H ∈ S
+at-in {S = S} {p = p} a e = subst (λ (F : Column). F ∈ S) (a .is ∙ sym e) (member-in S p (a .less))
+
+-- what a pair whose infimum and supremum have places makes is among the members
+makes-both : (infima : Bool) {S : Family} {i j p q : ℕ} → PairAt infimum S i j p → PairAt supremum S i j q → (H : Column) → H ∈ makeOf infima (memberAt S i) (memberAt S j) → H ∈ S
+unfolding both onlySupremum
+makes-both true a b H m = ⊎-elim (λ e. at-in a e) (λ k. at-in b (List·Memᴰ·eq-of-singleton k)) (List·Memᴰ·cases-cons m)
+makes-both false a b H m = at-in b (List·Memᴰ·eq-of-singleton m)
+
+-- under supremum alone its place is enough
+makes-join : {S : Family} {i j q : ℕ} → PairAt supremum S i j q → (H : Column) → H ∈ onlySupremum (memberAt S i) (memberAt S j) → H ∈ S
+unfolding onlySupremum
+makes-join b H m = at-in b (List·Memᴰ·eq-of-singleton m)
 
 -- the order of the two does not matter
 makes-flip : (infima : Bool) (n : ℕ) (F G : Column) → length F ≡ n → length G ≡ n → makeOf infima F G ≡ makeOf infima G F
@@ -229,11 +233,10 @@ makes-self false n F H lF e m = List·Memᴰ·eq-of-singleton m ∙ supremum-sel
 -- ---- the work in a store
 
 -- before the first pair
-pub work-begun : {n : ℕ} (infima : Bool) {Gs : List Column} {store counts meets joins : List ℕ} {size : ℕ} → Begun n Gs store counts size → length meets ≡ 1024 → length joins ≡ 1024 → Work n infima Gs store counts meets joins size 0 0
-work-begun {n} infima {Gs} {store} {size = size} b lm lj = record {
+pub work-begun : {n : ℕ} (infima : Bool) {Gs : List Column} {store counts marks : List ℕ} {size : ℕ} → Begun n Gs store counts size → length marks ≡ 1024 → Work n infima Gs store counts marks size 0 0
+work-begun {n} infima {Gs} {store} {size = size} b l = record {
   held = b .held;
-  meet-cells = lm;
-  join-cells = lj;
+  cells = l;
   numbered = b .numbered;
   found = record { distinct = b .distinct; only = λ F m. given (b .only F m) };
   given = b .given;
@@ -242,18 +245,18 @@ work-begun {n} infima {Gs} {store} {size = size} b lm lj = record {
   row = λ a h. absurd (not-suc-le-zero h);
 }
 
-module _ {n : ℕ} {infima : Bool} {Gs : List Column} {store counts meets joins : List ℕ} {size i j : ℕ} (w : Work n infima Gs store counts meets joins size i j) where
+module _ {n : ℕ} {infima : Bool} {Gs : List Column} {store counts marks : List ℕ} {size i j : ℕ} (w : Work n infima Gs store counts marks size i j) where
   -- the members
   abbrev S : Family
   S = membersOf n store size
 
   -- a column of the smallest set is placed
-  work-place : i < size → j ≤ i → {F : Column} {r : ℕ} {store′ counts′ : List ℕ} {size′ : ℕ} → Made (makeOf infima) Gs F → number F ≡ F → Stood n S F r store′ counts′ size′ → Work n infima Gs store′ counts′ meets joins size′ i j
+  work-place : i < size → j ≤ i → {F : Column} {r : ℕ} {store′ counts′ : List ℕ} {size′ : ℕ} → Made (makeOf infima) Gs F → number F ≡ F → Stood n S F r store′ counts′ size′ → Work n infima Gs store′ counts′ marks size′ i j
   work-place hi hj {F} p e s =
       let l : i < length S = omega (arith, size-members (w .held)) in
       work (s .held) (⊎-elim
-      (λ q. subst (λ (T : Family). Going infima Gs T meets joins i j) (sym q) (going w))
-      (λ q. subst (λ (T : Family). Going infima Gs T meets joins i j) (sym (q .0)) (going-more infima Gs S F meets joins i j l hj p e (q .1) (going w)))
+      (λ q. subst (λ (T : Family). Going n infima Gs T marks i j) (sym q) (going w))
+      (λ q. subst (λ (T : Family). Going n infima Gs T marks i j) (sym (q .0)) (going-more n infima Gs S F marks i j l hj p e (q .1) (going w)))
       (s .members))
 
   -- it is new, and there is no room
@@ -289,18 +292,16 @@ module _ {n : ℕ} {infima : Bool} {Gs : List Column} {store counts meets joins 
     made-supremum = made mA mB (supremum-in infima A B)
 
     -- the supremum of the pair is placed
-    pub work-supremum : {r : ℕ} {store′ counts′ : List ℕ} {size′ : ℕ} → Stood n S (supremum A B) r store′ counts′ size′ → Work n infima Gs store′ counts′ meets joins size′ i j
+    pub work-supremum : {r : ℕ} {store′ counts′ : List ℕ} {size′ : ℕ} → Stood n S (supremum A B) r store′ counts′ size′ → Work n infima Gs store′ counts′ marks size′ i j
     work-supremum s = work-place hi (omega arith) made-supremum (number-supremum A B (lA ∙ sym lB)) s
 
     -- there is no room for the supremum
     pub over-supremum : {r : ℕ} {store′ counts′ : List ℕ} → Placed n S (supremum A B) r store′ counts′ → r ≡ 32 → close (makeOf infima) Gs ≡ tooMany
     over-supremum s e = work-over made-supremum s e
 
-    -- the pair has its places
-    pub work-step : {meets′ joins′ : List ℕ} → length meets′ ≡ 1024 → length joins′ ≡ 1024 → ((k : ℕ) → (k ≡ 32 * i + j → ⊥) → getD meets′ k 0 ≡ getD meets k 0) → ((k : ℕ) → (k ≡ 32 * i + j → ⊥) → getD joins′ k 0 ≡ getD joins k 0)
-        → Recorded infima S meets′ joins′ i j → Work n infima Gs store counts meets′ joins′ size i (j + 1)
-    work-step {meets′} {joins′} lm lj km kj r =
-        rw add-one (work (w .held) (going-step infima Gs S meets joins meets′ joins′ i j (omega (arith, w .held .few)) hj lm lj km kj (makes-in infima S meets′ joins′ i j r) r (going w)))
+    -- the pair has its mark
+    work-step : (mark : ℕ) → ((H : Column) → H ∈ makeOf infima (memberAt S i) (memberAt S j) → H ∈ S) → eqb mark 1 ≡ markOf infima n (memberAt S i) (memberAt S j) → Work n infima Gs store counts (set marks (32 * i + j) mark) size i (j + 1)
+    work-step mark all e = rw add-one (work (w .held) (going-step n infima Gs S marks i j mark (omega (arith, w .held .few)) hj all e (going w)))
 
     -- both members are where they are read
     at-i : memberAt S i ≡ A
@@ -317,22 +318,22 @@ module _ {n : ℕ} {infima : Bool} {Gs : List Column} {store counts meets joins 
     nB = w .numbered B (column-in (w .held) j (omega arith))
 
     -- of two members, one finer than the other, the infimum is the finer and the supremum the coarser
-    pub nested-left : finer n A B ≡ true → (memberAt S i ≡ infimum (memberAt S i) (memberAt S j)) × (memberAt S j ≡ supremum (memberAt S i) (memberAt S j))
+    nested-left : finer n A B ≡ true → (memberAt S i ≡ infimum (memberAt S i) (memberAt S j)) × (memberAt S j ≡ supremum (memberAt S i) (memberAt S j))
     nested-left e = let f = finer-test n A B .0 e in rw (at-i, at-j) (sym (infimum-finer-is n A B lA lB f ∙ nA), sym (supremum-coarser-is n A B lA lB f ∙ nB))
 
     -- the other way round
-    pub nested-right : finer n B A ≡ true → (memberAt S j ≡ infimum (memberAt S i) (memberAt S j)) × (memberAt S i ≡ supremum (memberAt S i) (memberAt S j))
+    nested-right : finer n B A ≡ true → (memberAt S j ≡ infimum (memberAt S i) (memberAt S j)) × (memberAt S i ≡ supremum (memberAt S i) (memberAt S j))
     nested-right e =
         let f = finer-test n B A .0 e in
         rw (at-i, at-j) (sym (infimum-comm n A B lA lB ∙ infimum-finer-is n B A lB lA f ∙ nB), sym (supremum-comm n A B lA lB ∙ supremum-coarser-is n B A lB lA f ∙ nA))
 
-module _ {n : ℕ} {Gs : List Column} {store counts meets joins : List ℕ} {size i j : ℕ} (w : Work n true Gs store counts meets joins size i j) (hi : i < size) (hj : j < i) where
+module _ {n : ℕ} {Gs : List Column} {store counts marks : List ℕ} {size i j : ℕ} (w : Work n true Gs store counts marks size i j) (hi : i < size) (hj : j < i) where
   -- the infimum of the pair is in the smallest set
   made-infimum : Made both Gs (infimum (columnIn n store i) (columnIn n store j))
   made-infimum = made (mA w hi hj) (mB w hi hj) (infimum-in (columnIn n store i) (columnIn n store j))
 
   -- the infimum of the pair is placed
-  pub work-infimum : {r : ℕ} {store′ counts′ : List ℕ} {size′ : ℕ} → Stood n (membersOf n store size) (infimum (columnIn n store i) (columnIn n store j)) r store′ counts′ size′ → Work n true Gs store′ counts′ meets joins size′ i j
+  pub work-infimum : {r : ℕ} {store′ counts′ : List ℕ} {size′ : ℕ} → Stood n (membersOf n store size) (infimum (columnIn n store i) (columnIn n store j)) r store′ counts′ size′ → Work n true Gs store′ counts′ marks size′ i j
   work-infimum s = work-place w hi (omega arith) made-infimum (number-infimum (columnIn n store i) (columnIn n store j) (lA w hi hj ∙ sym (lB w hi hj))) s
 
   -- there is no room for the infimum
@@ -340,17 +341,17 @@ module _ {n : ℕ} {Gs : List Column} {store counts meets joins : List ℕ} {siz
   over-infimum s e = work-over w made-infimum s e
 
 -- the same pair by other names
-pub work-at : {n : ℕ} {infima : Bool} {Gs : List Column} {store counts meets joins : List ℕ} {size i j i′ j′ : ℕ} → i ≡ i′ → j ≡ j′ → Work n infima Gs store counts meets joins size i j → Work n infima Gs store counts meets joins size i′ j′
-work-at {n} {infima} {Gs} {store} {counts} {meets} {joins} {size} {j = j} {i′ = i′} e f w =
-    subst (λ (k : ℕ). Work n infima Gs store counts meets joins size i′ k) f (subst (λ (k : ℕ). Work n infima Gs store counts meets joins size k j) e w)
+pub work-at : {n : ℕ} {infima : Bool} {Gs : List Column} {store counts marks : List ℕ} {size i j i′ j′ : ℕ} → i ≡ i′ → j ≡ j′ → Work n infima Gs store counts marks size i j → Work n infima Gs store counts marks size i′ j′
+work-at {n} {infima} {Gs} {store} {counts} {marks} {size} {j = j} {i′ = i′} e f w =
+    subst (λ (k : ℕ). Work n infima Gs store counts marks size i′ k) f (subst (λ (k : ℕ). Work n infima Gs store counts marks size k j) e w)
 
 -- a row is done
-pub work-row : {n : ℕ} {infima : Bool} {Gs : List Column} {store counts meets joins : List ℕ} {size i : ℕ} → Work n infima Gs store counts meets joins size i i → Work n infima Gs store counts meets joins size (i + 1) 0
-work-row {n} {infima} {Gs} {store} {counts} {meets} {joins} {size} {i} w = rw add-one (work (w .held) (going-row infima Gs (membersOf n store size) meets joins i (going w)))
+pub work-row : {n : ℕ} {infima : Bool} {Gs : List Column} {store counts marks : List ℕ} {size i : ℕ} → Work n infima Gs store counts marks size i i → Work n infima Gs store counts marks size (i + 1) 0
+work-row {n} {infima} {Gs} {store} {counts} {marks} {size} {i} w = rw add-one (work (w .held) (going-row n infima Gs (membersOf n store size) marks i (going w)))
 
 -- all rows are done: the members in order are the closed family
-pub work-done : {n : ℕ} {infima : Bool} {Gs : List Column} {store counts meets joins : List ℕ} {size : ℕ} → Work n infima Gs store counts meets joins size size 0 → close (makeOf infima) Gs ≡ family (insertAll (membersOf n store size) [])
-work-done {n} {infima} {Gs} {store} {counts} {meets} {joins} {size} w =
+pub work-done : {n : ℕ} {infima : Bool} {Gs : List Column} {store counts marks : List ℕ} {size : ℕ} → Work n infima Gs store counts marks size size 0 → close (makeOf infima) Gs ≡ family (insertAll (membersOf n store size) [])
+work-done {n} {infima} {Gs} {store} {counts} {marks} {size} w =
     combined-close (makeOf infima) Gs (membersOf n store size) (w .found) (w .given)
     (subst (λ (k : ℕ). Combined (makeOf infima) Gs (membersOf n store size) k 0) (sym (size-members (w .held))) (w .combined))
     (λ F G f g. makes-flip infima n F G (member-length (w .held) F f) (member-length (w .held) G g))
@@ -359,21 +360,14 @@ work-done {n} {infima} {Gs} {store} {counts} {meets} {joins} {size} w =
 
 -- ---- the places of a pair
 
--- the member at place p is what the operation makes of the members at places i and j
-pub record PairAt (op : Column → Column → Column) (S : Family) (i j p : ℕ) : Type 0 where
-  pub less : p < length S
-  pub is : memberAt S p ≡ op (memberAt S i) (memberAt S j)
+-- a member where it stands once a column is placed
+pub kept-at : {n : ℕ} {F : Column} {r : ℕ} {store counts store′ counts′ : List ℕ} {size size′ : ℕ} → Held n store counts size → Stood n (membersOf n store size) F r store′ counts′ size′ → (k : ℕ) → k < size → memberAt (membersOf n store′ size′) k ≡ columnIn n store k
+kept-at held s k h = s .keeps k (omega (arith, size-members held)) ∙ member-column held k h
 
 -- it has just been placed
 pub pair-here : {op : Column → Column → Column} {n : ℕ} {store counts : List ℕ} {size i j r : ℕ} {store′ counts′ : List ℕ} {size′ : ℕ} → Held n store counts size → i < size → j < size
     → Stood n (membersOf n store size) (op (columnIn n store i) (columnIn n store j)) r store′ counts′ size′ → PairAt op (membersOf n store′ size′) i j r
-pair-here {op} {n} {store} {counts} {size} {i} {j} {store′ = store′} {size′ = size′} held hi hj s = record {
-  less = omega (arith, size-members (s .held), s .here);
-  is = s .is ∙ sym (ap₂ op (same i hi) (same j hj));
-}
-  where
-    same : (k : ℕ) → k < size → memberAt (membersOf n store′ size′) k ≡ columnIn n store k
-    same k h = s .keeps k (omega (arith, size-members held)) ∙ member-column held k h
+pair-here {op} {i = i} {j = j} held hi hj s = record { less = omega (arith, size-members (s .held), s .here); is = s .is ∙ sym (ap₂ op (kept-at held s i hi) (kept-at held s j hj)) }
 
 -- another column has been placed
 pub pair-keeps : {op : Column → Column → Column} {n : ℕ} {S : Family} {F : Column} {i j p r : ℕ} {store counts : List ℕ} {size : ℕ} → i < length S → j < length S → Stood n S F r store counts size → PairAt op S i j p → PairAt op (membersOf n store size) i j p
@@ -382,65 +376,65 @@ pair-keeps {op} {i = i} {j = j} {p = p} hi hj s a = record {
   is = s .keeps p (a .less) ∙ a .is ∙ sym (ap₂ op (s .keeps i hi) (s .keeps j hj));
 }
 
--- both places of the pair are stored
-pub work-both : {n : ℕ} {infima : Bool} {Gs : List Column} {store counts meets joins : List ℕ} {size i j p q : ℕ} → i < size → j < i
-    → PairAt infimum (membersOf n store size) i j p → PairAt supremum (membersOf n store size) i j q
-    → Work n infima Gs store counts meets joins size i j → Work n infima Gs store counts (set meets (32 * i + j) p) (set joins (32 * i + j) q) size i (j + 1)
-work-both {meets = meets} {joins = joins} {i = i} {j = j} {p = p} {q = q} hi hj a b w =
-    let em = getD-set-same meets (32 * i + j) p 0 (omega (arith, w .held .few, w .meet-cells, w .join-cells)) in
-    let ej = getD-set-same joins (32 * i + j) q 0 (omega (arith, w .held .few, w .meet-cells, w .join-cells)) in
-    work-step w hi hj
-    (length-set meets (32 * i + j) p ∙ w .meet-cells)
-    (length-set joins (32 * i + j) q ∙ w .join-cells)
-    (λ k d. getD-set-other meets (32 * i + j) k p 0 d)
-    (λ k d. getD-set-other joins (32 * i + j) k q 0 d)
-    record { meet = λ e. rw em (a .less, a .is); join = rw ej (b .less, b .is) }
+-- the mark of the pair, whose infimum and supremum have places, is stored
+pub work-both : {n : ℕ} {infima : Bool} {Gs : List Column} {store counts marks : List ℕ} {size i j p q : ℕ} (mark : ℕ) → i < size → j < i
+    → PairAt infimum (membersOf n store size) i j p → PairAt supremum (membersOf n store size) i j q → eqb mark 1 ≡ markOf infima n (memberAt (membersOf n store size) i) (memberAt (membersOf n store size) j)
+    → Work n infima Gs store counts marks size i j → Work n infima Gs store counts (set marks (32 * i + j) mark) size i (j + 1)
+work-both {infima = infima} mark hi hj a b e w = work-step w hi hj mark (makes-both infima a b) e
 
--- the place of the supremum is stored, where no infima are asked for
-pub work-join : {n : ℕ} {Gs : List Column} {store counts meets joins : List ℕ} {size i j q : ℕ} → i < size → j < i → PairAt supremum (membersOf n store size) i j q
-    → Work n false Gs store counts meets joins size i j → Work n false Gs store counts meets (set joins (32 * i + j) q) size i (j + 1)
-work-join {joins = joins} {i = i} {j = j} {q = q} hi hj b w =
-    let ej = getD-set-same joins (32 * i + j) q 0 (omega (arith, w .held .few, w .meet-cells, w .join-cells)) in
-    work-step w hi hj
-    (w .meet-cells)
-    (length-set joins (32 * i + j) q ∙ w .join-cells)
-    (λ k d. refl)
-    (λ k d. getD-set-other joins (32 * i + j) k q 0 d)
-    record { meet = λ e. absurd (true≢false (sym e)); join = rw ej (b .less, b .is) }
+-- the same where no infima are asked for
+pub work-join : {n : ℕ} {Gs : List Column} {store counts marks : List ℕ} {size i j q : ℕ} (mark : ℕ) → i < size → j < i → PairAt supremum (membersOf n store size) i j q → eqb mark 1 ≡ orthogonal n (memberAt (membersOf n store size) i) (memberAt (membersOf n store size) j)
+    → Work n false Gs store counts marks size i j → Work n false Gs store counts (set marks (32 * i + j) mark) size i (j + 1)
+work-join mark hi hj b e w = work-step w hi hj mark (makes-join b) e
 
--- of two members, one finer than the other, the places are known
-module _ {n : ℕ} {infima : Bool} {Gs : List Column} {store counts meets joins : List ℕ} {size i j : ℕ} (w : Work n infima Gs store counts meets joins size i j) (hi : i < size) (hj : j < i) where
+-- the products of the numbers of classes of two factors, one finer than the other, and of their infimum and supremum
+counts-left : {F G : Column} → F ≡ infimum F G → G ≡ supremum F G → byCounts F G ≡ true
+counts-left {F} {G} e f = eq-eqb _ _ (ap₂ _*_ (ap classes (sym e)) (ap classes (sym f)))
+
+counts-right : {F G : Column} → G ≡ infimum F G → F ≡ supremum F G → byCounts F G ≡ true
+counts-right {F} {G} e f = eq-eqb _ _ (ap₂ _*_ (ap classes (sym e)) (ap classes (sym f)) ∙ mul-comm (classes G) (classes F))
+
+-- two members, one finer than the other, have the mark
+module _ {n : ℕ} {infima : Bool} {Gs : List Column} {store counts marks : List ℕ} {size i j : ℕ} (w : Work n infima Gs store counts marks size i j) (hi : i < size) (hj : j < i) where
   -- a place within the size is a member's
   here : (k : ℕ) → k < size → k < length (membersOf n store size)
   here k h = omega (arith, size-members (w .held))
 
   -- the first is the finer
-  pub work-left : finer n (columnIn n store i) (columnIn n store j) ≡ true → Work n infima Gs store counts (set meets (32 * i + j) i) (set joins (32 * i + j) j) size i (j + 1)
+  pub work-left : finer n (columnIn n store i) (columnIn n store j) ≡ true → Work n infima Gs store counts (set marks (32 * i + j) 1) size i (j + 1)
   work-left e =
       let f = nested-left w hi hj e in
-      work-both hi hj record { less = here i hi; is = f .0 } record { less = here j (omega arith); is = f .1 } w
+      work-both 1 hi hj record { less = here i hi; is = f .0 } record { less = here j (omega arith); is = f .1 } (mark infima) w
+    where
+      mark : (t : Bool) → true ≡ markOf t n (memberAt (membersOf n store size) i) (memberAt (membersOf n store size) j)
+      mark true = let f = nested-left w hi hj e in sym (counts-left (f .0) (f .1))
+      mark false = rw (at-i w hi hj, at-j w hi hj) (sym (finer-orthogonal n (columnIn n store i) (columnIn n store j) (lA w hi hj) (lB w hi hj) e))
 
   -- the second is the finer
-  pub work-right : finer n (columnIn n store j) (columnIn n store i) ≡ true → Work n infima Gs store counts (set meets (32 * i + j) j) (set joins (32 * i + j) i) size i (j + 1)
+  pub work-right : finer n (columnIn n store j) (columnIn n store i) ≡ true → Work n infima Gs store counts (set marks (32 * i + j) 1) size i (j + 1)
   work-right e =
       let f = nested-right w hi hj e in
-      work-both hi hj record { less = here j (omega arith); is = f .0 } record { less = here i hi; is = f .1 } w
+      work-both 1 hi hj record { less = here j (omega arith); is = f .0 } record { less = here i hi; is = f .1 } (mark infima) w
+    where
+      mark : (t : Bool) → true ≡ markOf t n (memberAt (membersOf n store size) i) (memberAt (membersOf n store size) j)
+      mark true = let f = nested-right w hi hj e in sym (counts-right (f .0) (f .1))
+      mark false = rw (at-i w hi hj, at-j w hi hj) (sym (coarser-orthogonal n (columnIn n store j) (columnIn n store i) (lB w hi hj) (lA w hi hj) e))
 
 -- ---- what a step answers
 
 -- a step where infima are asked for, or are not
-pub step-as : {n : ℕ} {infima t : Bool} {Gs : List Column} {store counts meets joins : List ℕ} {size i j : ℕ} {store′ counts′ meets′ joins′ : List ℕ} {r i′ j′ : ℕ} → infima ≡ t
-    → (Work n t Gs store counts meets joins size i j → Stepped n t Gs store′ counts′ meets′ joins′ r i′ j′) → Work n infima Gs store counts meets joins size i j → Stepped n infima Gs store′ counts′ meets′ joins′ r i′ j′
-step-as {n} {Gs = Gs} {store} {counts} {meets} {joins} {size} {i} {j} {store′} {counts′} {meets′} {joins′} {r} {i′} {j′} e f =
-    subst (λ (t : Bool). Work n t Gs store counts meets joins size i j → Stepped n t Gs store′ counts′ meets′ joins′ r i′ j′) (sym e) f
+pub step-as : {n : ℕ} {infima t : Bool} {Gs : List Column} {store counts marks : List ℕ} {size i j : ℕ} {store′ counts′ marks′ : List ℕ} {r i′ j′ : ℕ} → infima ≡ t
+    → (Work n t Gs store counts marks size i j → Stepped n t Gs store′ counts′ marks′ r i′ j′) → Work n infima Gs store counts marks size i j → Stepped n infima Gs store′ counts′ marks′ r i′ j′
+step-as {n} {Gs = Gs} {store} {counts} {marks} {size} {i} {j} {store′} {counts′} {marks′} {r} {i′} {j′} e f =
+    subst (λ (t : Bool). Work n t Gs store counts marks size i j → Stepped n t Gs store′ counts′ marks′ r i′ j′) (sym e) f
 
 -- the family is too large
-pub stepped-over : {n : ℕ} {infima : Bool} {Gs : List Column} {store counts meets joins : List ℕ} {r i j : ℕ} → r ≡ 33 → Stepped n infima Gs store counts meets joins r i j → close (makeOf infima) Gs ≡ tooMany
+pub stepped-over : {n : ℕ} {infima : Bool} {Gs : List Column} {store counts marks : List ℕ} {r i j : ℕ} → r ≡ 33 → Stepped n infima Gs store counts marks r i j → close (makeOf infima) Gs ≡ tooMany
 stepped-over e (over q c) = c
 stepped-over e (on w) = absurd (omega (arith, w .held .few))
 
 -- the work goes on
-pub stepped-on : {n : ℕ} {infima : Bool} {Gs : List Column} {store counts meets joins : List ℕ} {r i j : ℕ} → (r ≡ 33 → ⊥) → Stepped n infima Gs store counts meets joins r i j → Work n infima Gs store counts meets joins r i j
+pub stepped-on : {n : ℕ} {infima : Bool} {Gs : List Column} {store counts marks : List ℕ} {r i j : ℕ} → (r ≡ 33 → ⊥) → Stepped n infima Gs store counts marks r i j → Work n infima Gs store counts marks r i j
 stepped-on f (over q c) = absurd (f q)
 stepped-on f (on w) = w
 

@@ -17,10 +17,10 @@ unfolding membersOf
 closedIn n memory size = elim (eqb size 33) [ true ↦ tooMany | false ↦ family (membersOf n memory size) ]
 
 -- a plot family that is not too large is held with what questions 9 and 10 need to know of it
-pub record Ready (n size : ℕ) (plot order counts meets joins : List ℕ) : Type 0 where
+pub record Ready (n size : ℕ) (plot order marks : List ℕ) : Type 0 where
   pub most : n ≤ 240
   pub room : 7680 ≤ length plot
-  pub judging : (size ≡ 33 → ⊥) → Judging n size plot order counts meets joins
+  pub judging : (size ≡ 33 → ⊥) → Judging n size plot order marks
 
 -- "8 to 14": an accepted plot family goes on to the first treatment family
 unfoldable pub goesOn : ℕ → Closing → Answer → Answer

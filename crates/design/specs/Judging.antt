@@ -1,26 +1,38 @@
--- What questions 9 and 10 need to know of a plot family that is written: where its members were found, and the places of infima and suprema.
+-- What questions 9, 10 and 12 need to know of a family that is written: where its members were found, and the marks of pairs.
 -- Assumes nothing.
 use mathlib.Core.Path.{_≡_}
+use mathlib.Core.Bool.{Bool}
 use mathlib.Core.List.{List}
 use Prim.Native.Nat.{ℕ, _≤_, _<_}
 use lib.ListN.{length, getD}
-use Rattle.rules.specs.Factor.{uniform, orthogonal}
-use Rattle.rules.specs.Family.{membersOf}
+use Rattle.rules.specs.Factor.{Column, uniform, orthogonal}
+use Rattle.rules.specs.Family.{Family, membersOf, written}
+use Rattle.rules.specs.Closing.{tooMany, family, close}
 use Rattle.rules.specs.Design.{Places, firstFailing, firstPair}
 use Rattle.design.specs.declared.questions.Places as found
-use Rattle.design.specs.Search.{firstPairOf, agree, PairIn}
+use Rattle.design.specs.State.{makeOf, markOf, marked}
+use Rattle.design.specs.Search.{firstPairOf}
 
--- the first pair that the numbers of classes tell apart
-unfoldable pub apartAt : List ℕ → List ℕ → List ℕ → List ℕ → ℕ → found.Places
+-- the first pair in the order without a mark
+unfoldable pub apartAt : List ℕ → List ℕ → ℕ → found.Places
 unfolding firstPairOf
-apartAt order counts meets joins size = firstPairOf (λ i j. agree counts meets joins (getD order i 0) (getD order j 0)) size
+apartAt order marks size = firstPairOf (λ i j. marked marks (getD order i 0) (getD order j 0)) size
 
-pub record Judging (n size : ℕ) (family order counts meets joins : List ℕ) : Type 0 where
+-- the entries of the order are places, and that is the first pair of members S that the test tells apart
+pub record Tells (test : Column → Column → Bool) (S : Family) (order marks : List ℕ) (size : ℕ) : Type 0 where
+  pub places : (i : ℕ) → i < size → getD order i 0 < 32
+  pub first : apartAt order marks size .first ≡ firstPair test 1 S .first
+  pub second : apartAt order marks size .second ≡ firstPair test 1 S .second
+
+-- the closed family of the columns Gs is written, with the marks of its pairs; or it is too large and nothing is written
+pub data Listed (n : ℕ) (infima : Bool) (Gs : List Column) (before after marks order : List ℕ) (r : ℕ) : Type 0 where
+  unlisted : r ≡ 33 → close (makeOf infima) Gs ≡ tooMany → after ≡ before → Listed n infima Gs before after marks order r
+  listed : (S : Family) → close (makeOf infima) Gs ≡ family S → r ≡ length S → r ≤ 32 → after ≡ written before 0 S → Tells (markOf infima n) S order marks r → Listed n infima Gs before after marks order r
+
+-- the plot family in memory: where all members have classes of one size, the marks tell those that are orthogonal
+pub record Judging (n size : ℕ) (plot order marks : List ℕ) : Type 0 where
   pub most : n ≤ 240
   pub few : size ≤ 32
-  pub room : 7680 ≤ length family
+  pub room : 7680 ≤ length plot
   pub places : (i : ℕ) → i < size → getD order i 0 < 32
-  pub pairs : (i j : ℕ) → i < j → j < size → PairIn meets joins (getD order i 0) (getD order j 0)
-  -- where all members have classes of one size, that is the first pair that is not orthogonal
-  pub first : firstFailing (uniform n) 1 (membersOf n family size) ≡ 0 → apartAt order counts meets joins size .first ≡ firstPair (orthogonal n) 1 (membersOf n family size) .first
-  pub second : firstFailing (uniform n) 1 (membersOf n family size) ≡ 0 → apartAt order counts meets joins size .second ≡ firstPair (orthogonal n) 1 (membersOf n family size) .second
+  pub tells : firstFailing (uniform n) 1 (membersOf n plot size) ≡ 0 → Tells (orthogonal n) (membersOf n plot size) order marks size

@@ -1,10 +1,8 @@
 -- Searches over places, from 0, for the first that fails a test; the answers count from 1.
 -- Assumes nothing.
 use mathlib.Core.Bool.{Bool, true, false}
-use mathlib.Core.List.{List}
 use Prim.Native.Nat.{ℕ, zero, suc, _+_, _*_, _-_, _<_, _≤_}
-use lib.Dec.{eqb, ltb}
-use lib.ListN.{getD}
+use lib.Dec.{eqb}
 use Rattle.design.specs.declared.questions.Places.{Places}
 
 -- the least k from j on, k < j + left, at which the test fails, and 1; 0 where there is none
@@ -47,16 +45,3 @@ unfoldable pub crossSecond : (ℕ → ℕ → Bool) → ℕ → ℕ → ℕ
 unfolding crossPartner
 crossSecond t n zero = 0
 crossSecond t n (suc i) = crossPartner t n i
-
--- members b and a < b, with classes of one size, by their numbers of classes and those of their infimum and supremum
-abbrev pub agreeRow : List ℕ → List ℕ → List ℕ → ℕ → ℕ → Bool
-agreeRow counts meets joins b a = eqb (getD counts (getD meets (32 * b + a) 0) 0 * getD counts (getD joins (32 * b + a) 0) 0) (getD counts b 0 * getD counts a 0)
-
--- the same for two places in either order
-abbrev pub agree : List ℕ → List ℕ → List ℕ → ℕ → ℕ → Bool
-agree counts meets joins i j = elim (ltb i j) [ true ↦ agreeRow counts meets joins j i | false ↦ agreeRow counts meets joins i j ]
-
--- the tables have places of members for the two, in whichever order they were found
-abbrev pub PairIn : List ℕ → List ℕ → ℕ → ℕ → Type 0
-PairIn meets joins i j =
-    (i < j → (getD meets (32 * j + i) 0 < 32) × (getD joins (32 * j + i) 0 < 32)) × (j ≤ i → (getD meets (32 * i + j) 0 < 32) × (getD joins (32 * i + j) 0 < 32))

@@ -1,4 +1,4 @@
--- What the steps of closing keep: members in the order of their discovery, their numbers of classes, and the places of each pair's infimum and supremum.
+-- What the steps of closing keep: members in the order of their discovery, their numbers of classes, and a mark for each pair.
 -- Members and pairs are counted from 0 here. Assumes nothing.
 use mathlib.Core.Path.{_≡_}
 use mathlib.Core.Logic.{_⊎_}
@@ -6,13 +6,14 @@ use mathlib.Core.Bool.{Bool, true, false, _||_}
 use mathlib.Core.List.{List, [], _∷_, _++_, map}
 use Prim.Native.Nat.{ℕ, suc, _+_, _*_, _%_, _^_, _≤_, _<_}
 use lib.Bits.{bitOr}
-use lib.Dec.{eqb}
+use lib.Dec.{eqb, ltb}
 use lib.ListN.{length, getD, set, take, drop}
-use Rattle.rules.specs.Factor.{Column, Finer, number, classes, infimum, supremum}
+use Rattle.rules.specs.Factor.{Column, Finer, number, classes, orthogonal}
 use Rattle.rules.specs.Family.{Family, _∈_, Distinct, before, membersOf, insertAll}
 use Rattle.rules.specs.Lists.{bitAt}
 use Rattle.rules.specs.Closing.{both, onlySupremum, tooMany, family, close}
 use Rattle.rules.specs.Relation.{memberAt}
+use Rattle.rules.proofs.Orthogonality.{byCounts}
 use Rattle.rules.proofs.WorkList.{Found, Combined}
 
 -- ---- members in a store
@@ -74,22 +75,29 @@ abbrev pub makeOf : Bool → Column → Column → List Column
 makeOf true = both
 makeOf false = onlySupremum
 
--- the tables have the places of the pair's infimum, where infima are asked for, and of its supremum
-pub record Recorded (infima : Bool) (S : Family) (meets joins : List ℕ) (b a : ℕ) : Type 0 where
-  pub meet : infima ≡ true → (getD meets (32 * b + a) 0 < length S) × (memberAt S (getD meets (32 * b + a) 0) ≡ infimum (memberAt S b) (memberAt S a))
-  pub join : (getD joins (32 * b + a) 0 < length S) × (memberAt S (getD joins (32 * b + a) 0) ≡ supremum (memberAt S b) (memberAt S a))
+-- What is kept of two members: with infima, whether numbers of classes are as for two that are orthogonal; else whether they are orthogonal.
+abbrev pub markOf : Bool → ℕ → Column → Column → Bool
+markOf true n = byCounts
+markOf false n = orthogonal n
+
+-- the mark of the members b and a < b
+abbrev pub markedRow : List ℕ → ℕ → ℕ → Bool
+markedRow marks b a = eqb (getD marks (32 * b + a) 0) 1
+
+-- the mark of two members in either order
+abbrev pub marked : List ℕ → ℕ → ℕ → Bool
+marked marks i j = elim (ltb i j) [ true ↦ markedRow marks j i | false ↦ markedRow marks i j ]
 
 -- Closing is under way: all pairs b, a < b with b < i are combined, and for b = i those with a < j.
-pub record Work (n : ℕ) (infima : Bool) (Gs : List Column) (store counts meets joins : List ℕ) (size i j : ℕ) : Type 0 where
+pub record Work (n : ℕ) (infima : Bool) (Gs : List Column) (store counts marks : List ℕ) (size i j : ℕ) : Type 0 where
   pub held : Held n store counts size
-  pub meet-cells : length meets ≡ 1024
-  pub join-cells : length joins ≡ 1024
+  pub cells : length marks ≡ 1024
   pub numbered : (F : Column) → F ∈ membersOf n store size → number F ≡ F
   pub found : Found (makeOf infima) Gs (membersOf n store size)
   pub given : (G : Column) → G ∈ Gs → G ∈ membersOf n store size
   pub combined : Combined (makeOf infima) Gs (membersOf n store size) i j
-  pub rows : (b a : ℕ) → a < b → b < i → Recorded infima (membersOf n store size) meets joins b a
-  pub row : (a : ℕ) → a < j → Recorded infima (membersOf n store size) meets joins i a
+  pub rows : (b a : ℕ) → a < b → b < i → markedRow marks b a ≡ markOf infima n (memberAt (membersOf n store size) b) (memberAt (membersOf n store size) a)
+  pub row : (a : ℕ) → a < j → markedRow marks i a ≡ markOf infima n (memberAt (membersOf n store size) i) (memberAt (membersOf n store size) a)
 
 -- what a step leaves, whatever it works towards: 33 where the family is too large, or a store that has not shrunk
 abbrev pub Kept : ℕ → List ℕ → List ℕ → ℕ → ℕ → Type 0
@@ -100,14 +108,14 @@ abbrev pub Advanced : ℕ → List ℕ → List ℕ → List ℕ → ℕ → ℕ
 Advanced n store counts above size r = (r ≡ 33) ⊎ (Held n store counts r × (size ≤ r) × Known n store above r)
 
 -- a step to the pair i, j: the new size, or 33 where the family is too large
-pub data Stepped (n : ℕ) (infima : Bool) (Gs : List Column) (store counts meets joins : List ℕ) (r i j : ℕ) : Type 0 where
-  over : r ≡ 33 → close (makeOf infima) Gs ≡ tooMany → Stepped n infima Gs store counts meets joins r i j
-  on : Work n infima Gs store counts meets joins r i j → Stepped n infima Gs store counts meets joins r i j
+pub data Stepped (n : ℕ) (infima : Bool) (Gs : List Column) (store counts marks : List ℕ) (r i j : ℕ) : Type 0 where
+  over : r ≡ 33 → close (makeOf infima) Gs ≡ tooMany → Stepped n infima Gs store counts marks r i j
+  on : Work n infima Gs store counts marks r i j → Stepped n infima Gs store counts marks r i j
 
 -- all pairs are combined: the members are those of the closed family
-pub data Closed (n : ℕ) (infima : Bool) (Gs : List Column) (store counts meets joins : List ℕ) (r : ℕ) : Type 0 where
-  exceeded : r ≡ 33 → close (makeOf infima) Gs ≡ tooMany → Closed n infima Gs store counts meets joins r
-  complete : Work n infima Gs store counts meets joins r r 0 → close (makeOf infima) Gs ≡ family (insertAll (membersOf n store r) []) → Closed n infima Gs store counts meets joins r
+pub data Closed (n : ℕ) (infima : Bool) (Gs : List Column) (store counts marks : List ℕ) (r : ℕ) : Type 0 where
+  exceeded : r ≡ 33 → close (makeOf infima) Gs ≡ tooMany → Closed n infima Gs store counts marks r
+  complete : Work n infima Gs store counts marks r r 0 → close (makeOf infima) Gs ≡ family (insertAll (membersOf n store r) []) → Closed n infima Gs store counts marks r
 
 -- ---- the order of members
 

@@ -7,8 +7,8 @@ use Prim.Native.Nat.{ℕ, _*_, _≤_, _<_}
 use lib.Dec.{eqb, ltb}
 use lib.ListN.{length, getD}
 use Rattle.rules.specs.Factor.{Column, number, classes, orthogonal}
-use Rattle.rules.specs.Family.{Family, membersOf, insertAll, written}
-use Rattle.rules.specs.Closing.{onlySupremum, tooMany, family, close, infimumAll, firstTreatmentFamily}
+use Rattle.rules.specs.Family.{membersOf, insertAll}
+use Rattle.rules.specs.Closing.{onlySupremum, tooMany, close, infimumAll}
 use Rattle.design.specs.State.{columnIn, Held, Begun}
 
 -- the choices of fewer than k columns
@@ -41,11 +41,6 @@ pub record Infima (n : ℕ) (infima lengths : List ℕ) (total : ℕ) (Cs : List
 pub data AllPlaced (n : ℕ) (Gs : List Column) (store counts : List ℕ) (r : ℕ) : Type 0 where
   over : r ≡ 33 → close onlySupremum Gs ≡ tooMany → AllPlaced n Gs store counts r
   on : Begun n Gs store counts r → AllPlaced n Gs store counts r
-
--- the first treatment family is written, or it is too large and nothing is written
-pub data FirstFamily (n k : ℕ) (Ts : List Column) (before after : List ℕ) (r : ℕ) : Type 0 where
-  no-first : r ≡ 33 → firstTreatmentFamily n k Ts ≡ tooMany → after ≡ before → FirstFamily n k Ts before after r
-  a-first : (S : Family) → firstTreatmentFamily n k Ts ≡ family S → r ≡ length S → r ≤ 32 → after ≡ written before 0 S → FirstFamily n k Ts before after r
 
 -- the columns As are placed, or more than 32 of them differ
 pub data Placing (n : ℕ) (As : List Column) (store counts : List ℕ) (r : ℕ) : Type 0 where

@@ -1,18 +1,19 @@
-// Closing a family under supremum, and under infimum too where that is asked: each unordered pair is combined once.
+// Closing a family under supremum, and under infimum too where that is asked: each unordered pair is combined once, and marked.
 ghost use mathlib.Core.Path.{_≡_};
 ghost use mathlib.Core.Bool.{true, false};
 ghost use mathlib.Core.List.{List};
 ghost use Prim.Native.Nat.{ℕ, _+_, _*_, _≤_, _<_};
+ghost use lib.Dec.{eqb};
 ghost use lib.ListN.{length};
-ghost use Rattle.rules.specs.Factor.{Column, classes, infimum, supremum};
-ghost use Rattle.rules.specs.Family.{membersOf};
+ghost use Rattle.rules.specs.Factor.{Column, classes, infimum, supremum, orthogonal};
 ghost use Rattle.factor.specs.Lent.{overlay};
-ghost use Rattle.design.specs.State.{columnIn, toldFiner, noted, Held, Placed, Known, Work, Kept, Advanced, Stepped, Closed};
+ghost use Rattle.design.specs.State.{columnIn, toldFiner, noted, Held, Known, Work, Kept, Advanced, Stepped, Closed};
 use crate::store::grown;
 use crate::store::place;
 use limits::MEMBERS;
 use limits::PLOTS;
 use standing::Bounds;
+use standing::Crossing;
 
 // The answer of a step where the family would have more members than it may.
 pub const TOO_MANY: usize = 33;
@@ -63,17 +64,18 @@ fn note_infimum(above: &mut [u32; MEMBERS], i: usize, j: usize, p: usize)
     note_finer(above, p, j);
 }
 
-// Writes the supremum of two members; answers its number of classes.
-fn member_supremum(store: &[u8], n: usize, i: usize, j: usize, column: &mut [u8; PLOTS]) -> usize
+// Writes the supremum of two members; answers its number of classes, and whether they are orthogonal.
+fn member_crossing(store: &[u8], n: usize, i: usize, j: usize, column: &mut [u8; PLOTS]) -> Crossing
     requires { ⌜ (n ≤ 240) × (length (now store) ≡ 7680) × (i < 32) × (j < 32) ⌝ }
-    ensures { λ r. ⌜ r ≡ classes (supremum (columnIn n (now (store .entry)) i) (columnIn n (now (store .entry)) j)) ⌝ }
-    ensures { λ _. ⌜ now (column .exit) ≡ overlay (now (column .entry)) (supremum (columnIn n (now (store .entry)) i) (columnIn n (now (store .entry)) j)) ⌝ }
+    ensures supremum { λ r. ⌜ r .supremum ≡ classes (supremum (columnIn n (now (store .entry)) i) (columnIn n (now (store .entry)) j)) ⌝ }
+    ensures orthogonal { λ r. ⌜ r .orthogonal ≡ orthogonal n (columnIn n (now (store .entry)) i) (columnIn n (now (store .entry)) j) ⌝ }
+    ensures above { λ _. ⌜ now (column .exit) ≡ overlay (now (column .entry)) (supremum (columnIn n (now (store .entry)) i) (columnIn n (now (store .entry)) j)) ⌝ }
 {
     let a = PLOTS * i;
     let b = PLOTS * j;
     let c = a + n;
     let d = b + n;
-    standing::supremum(&store[a..c], &store[b..d], column)
+    standing::crossing_of(&store[a..c], &store[b..d], column)
 }
 
 // Writes the infimum and the supremum of two members; answers their numbers of classes.
@@ -98,29 +100,21 @@ fn member_bounds(
     standing::bounds_of(&store[a..c], &store[b..d], below, above)
 }
 
-// Places the supremum of two members.
-fn place_supremum(
-    store: &mut [u8],
-    counts: &mut [u8; MEMBERS],
-    size: usize,
-    n: usize,
-    i: usize,
-    j: usize,
-) -> usize
-    requires { ⌜ Held n (now store) (now counts) size × (i < size) × (j < size) ⌝ }
-    ensures { λ r. ⌜ Placed n (membersOf n (now (store .entry)) size) (supremum (columnIn n (now (store .entry)) i) (columnIn n (now (store .entry)) j)) r (now (store .exit)) (now (counts .exit)) ⌝ }
+// The mark of two factors with `a` and `b` classes, whose infimum has `p` and whose supremum `q`: those that are orthogonal and have
+// classes of one size make the same product.
+fn product_mark(p: usize, q: usize, a: u8, b: u8) -> u8
+    requires { ⌜ (p ≤ 240) × (q ≤ 240) ⌝ }
+    ensures { λ r. ⌜ eqb r 1 ≡ eqb (p * q) (a * b) ⌝ }
 {
-    let mut column = [0u8; PLOTS];
-    let k = member_supremum(store, n, i, j, &mut column);
-    place(store, counts, size, &column[..n], k as u8)
+    let same = p * q == a as usize * b as usize;
+    same as u8
 }
 
-// Combines two members under both operations.
+// Combines two members under both operations, with a mark where numbers of classes are as for two that are orthogonal.
 fn combine_both(
     store: &mut [u8],
     counts: &mut [u8; MEMBERS],
-    meets: &mut [u8; PAIRS],
-    joins: &mut [u8; PAIRS],
+    marks: &mut [u8; PAIRS],
     above: &mut [u32; MEMBERS],
     size: usize,
     n: usize,
@@ -129,11 +123,12 @@ fn combine_both(
 ) -> usize
     requires { ⌜ Held n (now store) (now counts) size × (i < size) × (j < i) × Known n (now store) (now above) size ⌝ }
     ensures kept { λ r. ⌜ Advanced n (now (store .exit)) (now (counts .exit)) (now (above .exit)) size r ⌝ }
-    ensures step { λ r. ⌜ ((Gs : List Column) → Work n true Gs (now (store .entry)) (now (counts .entry)) (now (meets .entry)) (now (joins .entry)) size i j → Stepped n true Gs (now (store .exit)) (now (counts .exit)) (now (meets .exit)) (now (joins .exit)) r i (j + 1)) ⌝ }
+    ensures step { λ r. ⌜ ((Gs : List Column) → Work n true Gs (now (store .entry)) (now (counts .entry)) (now (marks .entry)) size i j → Stepped n true Gs (now (store .exit)) (now (counts .exit)) (now (marks .exit)) r i (j + 1)) ⌝ }
 {
     let mut infimum = [0u8; PLOTS];
     let mut supremum = [0u8; PLOTS];
     let bounds = member_bounds(store, n, i, j, &mut infimum, &mut supremum);
+    let mark = product_mark(bounds.infimum, bounds.supremum, counts[i], counts[j]);
     let p = place(store, counts, size, &infimum[..n], bounds.infimum as u8);
     if p == MEMBERS {
         return TOO_MANY;
@@ -143,19 +138,17 @@ fn combine_both(
     if q == MEMBERS {
         return TOO_MANY;
     }
-    let at = MEMBERS * i + j;
-    meets[at] = p as u8;
-    joins[at] = q as u8;
+    marks[MEMBERS * i + j] = mark;
     note_supremum(above, i, j, q);
     note_infimum(above, i, j, p);
     grown(more, q)
 }
 
-// Combines two members under supremum.
+// Combines two members under supremum, with a mark where they are orthogonal.
 fn combine_supremum(
     store: &mut [u8],
     counts: &mut [u8; MEMBERS],
-    joins: &mut [u8; PAIRS],
+    marks: &mut [u8; PAIRS],
     above: &mut [u32; MEMBERS],
     size: usize,
     n: usize,
@@ -164,23 +157,24 @@ fn combine_supremum(
 ) -> usize
     requires { ⌜ Held n (now store) (now counts) size × (i < size) × (j < i) × Known n (now store) (now above) size ⌝ }
     ensures kept { λ r. ⌜ Advanced n (now (store .exit)) (now (counts .exit)) (now (above .exit)) size r ⌝ }
-    ensures step { λ r. ⌜ ((Gs : List Column) (ms : List ℕ) → Work n false Gs (now (store .entry)) (now (counts .entry)) ms (now (joins .entry)) size i j → Stepped n false Gs (now (store .exit)) (now (counts .exit)) ms (now (joins .exit)) r i (j + 1)) ⌝ }
+    ensures step { λ r. ⌜ ((Gs : List Column) → Work n false Gs (now (store .entry)) (now (counts .entry)) (now (marks .entry)) size i j → Stepped n false Gs (now (store .exit)) (now (counts .exit)) (now (marks .exit)) r i (j + 1)) ⌝ }
 {
-    let q = place_supremum(store, counts, size, n, i, j);
+    let mut column = [0u8; PLOTS];
+    let crossing = member_crossing(store, n, i, j, &mut column);
+    let q = place(store, counts, size, &column[..n], crossing.supremum as u8);
     if q == MEMBERS {
         return TOO_MANY;
     }
-    joins[MEMBERS * i + j] = q as u8;
+    marks[MEMBERS * i + j] = crossing.orthogonal as u8;
     note_supremum(above, i, j, q);
     grown(size, q)
 }
 
-// Combines members `i` and `j`; answers the new size, or TOO_MANY.
+// Combines members `i` and `j`; answers the new size, or TOO_MANY. Two that are known to be nested make nothing new, and have the mark.
 fn combine(
     store: &mut [u8],
     counts: &mut [u8; MEMBERS],
-    meets: &mut [u8; PAIRS],
-    joins: &mut [u8; PAIRS],
+    marks: &mut [u8; PAIRS],
     above: &mut [u32; MEMBERS],
     size: usize,
     n: usize,
@@ -190,7 +184,7 @@ fn combine(
 ) -> usize
     requires { ⌜ Held n (now store) (now counts) size × (i < size) × (j < i) × Known n (now store) (now above) size ⌝ }
     ensures kept { λ r. ⌜ Advanced n (now (store .exit)) (now (counts .exit)) (now (above .exit)) size r ⌝ }
-    ensures step { λ r. ⌜ ((Gs : List Column) → Work n infima Gs (now (store .entry)) (now (counts .entry)) (now (meets .entry)) (now (joins .entry)) size i j → Stepped n infima Gs (now (store .exit)) (now (counts .exit)) (now (meets .exit)) (now (joins .exit)) r i (j + 1)) ⌝ }
+    ensures step { λ r. ⌜ ((Gs : List Column) → Work n infima Gs (now (store .entry)) (now (counts .entry)) (now (marks .entry)) size i j → Stepped n infima Gs (now (store .exit)) (now (counts .exit)) (now (marks .exit)) r i (j + 1)) ⌝ }
 {
     let at = MEMBERS * i + j;
     let a = counts[i];
@@ -198,27 +192,24 @@ fn combine(
     let above_i = above[i];
     let above_j = above[j];
     if told_finer(n, a, b, above_i, j) {
-        meets[at] = i as u8;
-        joins[at] = j as u8;
+        marks[at] = 1;
         return size;
     }
     if told_finer(n, b, a, above_j, i) {
-        meets[at] = j as u8;
-        joins[at] = i as u8;
+        marks[at] = 1;
         return size;
     }
     if infima {
-        return combine_both(store, counts, meets, joins, above, size, n, i, j);
+        return combine_both(store, counts, marks, above, size, n, i, j);
     }
-    combine_supremum(store, counts, joins, above, size, n, i, j)
+    combine_supremum(store, counts, marks, above, size, n, i, j)
 }
 
 // Combines member `i` with each that was found before it; answers the new size, or TOO_MANY.
 fn combine_row(
     store: &mut [u8],
     counts: &mut [u8; MEMBERS],
-    meets: &mut [u8; PAIRS],
-    joins: &mut [u8; PAIRS],
+    marks: &mut [u8; PAIRS],
     above: &mut [u32; MEMBERS],
     size: usize,
     n: usize,
@@ -227,11 +218,11 @@ fn combine_row(
 ) -> usize
     requires { ⌜ Held n (now store) (now counts) size × (i < size) × Known n (now store) (now above) size ⌝ }
     ensures kept { λ r. ⌜ Advanced n (now (store .exit)) (now (counts .exit)) (now (above .exit)) size r ⌝ }
-    ensures step { λ r. ⌜ ((Gs : List Column) → Work n infima Gs (now (store .entry)) (now (counts .entry)) (now (meets .entry)) (now (joins .entry)) size i 0 → Stepped n infima Gs (now (store .exit)) (now (counts .exit)) (now (meets .exit)) (now (joins .exit)) r i i) ⌝ }
+    ensures step { λ r. ⌜ ((Gs : List Column) → Work n infima Gs (now (store .entry)) (now (counts .entry)) (now (marks .entry)) size i 0 → Stepped n infima Gs (now (store .exit)) (now (counts .exit)) (now (marks .exit)) r i i) ⌝ }
 {
     let mut now = size;
     for j in 0..i {
-        now = combine(store, counts, meets, joins, above, now, n, infima, i, j);
+        now = combine(store, counts, marks, above, now, n, infima, i, j);
         if now == TOO_MANY {
             return TOO_MANY;
         }
@@ -243,21 +234,20 @@ fn combine_row(
 pub fn close(
     store: &mut [u8],
     counts: &mut [u8; MEMBERS],
-    meets: &mut [u8; PAIRS],
-    joins: &mut [u8; PAIRS],
+    marks: &mut [u8; PAIRS],
     size: usize,
     n: usize,
     infima: bool,
 ) -> usize
     requires { ⌜ Held n (now store) (now counts) size ⌝ }
     ensures kept { λ r. ⌜ Kept n (now (store .exit)) (now (counts .exit)) size r ⌝ }
-    ensures closes { λ r. ⌜ ((Gs : List Column) → Work n infima Gs (now (store .entry)) (now (counts .entry)) (now (meets .entry)) (now (joins .entry)) size 0 0 → Closed n infima Gs (now (store .exit)) (now (counts .exit)) (now (meets .exit)) (now (joins .exit)) r) ⌝ }
+    ensures closes { λ r. ⌜ ((Gs : List Column) → Work n infima Gs (now (store .entry)) (now (counts .entry)) (now (marks .entry)) size 0 0 → Closed n infima Gs (now (store .exit)) (now (counts .exit)) (now (marks .exit)) r) ⌝ }
 {
     let mut above = [0u32; MEMBERS];
     let mut now = size;
     let mut i = 0;
     while i < now {
-        now = combine_row(store, counts, meets, joins, &mut above, now, n, infima, i);
+        now = combine_row(store, counts, marks, &mut above, now, n, infima, i);
         if now == TOO_MANY {
             return TOO_MANY;
         }

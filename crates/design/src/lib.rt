@@ -12,7 +12,6 @@ mod closed;
 mod closing;
 mod columns;
 mod crossing;
-mod pairs;
 mod questions;
 mod sorting;
 mod steps;

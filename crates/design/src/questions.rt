@@ -1,11 +1,12 @@
-// Questions 6, 7, 9 and 10.
+// Questions 6, 7, 9, 10 and 12.
 ghost use mathlib.Core.Path.{_≡_};
 ghost use Prim.Native.Nat.{ℕ, _+_, _*_, _≤_, _<_};
 ghost use lib.ListN.{length, getD};
 ghost use Rattle.rules.specs.Factor.{uniform};
 ghost use Rattle.rules.specs.Family.{membersOf, columnsFrom};
 ghost use Rattle.rules.specs.Design.{withinLimits, fullWithinLimits, nonzero, allNonzero, firstFailing};
-ghost use Rattle.design.specs.Search.{firstPairOf, agreeRow, agree, PairIn};
+ghost use Rattle.design.specs.State.{marked};
+ghost use Rattle.design.specs.Search.{firstPairOf};
 use crate::closing::PAIRS;
 use limits::COLUMNS;
 use limits::FAMILY;
@@ -109,46 +110,27 @@ pub fn first_unequal(family: &[u8], n: usize, size: usize) -> usize
     0
 }
 
-// The test of `agree` where `i` was found later than `j`.
-fn agree_row(counts: &[u8], meets: &[u8], joins: &[u8], i: usize, j: usize) -> bool
-    requires { ⌜ (length (now counts) ≡ 32) × (length (now meets) ≡ 1024) × (length (now joins) ≡ 1024) × (i < 32) × (j < 32) × (getD (now meets) (32 * i + j) 0 < 32) × (getD (now joins) (32 * i + j) 0 < 32) ⌝ }
-    ensures { λ r. ⌜ r ≡ agreeRow (now (counts .entry)) (now (meets .entry)) (now (joins .entry)) i j ⌝ }
-{
-    let at = MEMBERS * i + j;
-    let m = counts[meets[at] as usize] as usize;
-    let s = counts[joins[at] as usize] as usize;
-    let f = counts[i] as usize;
-    let g = counts[j] as usize;
-    m * s == f * g
-}
-
-// Whether two members, with classes of one size, are orthogonal: by the numbers of classes of their infimum and supremum.
-fn agree(counts: &[u8], meets: &[u8], joins: &[u8], i: usize, j: usize) -> bool
-    requires { ⌜ (length (now counts) ≡ 32) × (length (now meets) ≡ 1024) × (length (now joins) ≡ 1024) × (i < 32) × (j < 32) × PairIn (now meets) (now joins) i j ⌝ }
-    ensures { λ r. ⌜ r ≡ agree (now (counts .entry)) (now (meets .entry)) (now (joins .entry)) i j ⌝ }
+// Whether members `i` and `j`, in whichever order they were found, have the mark.
+fn marked(marks: &[u8], i: usize, j: usize) -> bool
+    requires { ⌜ (length (now marks) ≡ 1024) × (i < 32) × (j < 32) ⌝ }
+    ensures { λ r. ⌜ r ≡ marked (now (marks .entry)) i j ⌝ }
 {
     if i < j {
-        return agree_row(counts, meets, joins, j, i);
+        return marks[MEMBERS * j + i] == 1;
     }
-    agree_row(counts, meets, joins, i, j)
+    marks[MEMBERS * i + j] == 1
 }
 
-// 10: the first pair of places whose members are not orthogonal.
-pub fn first_apart(
-    order: &[u8; MEMBERS],
-    counts: &[u8; MEMBERS],
-    meets: &[u8; PAIRS],
-    joins: &[u8; PAIRS],
-    size: usize,
-) -> Places
-    requires { ⌜ (size ≤ 32) × ((i : ℕ) → i < size → getD (now order) i 0 < 32) × ((i j : ℕ) → i < j → j < size → PairIn (now meets) (now joins) (getD (now order) i 0) (getD (now order) j 0)) ⌝ }
-    ensures { λ r. ⌜ r ≡ firstPairOf (λ i j. agree (now (counts .entry)) (now (meets .entry)) (now (joins .entry)) (getD (now (order .entry)) i 0) (getD (now (order .entry)) j 0)) size ⌝ }
+// 10 and 12: the first pair of places whose members do not have the mark.
+pub fn first_apart(order: &[u8; MEMBERS], marks: &[u8; PAIRS], size: usize) -> Places
+    requires { ⌜ (size ≤ 32) × ((i : ℕ) → i < size → getD (now order) i 0 < 32) ⌝ }
+    ensures { λ r. ⌜ r ≡ firstPairOf (λ i j. marked (now (marks .entry)) (getD (now (order .entry)) i 0) (getD (now (order .entry)) j 0)) size ⌝ }
 {
     let mut first = 0;
     let mut second = 0;
     'pairs: for i in 0..size {
         for j in (i + 1)..size {
-            if !agree(counts, meets, joins, order[i] as usize, order[j] as usize) {
+            if !marked(marks, order[i] as usize, order[j] as usize) {
                 first = i + 1;
                 second = j + 1;
                 break 'pairs;

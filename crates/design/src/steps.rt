@@ -12,6 +12,7 @@ use crate::FullDesign;
 use crate::FullRefusal;
 use crate::PlotDesign;
 use crate::closed::close_plot_family;
+use crate::closing::PAIRS;
 use crate::treatments::first_family;
 use crate::verdict::judge_plots;
 use crate::verdict::judge_treatments;
@@ -25,8 +26,9 @@ pub fn plot_from_8(levels: &[Level], n: usize, columns: usize, family: &mut [u8]
     ensures buffer { λ _. ⌜ now (family .exit) ≡ plotBuffer (now (family .entry)) (question8 n (plotFamily n (columnsFrom n (now (levels .entry)) 0 columns))) ⌝ }
 {
     let mut store = [0u8; FAMILY];
-    let closing = close_plot_family(levels, n, columns, &mut store, family);
-    judge_plots(family, closing, n)
+    let mut marks = [0u8; PAIRS];
+    let closed = close_plot_family(levels, n, columns, &mut store, &mut marks, family);
+    judge_plots(family, closed, &marks, n)
 }
 
 // Questions 8 to 14. The treatments are closed only for a plot family that is accepted.
@@ -45,8 +47,9 @@ pub fn full_from_8(
     ensures treatments { λ _. ⌜ now («treatment_family» .exit) ≡ treatmentBuffer (now («treatment_family» .entry)) (withTreatments n k (columnsFrom n (now (levels .entry)) 6 d) (question8 n (plotFamily n (columnsFrom n (now (levels .entry)) 0 c)))) ⌝ }
 {
     let mut store = [0u8; FAMILY];
-    let closing = close_plot_family(levels, n, c, &mut store, plot_family);
-    let answer = judge_plots(plot_family, closing, n);
+    let mut marks = [0u8; PAIRS];
+    let closed = close_plot_family(levels, n, c, &mut store, &mut marks, plot_family);
+    let answer = judge_plots(plot_family, closed, &marks, n);
     match answer {
         PlotDesign::Refused(r) => FullDesign::Refused(FullRefusal {
             number: r.number,
@@ -85,6 +88,7 @@ fn full_from_11(
     ensures answer { λ r. ⌜ fullNumbers r ≡ fullNumbersOf (question11 n (membersOf n (now (plot .entry)) held) (firstTreatmentFamily n k (columnsFrom n (now (levels .entry)) 6 d))) ⌝ }
     ensures buffer { λ _. ⌜ now («treatment_family» .exit) ≡ treatmentBuffer (now («treatment_family» .entry)) (question11 n (membersOf n (now (plot .entry)) held) (firstTreatmentFamily n k (columnsFrom n (now (levels .entry)) 6 d))) ⌝ }
 {
-    let size = first_family(levels, n, d, k, store, treatment_family);
-    judge_treatments(plot, held, size, n, store, treatment_family)
+    let mut marks = [0u8; PAIRS];
+    let closed = first_family(levels, n, d, k, store, &mut marks, treatment_family);
+    judge_treatments(plot, held, closed, &marks, n, store, treatment_family)
 }

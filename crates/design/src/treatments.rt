@@ -1,5 +1,6 @@
 // The first treatment family. (The final one: crossing.rt.)
 ghost use mathlib.Core.Path.{_≡_};
+ghost use mathlib.Core.Bool.{false};
 ghost use mathlib.Core.List.{List};
 ghost use mathlib.Core.Logic.{_⊎_};
 ghost use Prim.Native.Nat.{ℕ, _+_, _*_, _≤_, _<_};
@@ -9,12 +10,12 @@ ghost use Rattle.rules.specs.Factor.{Column, number, infimum};
 ghost use Rattle.rules.specs.Family.{_∈_, columnsFrom, membersOf};
 ghost use Rattle.rules.specs.Closing.{treatmentGenerators};
 ghost use Rattle.design.specs.State.{columnIn, Held, Placed, Begun};
-ghost use Rattle.design.specs.Treatments.{extended, Room, Infima, AllPlaced, FirstFamily};
+ghost use Rattle.design.specs.Judging.{Listed};
+ghost use Rattle.design.specs.Treatments.{extended, Room, Infima, AllPlaced};
+use crate::closed::ClosedFamily;
+use crate::closed::close_family;
 use crate::closing::PAIRS;
 use crate::closing::TOO_MANY;
-use crate::closing::close;
-use crate::sorting::sort;
-use crate::sorting::write;
 use crate::store::grown;
 use crate::store::largest;
 use crate::store::place;
@@ -153,24 +154,25 @@ fn place_all(
     size
 }
 
-// Writes the first treatment family in its order, grown in the store; answers its size, or TOO_MANY, and then nothing is written.
+// Closes the first treatment family and writes it in its order, where it is not too large.
 pub fn first_family(
     levels: &[Level],
     n: usize,
     d: usize,
     k: usize,
     store: &mut [u8],
+    marks: &mut [u8; PAIRS],
     family: &mut [u8],
-) -> usize
-    requires { ⌜ (1 ≤ n) × (n ≤ 240) × (d ≤ 6) × (1 ≤ k) × (k ≤ 6) × (2880 ≤ length (now levels)) × (7680 ≤ length (now family)) × (length (now store) ≡ 7680) ⌝ }
-    ensures { λ r. ⌜ FirstFamily n k (columnsFrom n (now (levels .entry)) 6 d) (now (family .entry)) (now (family .exit)) r ⌝ }
+) -> ClosedFamily
+    requires { ⌜ (1 ≤ n) × (n ≤ 240) × (d ≤ 6) × (1 ≤ k) × (k ≤ 6) × (2880 ≤ length (now levels)) × (7680 ≤ length (now family)) × (length (now store) ≡ 7680) × (length (now marks) ≡ 1024) ⌝ }
+    ensures { λ r. ⌜ Listed n false (treatmentGenerators n k (columnsFrom n (now (levels .entry)) 6 d)) (now (family .entry)) (now (family .exit)) (now (marks .exit)) (r .order) (r .size) ⌝ }
 {
     if d < FEW_COLUMNS {
         let mut infima = [0u8; FEW_INFIMA];
-        return first_by(levels, n, d, k, &mut infima, store, family);
+        return first_by(levels, n, d, k, &mut infima, store, marks, family);
     }
     let mut infima = [0u8; INFIMA];
-    first_by(levels, n, d, k, &mut infima, store, family)
+    first_by(levels, n, d, k, &mut infima, store, marks, family)
 }
 
 // The same, with memory for the infima of the choices.
@@ -181,38 +183,18 @@ fn first_by(
     k: usize,
     infima: &mut [u8],
     store: &mut [u8],
+    marks: &mut [u8; PAIRS],
     family: &mut [u8],
-) -> usize
-    requires { ⌜ (1 ≤ n) × (n ≤ 240) × (d ≤ 6) × (1 ≤ k) × (k ≤ 6) × (2880 ≤ length (now levels)) × (7680 ≤ length (now family)) × (length (now store) ≡ 7680) × (((d ≤ 3) × (1920 ≤ length (now infima))) ⊎ (15360 ≤ length (now infima))) ⌝ }
-    ensures { λ r. ⌜ FirstFamily n k (columnsFrom n (now (levels .entry)) 6 d) (now (family .entry)) (now (family .exit)) r ⌝ }
+) -> ClosedFamily
+    requires { ⌜ (1 ≤ n) × (n ≤ 240) × (d ≤ 6) × (1 ≤ k) × (k ≤ 6) × (2880 ≤ length (now levels)) × (7680 ≤ length (now family)) × (length (now store) ≡ 7680) × (length (now marks) ≡ 1024) × (((d ≤ 3) × (1920 ≤ length (now infima))) ⊎ (15360 ≤ length (now infima))) ⌝ }
+    ensures { λ r. ⌜ Listed n false (treatmentGenerators n k (columnsFrom n (now (levels .entry)) 6 d)) (now (family .entry)) (now (family .exit)) (now (marks .exit)) (r .order) (r .size) ⌝ }
 {
     let total = fill_infima(levels, n, d, k, infima);
     let mut counts = [0u8; MEMBERS];
     let start = place_all(infima, total, n, store, &mut counts);
     if start == TOO_MANY {
-        return TOO_MANY;
+        let order = [0u8; MEMBERS];
+        return ClosedFamily { size: start, order };
     }
-    close_first(store, &mut counts, start, n, family)
-}
-
-// Closes the family under supremum and writes it in its order; answers its size, or TOO_MANY.
-fn close_first(
-    store: &mut [u8],
-    counts: &mut [u8; MEMBERS],
-    start: usize,
-    n: usize,
-    family: &mut [u8],
-) -> usize
-    requires { ⌜ Begun n (membersOf n (now store) start) (now store) (now counts) start × (7680 ≤ length (now family)) ⌝ }
-    ensures { λ r. ⌜ ((k : ℕ) (Ts : List Column) → Begun n (treatmentGenerators n k Ts) (now (store .entry)) (now (counts .entry)) start → FirstFamily n k Ts (now (family .entry)) (now (family .exit)) r) ⌝ }
-{
-    let mut meets = [0u8; PAIRS];
-    let mut joins = [0u8; PAIRS];
-    let size = close(store, counts, &mut meets, &mut joins, start, n, false);
-    if size == TOO_MANY {
-        return TOO_MANY;
-    }
-    let order = sort(store, counts, n, size);
-    write(store, &order, n, size, family);
-    size
+    close_family(store, &mut counts, marks, start, n, false, family)
 }

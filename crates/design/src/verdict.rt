@@ -5,7 +5,7 @@ ghost use lib.ListN.{length};
 ghost use Rattle.rules.specs.Factor.{uniform, orthogonal};
 ghost use Rattle.rules.specs.Family.{membersOf};
 ghost use Rattle.rules.specs.Design.{refused, question8, question9, firstFailing, plotBuffer, question11, question12, question13, firstPair, firstCross, treatmentBuffer};
-ghost use Rattle.design.specs.Judging.{Judging};
+ghost use Rattle.design.specs.Judging.{Tells, Judging};
 ghost use Rattle.design.specs.Closings.{closedIn, Ready};
 ghost use Rattle.design.specs.Treatments.{Numbered};
 ghost use Rattle.design.specs.Answers.{plotNumbers, plotNumbersOf, fullNumbers, fullNumbersOf, fullRefusing};
@@ -14,11 +14,11 @@ use crate::FullRefusal;
 use crate::PlotDesign;
 use crate::PlotRefusal;
 use crate::Sizes;
-use crate::closed::PlotClosing;
+use crate::closed::ClosedFamily;
 use crate::closing::PAIRS;
 use crate::closing::TOO_MANY;
 use crate::crossing::cross;
-use crate::pairs::first_pair;
+use crate::questions::Places;
 use crate::questions::first_apart;
 use crate::questions::first_unequal;
 use crate::sorting::sort;
@@ -53,32 +53,27 @@ pub fn full_refused(number: u32) -> FullDesign
 }
 
 // Questions 8 to 10 of a closed plot family.
-pub fn judge_plots(plot: &[u8], closing: PlotClosing, n: usize) -> PlotDesign
-    requires { ⌜ Ready n (closing .size) (now plot) (closing .order) (closing .counts) (closing .meets) (closing .joins) ⌝ }
-    ensures { λ r. ⌜ plotNumbers r ≡ plotNumbersOf (question8 n (closedIn n (now (plot .entry)) (closing .size))) ⌝ }
+pub fn judge_plots(plot: &[u8], closed: ClosedFamily, marks: &[u8; PAIRS], n: usize) -> PlotDesign
+    requires { ⌜ Ready n (closed .size) (now plot) (closed .order) (now marks) ⌝ }
+    ensures { λ r. ⌜ plotNumbers r ≡ plotNumbersOf (question8 n (closedIn n (now (plot .entry)) (closed .size))) ⌝ }
 {
-    let size = closing.size;
+    let size = closed.size;
     if size == TOO_MANY {
         return refused(8);
     }
-    let order = closing.order;
-    let counts = closing.counts;
-    let meets = closing.meets;
-    let joins = closing.joins;
-    from_9(&order, &counts, &meets, &joins, n, size, plot)
+    let order = closed.order;
+    from_9(&order, marks, n, size, plot)
 }
 
 // Questions 9 and 10 of a family that is written.
 fn from_9(
     order: &[u8; MEMBERS],
-    counts: &[u8; MEMBERS],
-    meets: &[u8; PAIRS],
-    joins: &[u8; PAIRS],
+    marks: &[u8; PAIRS],
     n: usize,
     size: usize,
     family: &[u8],
 ) -> PlotDesign
-    requires { ⌜ Judging n size (now family) (now order) (now counts) (now meets) (now joins) ⌝ }
+    requires { ⌜ Judging n size (now family) (now order) (now marks) ⌝ }
     ensures { λ r. ⌜ plotNumbers r ≡ plotNumbersOf (question9 n (membersOf n (now (family .entry)) size) (firstFailing (uniform n) 1 (membersOf n (now (family .entry)) size))) ⌝ }
 {
     let unequal = first_unequal(family, n, size);
@@ -90,7 +85,7 @@ fn from_9(
             size,
         });
     }
-    let apart = first_apart(order, counts, meets, joins, size);
+    let apart = first_apart(order, marks, size);
     let first = apart.first;
     if first != 0 {
         return PlotDesign::Refused(PlotRefusal {
@@ -121,35 +116,39 @@ fn treatments_refused(number: u32, i: usize, j: usize, plot: usize, treatment: u
 pub fn judge_treatments(
     plot_family: &[u8],
     plot: usize,
-    size: usize,
+    closed: ClosedFamily,
+    marks: &[u8; PAIRS],
     n: usize,
     store: &mut [u8],
     treatment_family: &mut [u8],
 ) -> FullDesign
-    requires { ⌜ (1 ≤ n) × (n ≤ 240) × Numbered n (now «plot_family») plot × ((size ≡ 33 → ⊥) → Numbered n (now «treatment_family») size) × (length (now store) ≡ 7680) ⌝ }
-    ensures answer { λ r. ⌜ fullNumbers r ≡ fullNumbersOf (question11 n (membersOf n (now («plot_family» .entry)) plot) (closedIn n (now («treatment_family» .entry)) size)) ⌝ }
-    ensures buffer { λ _. ⌜ now («treatment_family» .exit) ≡ treatmentBuffer (now («treatment_family» .entry)) (question11 n (membersOf n (now («plot_family» .entry)) plot) (closedIn n (now («treatment_family» .entry)) size)) ⌝ }
+    requires { ⌜ (1 ≤ n) × (n ≤ 240) × Numbered n (now «plot_family») plot × ((closed .size ≡ 33 → ⊥) → Numbered n (now «treatment_family») (closed .size) × Tells (orthogonal n) (membersOf n (now «treatment_family») (closed .size)) (closed .order) (now marks) (closed .size)) × (length (now store) ≡ 7680) ⌝ }
+    ensures answer { λ r. ⌜ fullNumbers r ≡ fullNumbersOf (question11 n (membersOf n (now («plot_family» .entry)) plot) (closedIn n (now («treatment_family» .entry)) (closed .size))) ⌝ }
+    ensures buffer { λ _. ⌜ now («treatment_family» .exit) ≡ treatmentBuffer (now («treatment_family» .entry)) (question11 n (membersOf n (now («plot_family» .entry)) plot) (closedIn n (now («treatment_family» .entry)) (closed .size))) ⌝ }
 {
+    let size = closed.size;
     if size == TOO_MANY {
         return treatments_refused(11, 0, 0, plot, 0);
     }
-    from_12(plot_family, plot, size, n, store, treatment_family)
+    let order = closed.order;
+    let pair = first_apart(&order, marks, size);
+    from_12(plot_family, plot, pair, size, n, store, treatment_family)
 }
 
-// Questions 12 to 14.
+// Questions 12 to 14, with the first pair of treatment members that are not orthogonal.
 fn from_12(
     plot_family: &[u8],
     plot: usize,
+    pair: Places,
     size: usize,
     n: usize,
     store: &mut [u8],
     treatment_family: &mut [u8],
 ) -> FullDesign
-    requires { ⌜ (1 ≤ n) × (n ≤ 240) × Numbered n (now «plot_family») plot × Numbered n (now «treatment_family») size × (length (now store) ≡ 7680) ⌝ }
+    requires { ⌜ (1 ≤ n) × (n ≤ 240) × Numbered n (now «plot_family») plot × Numbered n (now «treatment_family») size × (pair .first ≡ firstPair (orthogonal n) 1 (membersOf n (now «treatment_family») size) .first) × (pair .second ≡ firstPair (orthogonal n) 1 (membersOf n (now «treatment_family») size) .second) × (length (now store) ≡ 7680) ⌝ }
     ensures answer { λ r. ⌜ fullNumbers r ≡ fullNumbersOf (question12 n (membersOf n (now («plot_family» .entry)) plot) (membersOf n (now («treatment_family» .entry)) size) (firstPair (orthogonal n) 1 (membersOf n (now («treatment_family» .entry)) size))) ⌝ }
     ensures buffer { λ _. ⌜ now («treatment_family» .exit) ≡ treatmentBuffer (now («treatment_family» .entry)) (question12 n (membersOf n (now («plot_family» .entry)) plot) (membersOf n (now («treatment_family» .entry)) size) (firstPair (orthogonal n) 1 (membersOf n (now («treatment_family» .entry)) size))) ⌝ }
 {
-    let pair = first_pair(treatment_family, n, size);
     let at = pair.first;
     if at != 0 {
         return treatments_refused(12, at, pair.second, plot, size);

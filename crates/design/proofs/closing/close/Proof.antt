@@ -14,46 +14,46 @@ use Rattle.design.proofs.closing.close.Statement.{statement}
 use Rattle.design.proofs.closing.close.Tie as tie
 
 abbrev Inv-loop : tie.InvT-loop
-Inv-loop store₀ counts₀ meets₀ joins₀ size n infima above₀ now₀ i₀ store counts meets joins above now i =
-    (i ≤ now) × Held n store counts now × (size ≤ now) × ((Gs : List Column) → Work n infima Gs store₀ counts₀ meets₀ joins₀ size 0 0 → Work n infima Gs store counts meets joins now i 0) × Known n store above now
+Inv-loop store₀ counts₀ marks₀ size n infima above₀ now₀ i₀ store counts marks above now i =
+    (i ≤ now) × Held n store counts now × (size ≤ now) × ((Gs : List Column) → Work n infima Gs store₀ counts₀ marks₀ size 0 0 → Work n infima Gs store counts marks now i 0) × Known n store above now
 
 abbrev μ-loop : tie.MeasureT-loop
-μ-loop store₀ counts₀ meets₀ joins₀ size n infima above₀ now₀ i₀ store counts meets joins above now i = 33 - i
+μ-loop store₀ counts₀ marks₀ size n infima above₀ now₀ i₀ store counts marks above now i = 33 - i
 
 loop-holds : tie.Need-loop-holds Inv-loop μ-loop
 loop-holds c = (omega arith, c .before .pre, omega arith, λ Gs w. w, known-none (c .before .args .n) (now (c .before .args .store)) (c .before .args .size))
 
 combine-row-requires : tie.Need-combine-row-requires Inv-loop μ-loop
 combine-row-requires c κs =
-    let t = c .before .before .before .before .before in
+    let t = c .before .before .before .before in
     (t .before .loop .inv .1, t .loop-test .taken, t .before .loop .inv .4)
 
 same-length : tie.Need-same-length Inv-loop μ-loop
 same-length c =
     let b = c .before .before .before in
-    let l = b .before .before .before .before .before .before .before in
+    let l = b .before .before .before .before .before .before in
     omega (arith, b .combine-row .kept .0, l .loop .inv .1 .room, l .before .before .pre .room)
 
 returns : tie.Need-returns Inv-loop μ-loop
 returns c =
     let b = c .before .before .before in
-    let l = b .before .before .before .before .before .before .before in
+    let l = b .before .before .before .before .before .before in
     (inl refl, λ Gs w. exceeded refl (stepped-over (c .if1 .taken) (b .combine-row .ensures .1 Gs (l .loop .inv .3 Gs w))))
 
 add-i : tie.Need-add-i Inv-loop μ-loop
 add-i c =
-    let t = c .before .before .before .before .before .before .before .before .before in
+    let t = c .before .before .before .before .before .before .before .before in
     omega (arith, t .loop-test .taken, t .before .loop .inv .1 .few)
 
 loop-less : tie.Need-loop-less Inv-loop μ-loop
 loop-less c =
-    let t = c .before .before .before .before .before .before .before .before .before in
+    let t = c .before .before .before .before .before .before .before .before in
     omega (arith, t .loop-test .taken, t .before .loop .inv .1 .few)
 
 loop-again : tie.Need-loop-again Inv-loop μ-loop
 loop-again c =
     let b = c .before .before .before in
-    let t = b .before .before .before .before .before .before in
+    let t = b .before .before .before .before .before in
     let l = t .before in
     let k = advanced-on (c .if1 .left) (b .combine-row .ensures .0) in (
       omega (arith, t .loop-test .taken, k .1),

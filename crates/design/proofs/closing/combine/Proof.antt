@@ -1,4 +1,4 @@
--- `combine` meets its contract: where the order is known the places are, and other pairs are combined.
+-- `combine` meets its contract: where the order is known the mark is, and other pairs are combined.
 -- Assumes nothing.
 use mathlib.Core.Path.{sym, _∙_}
 use mathlib.Core.Logic.{inr}
@@ -39,17 +39,8 @@ element-copy-out-above-j c = search needs
 told-finer-requires : tie.Need-told-finer-requires
 told-finer-requires c κs = search needs
 
-cast-meets : tie.Need-cast-meets
-cast-meets c = search needs
-
-element-write-meets : tie.Need-element-write-meets
-element-write-meets c = search needs
-
-cast-joins : tie.Need-cast-joins
-cast-joins c = search needs
-
-element-write-joins : tie.Need-element-write-joins
-element-write-joins c = search needs
+element-write-marks : tie.Need-element-write-marks
+element-write-marks c = search needs
 
 returns : tie.Need-returns
 returns c =
@@ -61,17 +52,8 @@ returns c =
 told-finer-requires-2 : tie.Need-told-finer-requires-2
 told-finer-requires-2 c κs = search needs
 
-cast-meets-2 : tie.Need-cast-meets-2
-cast-meets-2 c = search needs
-
-element-write-meets-2 : tie.Need-element-write-meets-2
-element-write-meets-2 c = search needs
-
-cast-joins-2 : tie.Need-cast-joins-2
-cast-joins-2 c = search needs
-
-element-write-joins-2 : tie.Need-element-write-joins-2
-element-write-joins-2 c = search needs
+element-write-marks-2 : tie.Need-element-write-marks-2
+element-write-marks-2 c = search needs
 
 returns-2 : tie.Need-returns-2
 returns-2 c =
@@ -89,7 +71,7 @@ same-length c = search needs
 returns-3 : tie.Need-returns-3
 returns-3 c =
     let b = c .before .before in
-    let t = b .before .before .before .before .before .before in
+    let t = b .before .before .before .before .before in
     (b .combine-both .ensures .0, λ Gs w. step-as (t .if3 .taken) (b .combine-both .ensures .1 Gs) w)
 
 combine-supremum-requires : tie.Need-combine-supremum-requires
@@ -102,7 +84,7 @@ returns-4 : tie.Need-returns-4
 returns-4 c =
     let b = c .before .before in
     let t = b .before .before .before .before .before in
-    (b .combine-supremum .ensures .0, λ Gs w. step-as (t .if3 .left) (b .combine-supremum .ensures .1 Gs _) w)
+    (b .combine-supremum .ensures .0, λ Gs w. step-as (t .if3 .left) (b .combine-supremum .ensures .1 Gs) w)
 
 pub combine-spec : {M : Type 1} → statement M
 combine-spec =
@@ -117,16 +99,10 @@ combine-spec =
     mul-above-j
     element-copy-out-above-j
     told-finer-requires
-    cast-meets
-    element-write-meets
-    cast-joins
-    element-write-joins
+    element-write-marks
     returns
     told-finer-requires-2
-    cast-meets-2
-    element-write-meets-2
-    cast-joins-2
-    element-write-joins-2
+    element-write-marks-2
     returns-2
     combine-both-requires
     same-length

@@ -1,21 +1,23 @@
--- `combine_both` meets its contract: the infimum and the supremum are placed, and their places are stored.
+-- `combine_both` meets its contract: the infimum and the supremum are placed, and the mark is stored.
 -- Assumes nothing.
 use mathlib.Core.Path.{_≡_, refl, sym, ap, ap₂, _∙_}
 use mathlib.Core.Logic.{inl, inr}
 use mathlib.Core.List.{List}
-use Prim.Native.Nat.{ℕ, _≤_, _<_}
+use Prim.Native.Nat.{ℕ, _*_, _≤_, _<_}
 use native.Mathlib.Omega.{arith}
 use denote.Ref.{now}
+use lib.Dec.{eqb}
 use lib.ListN.{length, take, replicate, length-take}
 use borrow.Author.Needs.{needs}
 use Rattle.rules.specs.Factor.{Column, classes, infimum, supremum}
 use Rattle.rules.specs.Family.{membersOf}
 use Rattle.rules.proofs.Bounds.{length-infimum′, length-supremum′}
 use Rattle.rules.proofs.ClassCount.{classes-most}
+use Rattle.rules.proofs.Orthogonality.{byCounts}
 use Rattle.design.specs.State.{columnIn, noted, Placed, grownTo, over, on}
 use Rattle.design.proofs.Common.{overlay-front}
 use Rattle.design.proofs.Start.{held-on, placed-on}
-use Rattle.design.proofs.Work.{size-members, held-length, Stood, stood, stood-as, column-kept, pair-here, pair-keeps, work-infimum, over-infimum, work-supremum, over-supremum, work-both}
+use Rattle.design.proofs.Work.{size-members, held-length, Stood, stood, stood-as, column-kept, kept-at, pair-here, pair-keeps, work-infimum, over-infimum, work-supremum, over-supremum, work-both}
 use Rattle.design.proofs.KnownOrder.{noted-words, known-grown, known-supremum, known-infimum}
 use Rattle.design.proofs.closing.combine_both.Statement.{statement}
 use Rattle.design.proofs.closing.combine_both.Tie as tie
@@ -71,9 +73,27 @@ module _ (m : tie.After-member-bounds) where
   above-length : length (take n above) ≡ n
   above-length = ap length above-front ∙ above-plots
 
+-- where both were written, seen from the place at which the mark is made
+abbrev written : tie.After-product-mark → tie.After-member-bounds
+written x = x .before .before .before
+
+-- the mark says whether the numbers of classes make one product
+mark-is : (x : tie.After-product-mark)
+    → let a = start (written x) .args in
+    eqb (x .product-mark .result) 1 ≡ byCounts (columnIn (a .n) (now (a .store)) (a .i)) (columnIn (a .n) (now (a .store)) (a .j))
+mark-is x =
+    let m = written x in
+    let s = start m in
+    let b = m .member-bounds .ensures in
+    x .product-mark .ensures ∙ ap₂ eqb (ap₂ _*_ (b .0) (b .1 .0)) (ap₂ _*_ (s .pre .0 .counted (s .args .i) (s .pre .1)) (s .pre .0 .counted (s .args .j) (omega (arith, s .pre .1, s .pre .2))))
+
+-- where the mark was made
+abbrev marking : tie.After-place → tie.After-product-mark
+marking p = p .before .before .before .before .before
+
 -- where both were written
 abbrev bounds : tie.After-place → tie.After-member-bounds
-bounds p = p .before .before .before .before .before
+bounds p = written (marking p)
 
 -- where the infimum was placed
 abbrev first : tie.After-grown → tie.After-place
@@ -148,22 +168,34 @@ here-2 c =
 member-bounds-requires : tie.Need-member-bounds-requires
 member-bounds-requires c κs = search needs
 
+element-copy-out-product-mark : tie.Need-element-copy-out-product-mark
+element-copy-out-product-mark c = search needs
+
+element-copy-out-product-mark-2 : tie.Need-element-copy-out-product-mark-2
+element-copy-out-product-mark-2 c = search needs
+
+product-mark-requires : tie.Need-product-mark-requires
+product-mark-requires c κs =
+    let m = c .before .before in
+    let b = m .member-bounds .ensures in
+    (omega (arith, b .0, classes-most (made infimum m), below-plots m, start m .pre .0 .most), omega (arith, b .1 .0, classes-most (made supremum m), above-plots m, start m .pre .0 .most))
+
 array-share-prefix-infimum : tie.Need-array-share-prefix-infimum
 array-share-prefix-infimum c =
-    let m = c .before .before in
+    let m = written (c .before .before) in
     omega (arith, length-take (n m) (below m), below-length m)
 
 slice-aggregate-place : tie.Need-slice-aggregate-place
-slice-aggregate-place c = sym (below-length (c .before .before .before))
+slice-aggregate-place c = sym (below-length (written (c .before .before .before)))
 
 cast-place : tie.Need-cast-place
 cast-place c =
-    let m = c .before .before .before .before in
+    let m = written (c .before .before .before .before) in
     omega (arith, m .member-bounds .ensures .0, classes-most (made infimum m), below-plots m, start m .pre .0 .most)
 
 place-requires : tie.Need-place-requires
 place-requires c κs =
-    let m = c .before .before .before .before in
+    let m = written (c .before .before .before .before) in
     (held-on _ _ _ _ _ _ (below-front m) (below-plots m) (start m .pre .0), m .member-bounds .ensures .0 ∙ ap classes (sym (below-front m)))
 
 same-length : tie.Need-same-length
@@ -209,31 +241,18 @@ returns-2 c =
       λ Gs w. over refl (over-supremum (work-infimum w (s .pre .1) (s .pre .2) (here g)) (i-in g) (s .pre .2) (placed-2 q) (c .if2 .taken)),
     )
 
-mul-at : tie.Need-mul-at
-mul-at c =
+mul-marks : tie.Need-mul-marks
+mul-marks c =
     let s = start (bounds (first (second (c .before .before .before)))) in
     omega (arith, s .pre .1, s .pre .0 .few)
 
-add-at : tie.Need-add-at
-add-at c =
+add-marks : tie.Need-add-marks
+add-marks c =
     let s = start (bounds (first (second (c .before .before .before)))) in
     omega (arith, s .pre .1, s .pre .2, s .pre .0 .few)
 
-cast-meets : tie.Need-cast-meets
-cast-meets c =
-    let g = second (c .before .before .before) in
-    omega (arith, here g .here, here g .held .few)
-
-element-write-meets : tie.Need-element-write-meets
-element-write-meets c =
-    let s = start (bounds (first (second (c .before .before .before)))) in
-    omega (arith, s .pre .1, s .pre .2, s .pre .0 .few)
-
-cast-joins : tie.Need-cast-joins
-cast-joins c = omega (arith, here-2 c .here, here-2 c .held .few)
-
-element-write-joins : tie.Need-element-write-joins
-element-write-joins c =
+element-write-marks : tie.Need-element-write-marks
+element-write-marks c =
     let s = start (bounds (first (second (c .before .before .before)))) in
     omega (arith, s .pre .1, s .pre .2, s .pre .0 .few)
 
@@ -282,10 +301,11 @@ returns-3 c =
     let j-there : a .j < length (membersOf (a .n) (first g .place .last .0) (g .grown .result)) = omega (arith, j-in g, size-members (x .held)) in
     let low = pair-keeps i-there j-there y (pair-here (s .pre .0) (s .pre .1) j-first x) in
     let high = pair-here (x .held) (i-in g) (j-in g) y in
+    let mark = mark-is (marking (first g)) ∙ sym (ap₂ byCounts (y .keeps (a .i) i-there ∙ kept-at (s .pre .0) x (a .i) (s .pre .1)) (y .keeps (a .j) j-there ∙ kept-at (s .pre .0) x (a .j) j-first)) in
     let known = known-infimum (y .held) i-now j-now low (known-supremum (y .held) i-now j-now high (known-grown (x .held) y (known-grown (s .pre .0) x (s .pre .3)))) in
     let words = c .before .note-infimum .ensures ∙ ap (λ (l : List ℕ). noted (noted l (first g .place .result) (a .i)) (first g .place .result) (a .j)) (t .note-supremum .ensures) in (
       inr (rw (c .grown2 .ensures, words) (y .held, more, known)),
-      λ Gs w. on (rw (c .grown2 .ensures) (work-both i-now (s .pre .2) low high (work-supremum (work-infimum w (s .pre .1) (s .pre .2) x) (i-in g) (s .pre .2) y))),
+      λ Gs w. on (rw (c .grown2 .ensures) (work-both (marking (first g) .product-mark .result) i-now (s .pre .2) low high mark (work-supremum (work-infimum w (s .pre .1) (s .pre .2) x) (i-in g) (s .pre .2) y))),
     )
 
 pub combine-both-spec : {M : Type 1} → statement M
@@ -293,6 +313,9 @@ combine-both-spec =
     tie.close
     (tie.spec
     member-bounds-requires
+    element-copy-out-product-mark
+    element-copy-out-product-mark-2
+    product-mark-requires
     array-share-prefix-infimum
     slice-aggregate-place
     cast-place
@@ -306,12 +329,9 @@ combine-both-spec =
     place-requires-2
     same-length-2
     returns-2
-    mul-at
-    add-at
-    cast-meets
-    element-write-meets
-    cast-joins
-    element-write-joins
+    mul-marks
+    add-marks
+    element-write-marks
     note-supremum-requires
     note-infimum-requires
     grown-requires-2

@@ -34,14 +34,14 @@ enum-known-answer-2 c = search needs
 
 -- the place at which the plot family is closed, seen from the place at which it is judged, and where the function starts
 abbrev closed : tie.After-judge-plots → tie.After-close-plot-family
-closed f = f .before .before .before .before .before
+closed f = f .before .before .before .before .before .before
 
 abbrev start : tie.After-judge-plots → tie.Start
-start f = closed f .before .before .before .before .before .before
+start f = closed f .before .before .before .before .before .before .before
 
 -- the memory that holds the plot family
 abbrev memory : tie.After-judge-plots → List ℕ
-memory f = closed f .close-plot-family .last .1 .1 .1 .1 .0
+memory f = closed f .close-plot-family .last .1 .1 .1 .1 .1 .0
 
 -- what is answered to it
 abbrev answered : tie.After-judge-plots → Answer

@@ -21,8 +21,8 @@ same-length c = search needs
 
 returns : tie.Need-returns
 returns c =
-    let p = c .before .before .before .before .before in
-    let s = p .before .before .before .before .before in
+    let p = c .before .before .before .before .before .before in
+    let s = p .before .before .before .before .before .before in
     let w = ap (question8 (s .args .n)) (p .close-plot-family .ensures .0) in
     (c .judge-plots .ensures ∙ ap plotNumbersOf w, p .close-plot-family .ensures .1 .0)
 

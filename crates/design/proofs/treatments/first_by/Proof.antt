@@ -11,7 +11,8 @@ use Rattle.rules.specs.Factor.{Column, number}
 use Rattle.rules.specs.Family.{_∈_, columnsFrom, membersOf}
 use Rattle.rules.specs.Closing.{treatmentGenerators, onlySupremum, tooMany, close}
 use Rattle.design.specs.State.{Begun}
-use Rattle.design.proofs.Choosing.{generators-numbered, all-on, all-over, begun-own, first-over}
+use Rattle.design.specs.Judging.{unlisted}
+use Rattle.design.proofs.Choosing.{generators-numbered, all-on, all-over, begun-own}
 use Rattle.design.proofs.treatments.first_by.Statement.{statement}
 use Rattle.design.proofs.treatments.first_by.Tie as tie
 
@@ -67,13 +68,13 @@ same-length-2 : tie.Need-same-length-2
 same-length-2 c = search needs
 
 returns : tie.Need-returns
-returns c = first-over refl (too-large (c .before .before .before) (c .if1 .taken)) refl
+returns c = unlisted (c .if1 .taken) (too-large (c .before .before .before) (c .if1 .taken)) refl
 
-close-first-requires : tie.Need-close-first-requires
-close-first-requires c κs =
-    let l = c .before .before .before in
+close-family-requires : tie.Need-close-family-requires
+close-family-requires c κs =
+    let l = c .before .before .before .before in
     let p = l .before .before .before in
-    (begun-own (begun p (l .if1 .left)), start (filled p) .pre .6)
+    (begun-own (begun p (l .if1 .left)), start (filled p) .pre .8, start (filled p) .pre .6)
 
 same-length-3 : tie.Need-same-length-3
 same-length-3 c = search needs
@@ -87,9 +88,9 @@ same-length-5 c = search needs
 returns-2 : tie.Need-returns-2
 returns-2 c =
     let z = c .before .before .before .before in
-    let l = z .before .before .before .before in
+    let l = z .before .before .before .before .before in
     let p = l .before .before .before in
-    z .close-first .ensures (start (filled p) .args .k) (columns (filled p)) (begun p (l .if1 .left))
+    z .close-family .ensures (generators (filled p)) (begun p (l .if1 .left))
 
 pub first-by-spec : {M : Type 1} → statement M
 first-by-spec =
@@ -100,7 +101,7 @@ first-by-spec =
     same-length
     same-length-2
     returns
-    close-first-requires
+    close-family-requires
     same-length-3
     same-length-4
     same-length-5

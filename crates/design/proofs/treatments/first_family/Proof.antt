@@ -15,10 +15,10 @@ slice-aggregate-first-by c = search needs
 
 first-by-requires : tie.Need-first-by-requires
 first-by-requires c κs =
-    let t = c .before .before .before in
+    let t = c .before .before .before .before in
     let s = t .before .before .before .before in
     let few : s .args .d ≤ 3 = omega (arith, t .if1 .taken) in
-    (s .pre .0, s .pre .1, s .pre .2, s .pre .3, s .pre .4, s .pre .5, s .pre .6, s .pre .7, inl (few, le-of-eq (sym (length-replicate {A = ℕ} 1920 0))))
+    (s .pre .0, s .pre .1, s .pre .2, s .pre .3, s .pre .4, s .pre .5, s .pre .6, s .pre .7, s .pre .8, inl (few, le-of-eq (sym (length-replicate {A = ℕ} 1920 0))))
 
 same-length : tie.Need-same-length
 same-length c = search needs
@@ -34,9 +34,9 @@ slice-aggregate-first-by-2 c = search needs
 
 first-by-requires-2 : tie.Need-first-by-requires-2
 first-by-requires-2 c κs =
-    let t = c .before .before .before in
+    let t = c .before .before .before .before in
     let s = t .before .before .before .before in
-    (s .pre .0, s .pre .1, s .pre .2, s .pre .3, s .pre .4, s .pre .5, s .pre .6, s .pre .7, inr (le-of-eq (sym (length-replicate {A = ℕ} 15360 0))))
+    (s .pre .0, s .pre .1, s .pre .2, s .pre .3, s .pre .4, s .pre .5, s .pre .6, s .pre .7, s .pre .8, inr (le-of-eq (sym (length-replicate {A = ℕ} 15360 0))))
 
 same-length-3 : tie.Need-same-length-3
 same-length-3 c = search needs

@@ -44,8 +44,8 @@ returns-2 c =
     let p : Places = firstPair (orthogonal n) 1 P in
     let len : length P ≡ s .args .size = length-members n (s .pre .most) (now (s .args .family)) (s .args .size) in
     let even : firstFailing (uniform n) 1 P ≡ 0 = sym (b .before .before .first-unequal .ensures) ∙ b .before .if1 .left in
-    let i : b .first-apart .result .first ≡ p .first = ap (λ (q : found.Places). q .first) (b .first-apart .ensures) ∙ s .pre .first even in
-    let j : b .first-apart .result .second ≡ p .second = ap (λ (q : found.Places). q .second) (b .first-apart .ensures) ∙ s .pre .second even in
+    let i : b .first-apart .result .first ≡ p .first = ap (λ (q : found.Places). q .first) (b .first-apart .ensures) ∙ s .pre .tells even .first in
+    let j : b .first-apart .result .second ≡ p .second = ap (λ (q : found.Places). q .second) (b .first-apart .ensures) ∙ s .pre .tells even .second in
     refusing-is 10 i j (sym len) ∙ sym (numbers-10 P p (λ z. c .if2 .taken (i ∙ z))) ∙ sym (ap plotNumbersOf (nine-passed n P (firstFailing (uniform n) 1 P) even))
 
 returns-3 : tie.Need-returns-3
@@ -58,7 +58,7 @@ returns-3 c =
     let p : Places = firstPair (orthogonal n) 1 P in
     let len : length P ≡ s .args .size = length-members n (s .pre .most) (now (s .args .family)) (s .args .size) in
     let even : firstFailing (uniform n) 1 P ≡ 0 = sym (b .before .before .first-unequal .ensures) ∙ b .before .if1 .left in
-    let i : b .first-apart .result .first ≡ p .first = ap (λ (q : found.Places). q .first) (b .first-apart .ensures) ∙ s .pre .first even in
+    let i : b .first-apart .result .first ≡ p .first = ap (λ (q : found.Places). q .first) (b .first-apart .ensures) ∙ s .pre .tells even .first in
     ap accepting (sym len) ∙ sym (numbers-0 P p (sym i ∙ c .if2 .left)) ∙ sym (ap plotNumbersOf (nine-passed n P (firstFailing (uniform n) 1 P) even))
 
 pub from-9-spec : {M : Type 1} → statement M

@@ -18,21 +18,21 @@ returns c =
     let i = c .before in
     let s = i .before .before in
     let n = s .args .n in
-    let e = eight-over n (closedIn n (now (s .args .plot)) (s .args .closing .size)) (held-over n (now (s .args .plot)) (s .args .closing .size) (i .if1 .taken)) in
+    let e = eight-over n (closedIn n (now (s .args .plot)) (s .args .closed .size)) (held-over n (now (s .args .plot)) (s .args .closed .size) (i .if1 .taken)) in
     c .refused .ensures ∙ ap plotNumbersOf (sym e)
 
 from-9-requires : tie.Need-from-9-requires
 from-9-requires c κs =
-    let i = c .before .before .before .before .before .before .before .before in
+    let i = c .before .before in
     i .before .before .pre .judging (i .if1 .left)
 
 returns-2 : tie.Need-returns-2
 returns-2 c =
-    let i = c .before .before .before .before .before .before .before .before .before in
+    let i = c .before .before .before in
     let s = i .before .before in
     let n = s .args .n in
     let plot = now (s .args .plot) in
-    let size = s .args .closing .size in
+    let size = s .args .closed .size in
     c .from-9 .ensures ∙ ap plotNumbersOf (sym (eight-on n (closedIn n plot size) (membersOf n plot size) (held-on n plot size (i .if1 .left))))
 
 pub judge-plots-spec : {M : Type 1} → statement M
