@@ -1,17 +1,15 @@
 -- Laws of the answers: what each case of the verdict says in numbers.
 -- Assumes nothing.
 use Rattle.rules.specs.Structure.{Lent, Demand3}
-use Rattle.rules.specs.Closing.{Closing, tooMany, family, close, both, plotGenerators, plotFamily, InPlotFamily}
-use Rattle.rules.specs.Factor.{orthogonal, Column, uniform}
-use Rattle.rules.specs.Family.{Family, written, insertAll, membersOf, columnsFrom, AtMost}
+use Rattle.rules.specs.Closing.{Closing, tooMany, family, both, plotFamily, InPlotFamily}
+use Rattle.rules.specs.Factor.{orthogonal, uniform}
+use Rattle.rules.specs.Family.{Family, written, membersOf, columnsFrom, AtMost}
 use Rattle.rules.specs.Design.{Places, firstPair, question9, question10, refused, question8, firstFailing, plotBuffer, plotsWithin, withinLimits, allNonzero, question7, plotDesign, returned}
 use Rattle.rules.proofs.Demand3.{demand-3}
 use Rattle.rules.proofs.Verdict.{verdict-members}
 use borrow.Author.Tests.{eq-eqb, ne-eqb, ltb-true, leb-true}
 use lib.Dec.{ltb, leb}
-use native.Mathlib.Omega.{arith}
-use mathlib.Core.List.{List, []}
-use Rattle.design.specs.State.{Closed, exceeded, complete, Work}
+use mathlib.Core.List.{List}
 use mathlib.Core.Path.{_≡_, refl, sym, ap, _∙_}
 use mathlib.Core.Bool.{Bool, true, false, _&&_, true≢false}
 use Prim.Native.Nat.{ℕ, zero, suc, _≤_}
@@ -83,32 +81,6 @@ module _ (n : ℕ) (memory : List ℕ) (m : ℕ) where
   pub held-on : (m ≡ 33 → ⊥) → closedIn n memory m ≡ family (membersOf n memory m)
   unfolding closedIn
   held-on ne = rw (ne-eqb m 33 ne, closedIn)
-
-module _ (n : ℕ) (Fs : List Column) where
-  -- closing says which
-  module _ {store counts marks : List ℕ} {r : ℕ} (c : Closed n true (plotGenerators n Fs) store counts marks r) where
-    pub closed-over : r ≡ 33 → plotFamily n Fs ≡ tooMany
-    unfolding plotFamily
-    closed-over e = go c
-      where
-        go : Closed n true (plotGenerators n Fs) store counts marks r → close both (plotGenerators n Fs) ≡ tooMany
-        go (exceeded q t) = t
-        go (complete w t) = absurd (omega (arith, w .held .few))
-
-    pub closed-work : (r ≡ 33 → ⊥) → Work n true (plotGenerators n Fs) store counts marks r r 0
-    closed-work ne = go c
-      where
-        go : Closed n true (plotGenerators n Fs) store counts marks r → Work n true (plotGenerators n Fs) store counts marks r r 0
-        go (exceeded q t) = absurd (ne q)
-        go (complete w t) = w
-
-    pub closed-family : (r ≡ 33 → ⊥) → plotFamily n Fs ≡ family (insertAll (membersOf n store r) [])
-    unfolding plotFamily
-    closed-family ne = go c
-      where
-        go : Closed n true (plotGenerators n Fs) store counts marks r → close both (plotGenerators n Fs) ≡ family (insertAll (membersOf n store r) [])
-        go (exceeded q t) = absurd (ne q)
-        go (complete w t) = t
 
 -- ---- the plot design
 

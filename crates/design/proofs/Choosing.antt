@@ -13,14 +13,14 @@ use lib.ListN.{length, getD, take, drop, set, length-set, length-append, length-
 use lib.Seq.{paste, take-suc, take-all, take-length, length-take-le, getD-set-same, getD-set-other, getD-at}
 use borrow.Author.Tests.{lt-ltb, le-ltb, ltb-true, ltb-false, eqb-true, eqb-false}
 use Rattle.rules.specs.Factor.{Column, number, infimum, universal}
-use Rattle.rules.specs.Family.{Family, _∈_, Distinct, columnsFrom, membersOf, insertAll, written}
+use Rattle.rules.specs.Family.{Family, _∈_, columnsFrom, membersOf, insertAll, written}
 use Rattle.rules.specs.Closing.{choices, infimumAll, treatmentGenerators, onlySupremum, tooMany, family, close, given, Chosen, none-of, skipping, taking}
 use Rattle.rules.proofs.Numbering.{by-cases, length-number, length-infimum, number-infimum}
 use Rattle.rules.proofs.Supremum.{infimum-equivalent, number-equivalent, equivalent-refl}
 use Rattle.rules.proofs.Bounds.{numbered-equal}
 use Rattle.rules.proofs.Extremes.{length-universal, number-universal}
 use Rattle.rules.proofs.Buffer.{put, length-put, length-members, member-is, members-add, columns-snoc}
-use Rattle.rules.proofs.WorkList.{place-of, member-in, found-over, length-sorted}
+use Rattle.rules.proofs.WorkList.{place-of, member-in, found-over}
 use Rattle.rules.proofs.Families.{choices-chosen}
 use Rattle.factor.specs.Lent.{onCommon, overlay}
 use Rattle.factor.proofs.Lent.{common-all, take-overlay}

@@ -19,7 +19,6 @@ use mathlib.Core.Logic.{_⊎_, inl, inr}
 use Rattle.design.proofs.Answered.{held-over, held-on}
 use Rattle.design.proofs.Search.{cross-found}
 use Rattle.design.specs.Search.{crossFirst, crossSecond}
-use Rattle.design.specs.State.{columnIn}
 use Rattle.design.specs.Closings.{closedIn}
 use Rattle.design.specs.Judging.{Tells, Listed, unlisted, listed}
 use Rattle.design.specs.Treatments.{orthogonalAt, Numbered}

@@ -3,16 +3,16 @@
 use mathlib.Core.Path.{_≡_, refl, sym, ap, ap₂, _∙_, subst}
 use mathlib.Core.Bool.{Bool, true, false}
 use mathlib.Core.List.{List, [], _∷_, map, Memᴰ·cast}
-use Prim.Native.Nat.{ℕ, zero, suc, _+_, _*_, _≤_, _<_, zero-le, suc-le-suc}
+use Prim.Native.Nat.{ℕ, zero, suc, _*_, _≤_, _<_}
 use native.Mathlib.Nat.{not-suc-le-zero, le-of-suc-le-suc, mul-comm}
 use native.Mathlib.Omega.{arith}
 use lib.Arith.{lt-of-le-ne}
 use lib.Dec.{eqb, ltb}
-use lib.ListN.{length, getD, take, drop, length-drop}
+use lib.ListN.{length, getD, take}
 use lib.Seq.{length-take-le, getD-take}
 use borrow.Author.Tests.{ltb-true, ltb-false}
 use Rattle.rules.specs.Factor.{Column, classes, uniform, orthogonal}
-use Rattle.rules.specs.Family.{Family, _∈_, Distinct, apart, empty, insertAll, membersOf, columnsFrom, written}
+use Rattle.rules.specs.Family.{Family, _∈_, Distinct, apart, empty, insertAll, membersOf, written}
 use Rattle.rules.specs.Closing.{plotGenerators, plotFamily, family, close}
 use Rattle.rules.specs.Design.{Places, firstFailing, firstPair, question8, plotBuffer}
 use Rattle.rules.specs.Relation.{memberAt}
@@ -20,7 +20,7 @@ use Rattle.rules.proofs.Numbering.{by-cases}
 use Rattle.rules.proofs.Members.{ascending-insertAll}
 use Rattle.rules.proofs.Closing.{ascending-distinct}
 use Rattle.rules.proofs.Bounds.{infimum-comm, supremum-comm}
-use Rattle.rules.proofs.Buffer.{member-is, length-members, written-members, length-written}
+use Rattle.rules.proofs.Buffer.{length-members, written-members, length-written}
 use Rattle.rules.proofs.Orthogonality.{same-test, byCounts}
 use Rattle.rules.proofs.Tests.{orthogonal-test, orthogonal-sym}
 use Rattle.rules.proofs.Questions.{question-10, plot-length}

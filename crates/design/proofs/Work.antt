@@ -9,7 +9,7 @@ use native.Mathlib.Nat.{not-suc-le-zero, add-zero, mul-comm}
 use native.Mathlib.Numerals.{add-one}
 use native.Mathlib.Omega.{arith}
 use lib.Dec.{eqb, ltb}
-use lib.ListN.{length, getD, set, length-append, length-set, List·getD-append}
+use lib.ListN.{length, set, length-set, List·getD-append}
 use lib.Seq.{getD-append-add, getD-set-same, getD-set-other}
 use borrow.Author.Tests.{ltb-true, ltb-false, eq-eqb}
 use Rattle.rules.specs.Factor.{Column, finer, number, classes, infimum, supremum, orthogonal}
@@ -18,13 +18,12 @@ use Rattle.rules.specs.Closing.{both, onlySupremum, Made, given, made, tooMany,
 use Rattle.rules.specs.Relation.{memberAt}
 use Rattle.rules.proofs.Numbering.{by-cases, number-infimum}
 use Rattle.rules.proofs.Supremum.{number-supremum}
-use Rattle.rules.proofs.Classes.{finer-test}
-use Rattle.rules.proofs.Bounds.{infimum-comm, supremum-comm, infimum-finer-is, supremum-coarser-is, infimum-self, supremum-self}
+use Rattle.rules.proofs.Bounds.{infimum-comm, supremum-comm, infimum-self, supremum-self}
 use Rattle.rules.proofs.Orthogonality.{byCounts}
 use Rattle.rules.proofs.Buffer.{member-is, length-members}
 use Rattle.rules.proofs.WorkList.{PlaceOf, place-of, member-in, Found, found-more, found-over, Combined, combined-none, combined-more, combined-step, combined-row, combined-close}
 use Rattle.design.proofs.Common.{column-length}
-use Rattle.design.proofs.Extremes.{finer-orthogonal, coarser-orthogonal}
+use Rattle.design.proofs.Extremes.{finer-infimum, finer-supremum, coarser-infimum, coarser-supremum, finer-orthogonal, coarser-orthogonal}
 use Rattle.design.proofs.Placing.{grown-new, grown-old}
 use Rattle.design.specs.State.{columnIn, Held, Placed, full, old, new, grownTo, Begun, makeOf, markOf, markedRow, Work, Known, Advanced, Stepped, over, on}
 
@@ -319,13 +318,11 @@ module _ {n : ℕ} {infima : Bool} {Gs : List Column} {store counts marks : List
 
     -- of two members, one finer than the other, the infimum is the finer and the supremum the coarser
     nested-left : finer n A B ≡ true → (memberAt S i ≡ infimum (memberAt S i) (memberAt S j)) × (memberAt S j ≡ supremum (memberAt S i) (memberAt S j))
-    nested-left e = let f = finer-test n A B .0 e in rw (at-i, at-j) (sym (infimum-finer-is n A B lA lB f ∙ nA), sym (supremum-coarser-is n A B lA lB f ∙ nB))
+    nested-left e = rw (at-i, at-j) (sym (finer-infimum n A B lA lB e nA), sym (finer-supremum n A B lA lB e nB))
 
     -- the other way round
     nested-right : finer n B A ≡ true → (memberAt S j ≡ infimum (memberAt S i) (memberAt S j)) × (memberAt S i ≡ supremum (memberAt S i) (memberAt S j))
-    nested-right e =
-        let f = finer-test n B A .0 e in
-        rw (at-i, at-j) (sym (infimum-comm n A B lA lB ∙ infimum-finer-is n B A lB lA f ∙ nB), sym (supremum-comm n A B lA lB ∙ supremum-coarser-is n B A lB lA f ∙ nA))
+    nested-right e = rw (at-i, at-j) (sym (coarser-infimum n B A lB lA e nB), sym (coarser-supremum n B A lB lA e nA))
 
 module _ {n : ℕ} {Gs : List Column} {store counts marks : List ℕ} {size i j : ℕ} (w : Work n true Gs store counts marks size i j) (hi : i < size) (hj : j < i) where
   -- the infimum of the pair is in the smallest set

@@ -1,7 +1,7 @@
 -- Searches over places, from 0, for the first that fails a test; the answers count from 1.
 -- Assumes nothing.
 use mathlib.Core.Bool.{Bool, true, false}
-use Prim.Native.Nat.{ℕ, zero, suc, _+_, _*_, _-_, _<_, _≤_}
+use Prim.Native.Nat.{ℕ, zero, suc, _+_, _-_, _<_}
 use lib.Dec.{eqb}
 use Rattle.design.specs.declared.questions.Places.{Places}
 

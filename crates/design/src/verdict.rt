@@ -4,7 +4,7 @@ ghost use Prim.Native.Nat.{_≤_, _<_};
 ghost use lib.ListN.{length};
 ghost use Rattle.rules.specs.Factor.{uniform, orthogonal};
 ghost use Rattle.rules.specs.Family.{membersOf};
-ghost use Rattle.rules.specs.Design.{refused, question8, question9, firstFailing, plotBuffer, question11, question12, question13, firstPair, firstCross, treatmentBuffer};
+ghost use Rattle.rules.specs.Design.{refused, question8, question9, firstFailing, question11, question12, question13, firstPair, firstCross, treatmentBuffer};
 ghost use Rattle.design.specs.Judging.{Tells, Judging};
 ghost use Rattle.design.specs.Closings.{closedIn, Ready};
 ghost use Rattle.design.specs.Treatments.{Numbered};

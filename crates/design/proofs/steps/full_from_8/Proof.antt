@@ -7,7 +7,7 @@ use native.Mathlib.Omega.{arith}
 use denote.Ref.{now}
 use borrow.Author.Needs.{needs}
 use Rattle.rules.specs.Factor.{Column}
-use Rattle.rules.specs.Family.{Family, columnsFrom, membersOf, written}
+use Rattle.rules.specs.Family.{Family, columnsFrom, written}
 use Rattle.rules.specs.Closing.{Closing, plotFamily, firstTreatmentFamily}
 use Rattle.rules.specs.Design.{Answer, question8, question11, plotBuffer, withTreatments, treatmentBuffer}
 use Rattle.rules.proofs.Demand3.{column-length}
