@@ -81,7 +81,7 @@ pub noted-words : (above : List ℕ) (a b : ℕ) → length above ≡ 32 → len
 noted-words above a b l = length-set above a (bitOr (getD above a 0) (bitOr (getD above b 0) (1 * 2 ^ b % 2 ^ 32))) ∙ l
 
 -- a member that is finer than another is finer than all that this one is known to be finer than
-known-noted : {n : ℕ} {store above : List ℕ} {size a b : ℕ} → size ≤ 32 → a < size → b < size → Finer n (columnIn n store a) (columnIn n store b) → Known n store above size → Known n store (noted above a b) size
+pub known-noted : {n : ℕ} {store above : List ℕ} {size a b : ℕ} → size ≤ 32 → a < size → b < size → Finer n (columnIn n store a) (columnIn n store b) → Known n store above size → Known n store (noted above a b) size
 known-noted {n} {store} {above} {size} {a} {b} few ha hb f known = record {
   words = noted-words above a b (known .words);
   sound = λ c d e. by-cases (eqb c a) (λ q. at c d (eqb-true c a q) e) (λ q. known .sound c d (ap (λ (w : ℕ). bitAt w d) (sym (getD-set-other above a c word 0 (eqb-false c a q))) ∙ e));

@@ -5,7 +5,7 @@ ghost use mathlib.Core.List.{List};
 ghost use Prim.Native.Nat.{_+_, _*_, _≤_, _<_};
 ghost use lib.Dec.{eqb};
 ghost use lib.ListN.{length};
-ghost use Rattle.rules.specs.Factor.{Column, classes, infimum, supremum, orthogonal};
+ghost use Rattle.rules.specs.Factor.{Column, classes, infimum, supremum, finer, orthogonal};
 ghost use Rattle.factor.specs.Lent.{overlay};
 ghost use Rattle.design.specs.State.{columnIn, toldFiner, noted, Held, Known, Work, Kept, Advanced, Stepped, Closed};
 use crate::store::grown;
@@ -62,6 +62,49 @@ fn note_infimum(above: &mut [u32; MEMBERS], i: usize, j: usize, p: usize)
 {
     note_finer(above, p, i);
     note_finer(above, p, j);
+}
+
+// Whether member `i` is finer than or equivalent to member `j`.
+fn member_finer(store: &[u8], n: usize, i: usize, j: usize) -> bool
+    requires { ⌜ (n ≤ 240) × (length (now store) ≡ 7680) × (i < 32) × (j < 32) ⌝ }
+    ensures { λ r. ⌜ r ≡ finer n (columnIn n (now (store .entry)) i) (columnIn n (now (store .entry)) j) ⌝ }
+{
+    let a = PLOTS * i;
+    let b = PLOTS * j;
+    let c = a + n;
+    let d = b + n;
+    standing::finer(&store[a..c], &store[b..d])
+}
+
+// Whether member `i` is found to be finer than member `j`: it is known, or a walk shows it, which is then noted. None is walked that has not
+// more classes.
+fn found_finer(
+    store: &[u8],
+    counts: &[u8; MEMBERS],
+    above: &mut [u32; MEMBERS],
+    size: usize,
+    n: usize,
+    i: usize,
+    j: usize,
+) -> bool
+    requires { ⌜ Held n (now store) (now counts) size × (i < size) × (j < size) × Known n (now store) (now above) size ⌝ }
+    ensures finer { λ r. ⌜ (r ≡ true → finer n (columnIn n (now (store .entry)) i) (columnIn n (now (store .entry)) j) ≡ true) ⌝ }
+    ensures known { λ _. ⌜ Known n (now (store .entry)) (now (above .exit)) size ⌝ }
+{
+    let a = counts[i];
+    let b = counts[j];
+    let word = above[i];
+    if told_finer(n, a, b, word, j) {
+        return true;
+    }
+    if a <= b {
+        return false;
+    }
+    if member_finer(store, n, i, j) {
+        note_finer(above, i, j);
+        return true;
+    }
+    false
 }
 
 // Writes the supremum of two members; answers its number of classes, and whether they are orthogonal.
@@ -170,7 +213,7 @@ fn combine_supremum(
     grown(size, q)
 }
 
-// Combines members `i` and `j`; answers the new size, or TOO_MANY. Two that are known to be nested make nothing new, and have the mark.
+// Combines members `i` and `j`; answers the new size, or TOO_MANY. Two that are nested make nothing new, and have the mark.
 fn combine(
     store: &mut [u8],
     counts: &mut [u8; MEMBERS],
@@ -187,15 +230,11 @@ fn combine(
     ensures step { λ r. ⌜ ((Gs : List Column) → Work n infima Gs (now (store .entry)) (now (counts .entry)) (now (marks .entry)) size i j → Stepped n infima Gs (now (store .exit)) (now (counts .exit)) (now (marks .exit)) r i (j + 1)) ⌝ }
 {
     let at = MEMBERS * i + j;
-    let a = counts[i];
-    let b = counts[j];
-    let above_i = above[i];
-    let above_j = above[j];
-    if told_finer(n, a, b, above_i, j) {
+    if found_finer(store, counts, above, size, n, i, j) {
         marks[at] = 1;
         return size;
     }
-    if told_finer(n, b, a, above_j, i) {
+    if found_finer(store, counts, above, size, n, j, i) {
         marks[at] = 1;
         return size;
     }

@@ -8,7 +8,6 @@ use native.Mathlib.Omega.{arith}
 use borrow.Author.Needs.{needs}
 use Rattle.design.specs.State.{on}
 use Rattle.design.proofs.Work.{work-left, work-right, step-as}
-use Rattle.design.proofs.KnownOrder.{told-order}
 use Rattle.design.proofs.closing.combine.Statement.{statement}
 use Rattle.design.proofs.closing.combine.Tie as tie
 
@@ -18,55 +17,46 @@ mul-at c = search needs
 add-at : tie.Need-add-at
 add-at c = search needs
 
-element-copy-out-a : tie.Need-element-copy-out-a
-element-copy-out-a c = search needs
-
-element-copy-out-b : tie.Need-element-copy-out-b
-element-copy-out-b c = search needs
-
-mul-above-i : tie.Need-mul-above-i
-mul-above-i c = search needs
-
-element-copy-out-above-i : tie.Need-element-copy-out-above-i
-element-copy-out-above-i c = search needs
-
-mul-above-j : tie.Need-mul-above-j
-mul-above-j c = search needs
-
-element-copy-out-above-j : tie.Need-element-copy-out-above-j
-element-copy-out-above-j c = search needs
-
-told-finer-requires : tie.Need-told-finer-requires
-told-finer-requires c κs = search needs
+found-finer-requires : tie.Need-found-finer-requires
+found-finer-requires c κs =
+    let s = c .before .before .before .before in
+    (s .pre .0, s .pre .1, omega (arith, s .pre .1, s .pre .2), s .pre .3)
 
 element-write-marks : tie.Need-element-write-marks
 element-write-marks c = search needs
 
+same-length : tie.Need-same-length
+same-length c = search needs
+
 returns : tie.Need-returns
 returns c =
-    let s = c .before .before .before .before .before .before .before in
-    let j-in : s .args .j < s .args .size = omega (arith, s .pre .1, s .pre .2) in
-    let e = told-order (s .pre .0) (s .pre .1) j-in (s .pre .3) (sym (c .before .told-finer .ensures) ∙ c .if1 .taken) in
-    (inr (s .pre .0, le-refl _, s .pre .3), λ Gs w. on (work-left w (s .pre .1) (s .pre .2) e))
+    let f = c .before in
+    let s = f .before .before .before .before .before in
+    (inr (s .pre .0, le-refl _, f .found-finer .ensures .1), λ Gs w. on (work-left w (s .pre .1) (s .pre .2) (f .found-finer .ensures .0 (c .if1 .taken))))
 
-told-finer-requires-2 : tie.Need-told-finer-requires-2
-told-finer-requires-2 c κs = search needs
+found-finer-requires-2 : tie.Need-found-finer-requires-2
+found-finer-requires-2 c κs =
+    let f = c .before .before .before .before in
+    let s = f .before .before .before .before .before in
+    (s .pre .0, omega (arith, s .pre .1, s .pre .2), s .pre .1, f .found-finer .ensures .1)
 
 element-write-marks-2 : tie.Need-element-write-marks-2
 element-write-marks-2 c = search needs
 
+same-length-2 : tie.Need-same-length-2
+same-length-2 c = search needs
+
 returns-2 : tie.Need-returns-2
 returns-2 c =
-    let s = c .before .before .before .before .before .before .before .before .before in
-    let j-in : s .args .j < s .args .size = omega (arith, s .pre .1, s .pre .2) in
-    let e = told-order (s .pre .0) j-in (s .pre .1) (s .pre .3) (sym (c .before .told-finer2 .ensures) ∙ c .if2 .taken) in
-    (inr (s .pre .0, le-refl _, s .pre .3), λ Gs w. on (work-right w (s .pre .1) (s .pre .2) e))
+    let f = c .before in
+    let s = f .before .before .before .before .before .before .before .before .before .before in
+    (inr (s .pre .0, le-refl _, f .found-finer2 .ensures .1), λ Gs w. on (work-right w (s .pre .1) (s .pre .2) (f .found-finer2 .ensures .0 (c .if2 .taken))))
 
 combine-both-requires : tie.Need-combine-both-requires
 combine-both-requires c κs = search needs
 
-same-length : tie.Need-same-length
-same-length c = search needs
+same-length-3 : tie.Need-same-length-3
+same-length-3 c = search needs
 
 returns-3 : tie.Need-returns-3
 returns-3 c =
@@ -77,8 +67,8 @@ returns-3 c =
 combine-supremum-requires : tie.Need-combine-supremum-requires
 combine-supremum-requires c κs = search needs
 
-same-length-2 : tie.Need-same-length-2
-same-length-2 c = search needs
+same-length-4 : tie.Need-same-length-4
+same-length-4 c = search needs
 
 returns-4 : tie.Need-returns-4
 returns-4 c =
@@ -92,21 +82,17 @@ combine-spec =
     (tie.spec
     mul-at
     add-at
-    element-copy-out-a
-    element-copy-out-b
-    mul-above-i
-    element-copy-out-above-i
-    mul-above-j
-    element-copy-out-above-j
-    told-finer-requires
+    found-finer-requires
     element-write-marks
+    same-length
     returns
-    told-finer-requires-2
+    found-finer-requires-2
     element-write-marks-2
+    same-length-2
     returns-2
     combine-both-requires
-    same-length
+    same-length-3
     returns-3
     combine-supremum-requires
-    same-length-2
+    same-length-4
     returns-4)
