@@ -128,9 +128,6 @@ module _ (t : ℕ → ℕ → Bool) (n i : ℕ) where
   pub cross-alone-yes : crossPartner t n i ≡ 0 → crossAlone t n i ≡ true
   cross-alone-yes e = eq-eqb (crossPartner t n i) 0 e
 
-  pub cross-alone-no : (j : ℕ) → crossPartner t n i ≡ j + 1 → crossAlone t n i ≡ false
-  cross-alone-no j e = ne-eqb (crossPartner t n i) 0 (λ z. omega arith)
-
   pub cross-partner-start : crossPartner t n i ≡ firstFrom (t i) 0 (n - 0)
   unfolding crossPartner
   cross-partner-start = rw sub-zero

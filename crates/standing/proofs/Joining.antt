@@ -272,10 +272,6 @@ module _ (F G : Column) (l : length G ≡ length F) where
 
 -- ---- the classes that the entries make
 
--- the labels of all plots
-pub stands-self : (F G : Column) → Stands F G F G
-stands-self F G = record { plot = λ i h. record { plot = i; less = h; first = refl; second = refl }; place = λ i h. record { plot = i; less = h; first = refl; second = refl } }
-
 module _ (F G : Column) (l : length G ≡ length F) where
   -- the class of the supremum of the first plot with the label x
   unfoldable class-of : ℕ → ℕ
