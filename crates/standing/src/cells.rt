@@ -11,6 +11,9 @@ use limits::PLOTS;
 
 // Labels x of the one factor and y of the other, below w, make cell w × x + y. A small table is cleared in less time, and most pairs of
 // factors have few cells.
+pub(crate) const FEW_CELLS: usize = 256;
+
+// The cells of two factors of 44 classes each.
 pub(crate) const CELLS: usize = 2048;
 
 // The cells of two factors of 120 classes each, and of one of 240 with one of 60.

@@ -9,6 +9,7 @@ ghost use Rattle.standing.specs.Cells.{Inside, CellSizes, Listed};
 ghost use Rattle.standing.specs.Standing.{testCommon};
 use crate::cells::ALL_CELLS;
 use crate::cells::CELLS;
+use crate::cells::FEW_CELLS;
 use crate::cells::MANY_CELLS;
 use crate::cells::count_cells;
 use crate::cells::entry_sizes;
@@ -76,9 +77,13 @@ fn bounds_whole(
         };
     }
     let cells = a * w;
-    if cells <= CELLS {
-        let mut few = [0u8; CELLS];
+    if cells <= FEW_CELLS {
+        let mut few = [0u8; FEW_CELLS];
         return bounds_cells(f, g, a, w, &mut few, below, above);
+    }
+    if cells <= CELLS {
+        let mut some = [0u8; CELLS];
+        return bounds_cells(f, g, a, w, &mut some, below, above);
     }
     if cells <= MANY_CELLS {
         let mut many = [0u8; MANY_CELLS];
@@ -148,9 +153,13 @@ fn crossing_whole(f: &[u8], g: &[u8], a: usize, w: usize, above: &mut [u8; PLOTS
         };
     }
     let cells = a * w;
-    if cells <= CELLS {
-        let mut few = [0u8; CELLS];
+    if cells <= FEW_CELLS {
+        let mut few = [0u8; FEW_CELLS];
         return crossing_cells(f, g, a, w, &mut few, above);
+    }
+    if cells <= CELLS {
+        let mut some = [0u8; CELLS];
+        return crossing_cells(f, g, a, w, &mut some, above);
     }
     if cells <= MANY_CELLS {
         let mut many = [0u8; MANY_CELLS];

@@ -68,11 +68,22 @@ slice-aggregate-bounds-cells-3 c = search needs
 
 bounds-cells-requires-3 : tie.Need-bounds-cells-requires-3
 bounds-cells-requires-3 c κs =
-    let s = c .before .before .before .before .before .before .before .before .before in
-    (s .pre .0, s .pre .1, s .pre .2, s .pre .3, s .pre .4, s .pre .5, mul-le-mul (s .pre .2) (s .pre .3), omega arith, refl)
+    let s = c .before .before .before .before .before .before .before .before .before .before in
+    (s .pre .0, s .pre .1, s .pre .2, s .pre .3, s .pre .4, s .pre .5, c .before .before .before .if4 .taken, omega arith, refl)
 
 returns-4 : tie.Need-returns-4
 returns-4 c = search needs
+
+slice-aggregate-bounds-cells-4 : tie.Need-slice-aggregate-bounds-cells-4
+slice-aggregate-bounds-cells-4 c = search needs
+
+bounds-cells-requires-4 : tie.Need-bounds-cells-requires-4
+bounds-cells-requires-4 c κs =
+    let s = c .before .before .before .before .before .before .before .before .before .before in
+    (s .pre .0, s .pre .1, s .pre .2, s .pre .3, s .pre .4, s .pre .5, mul-le-mul (s .pre .2) (s .pre .3), omega arith, refl)
+
+returns-5 : tie.Need-returns-5
+returns-5 c = search needs
 
 pub bounds-whole-spec : {M : Type 1} → statement M
 bounds-whole-spec =
@@ -91,4 +102,7 @@ bounds-whole-spec =
     returns-3
     slice-aggregate-bounds-cells-3
     bounds-cells-requires-3
-    returns-4)
+    returns-4
+    slice-aggregate-bounds-cells-4
+    bounds-cells-requires-4
+    returns-5)
