@@ -11,12 +11,12 @@ use lib.Dec.{eqb}
 use lib.ListN.{length, set, replicate}
 use lib.Seq.{getD-set-same, getD-set-other}
 use borrow.Author.Tests.{eqb-true, eqb-false}
-use Rattle.rules.specs.Factor.{Column, at, Finer, number, classes, infimum, supremum, finer, orthogonal}
+use Rattle.rules.specs.Factor.{Column, at, Finer, number, classes, supremum, finer, orthogonal}
 use Rattle.rules.proofs.Numbering.{by-cases}
 use Rattle.rules.proofs.Columns.{Earlier, classes-number}
 use Rattle.rules.proofs.Classes.{finer-test}
 use Rattle.rules.proofs.Tests.{orthogonal-test, orthogonal-sym}
-use Rattle.rules.proofs.Bounds.{nested-orthogonal, infimum-comm, supremum-comm, infimum-finer-is, supremum-coarser-is}
+use Rattle.rules.proofs.Bounds.{nested-orthogonal, supremum-comm, supremum-coarser-is}
 use Rattle.rules.proofs.Walks.{bool-false}
 use Rattle.factor.proofs.Table.{getD-zeros}
 use Rattle.standing.proofs.Joining.{one-more}
@@ -70,7 +70,7 @@ agrees-all n F G t a = finer-test n F G .1 (λ u v hu hv s. suc-inj (sym (a .kno
 
 -- ---- nested factors
 
--- where G is finer than F: infimum and supremum are the two themselves, numbered, and they are orthogonal
+-- where G is finer than F: the supremum is F itself, numbered, and they are orthogonal
 module _ (F G : Column) (l : length G ≡ length F) (e : finer (length G) G F ≡ true) where
   finer-here : finer (length F) G F ≡ true
   finer-here = ap (λ (n : ℕ). finer n G F) (sym l) ∙ e
@@ -78,14 +78,8 @@ module _ (F G : Column) (l : length G ≡ length F) (e : finer (length G) G F �
   fine : Finer (length F) G F
   fine = finer-test (length F) G F .0 finer-here
 
-  pub nested-infimum : infimum F G ≡ number G
-  nested-infimum = infimum-comm (length F) F G refl l ∙ infimum-finer-is (length F) G F l refl fine
-
   pub nested-supremum : supremum F G ≡ number F
   nested-supremum = supremum-comm (length F) F G refl l ∙ supremum-coarser-is (length F) G F l refl fine
-
-  pub infimum-classes : classes G ≡ classes (infimum F G)
-  infimum-classes = sym (ap classes nested-infimum ∙ classes-number G)
 
   pub supremum-classes : classes F ≡ classes (supremum F G)
   supremum-classes = sym (ap classes nested-supremum ∙ classes-number F)

@@ -52,8 +52,7 @@ pub fn bounds_of(f: &[u8], g: &[u8], below: &mut [u8; PLOTS], above: &mut [u8; P
     bounds_whole(&f[..n], &g[..n], a, b, below, above)
 }
 
-// The same for two columns of one length; the labels of `f` are below `a`, those of `g` below `w`. Of nested factors the one with more
-// labels is the finer, unless labels are left out; that it is finer a walk tells which ends at the first plot that denies it.
+// The same for two columns of one length; the labels of `f` are below `a`, those of `g` below `w`.
 fn bounds_whole(
     f: &[u8],
     g: &[u8],
@@ -68,14 +67,6 @@ fn bounds_whole(
     ensures below { λ _. ⌜ now (below .exit) ≡ overlay (now (below .entry)) (infimum (now (f .entry)) (now (g .entry))) ⌝ }
     ensures above { λ _. ⌜ now (above .exit) ≡ overlay (now (above .entry)) (supremum (now (f .entry)) (now (g .entry))) ⌝ }
 {
-    if agrees(g, f) {
-        let fine = number_column(g, w, below);
-        let coarse = number_column(f, a, above);
-        return Bounds {
-            infimum: fine,
-            supremum: coarse,
-        };
-    }
     let cells = a * w;
     if cells <= FEW_CELLS {
         let mut few = [0u8; FEW_CELLS];

@@ -1,46 +1,15 @@
 -- `bounds_whole` meets its contract: there is room for all cells.
 -- Assumes nothing.
-use mathlib.Core.Path.{_≡_, refl, sym, ap, _∙_}
+use mathlib.Core.Path.{refl}
 use native.Mathlib.Omega.{arith}
 use native.Mathlib.Nat.{mul-le-mul}
 use borrow.Author.Needs.{needs}
-use denote.Ref.{now}
-use Rattle.factor.specs.Lent.{overlay}
-use Rattle.standing.proofs.Nesting.{nested-infimum, nested-supremum, infimum-classes, supremum-classes}
 use Rattle.standing.proofs.pair.bounds_whole.Statement.{statement}
 use Rattle.standing.proofs.pair.bounds_whole.Tie as tie
 
-agrees-requires : tie.Need-agrees-requires
-agrees-requires c κs = search needs
-
-number-column-requires : tie.Need-number-column-requires
-number-column-requires c κs = search needs
-
-number-column-requires-2 : tie.Need-number-column-requires-2
-number-column-requires-2 c κs = search needs
-
-returns : tie.Need-returns
-returns c =
-    let k = c .before .before in
-    let t = k .before .before in
-    let a = t .before in
-    let s = a .before .before .before in
-    let f = now (s .args .f) in
-    let g = now (s .args .g) in
-    let fine = sym (a .agrees .ensures) ∙ t .if1 .taken in (
-      k .number-column .ensures .0 ∙ infimum-classes f g (s .pre .1) fine,
-      (
-        c .number-column2 .ensures .0 ∙ supremum-classes f g (s .pre .1) fine,
-        (
-          k .number-column .ensures .1 ∙ ap (overlay (now (s .args .below))) (sym (nested-infimum f g (s .pre .1) fine)),
-          c .number-column2 .ensures .1 ∙ ap (overlay (now (s .args .above))) (sym (nested-supremum f g (s .pre .1) fine)),
-        ),
-      ),
-    )
-
 mul-cells : tie.Need-mul-cells
 mul-cells c =
-    let s = c .before .before .before .before in
+    let s = c .before .before in
     omega (arith, mul-le-mul (s .pre .2) (s .pre .3))
 
 slice-aggregate-bounds-cells : tie.Need-slice-aggregate-bounds-cells
@@ -49,60 +18,56 @@ slice-aggregate-bounds-cells c = search needs
 bounds-cells-requires : tie.Need-bounds-cells-requires
 bounds-cells-requires c κs = search needs
 
-returns-2 : tie.Need-returns-2
-returns-2 c = search needs
+returns : tie.Need-returns
+returns c = search needs
 
 slice-aggregate-bounds-cells-2 : tie.Need-slice-aggregate-bounds-cells-2
 slice-aggregate-bounds-cells-2 c = search needs
 
 bounds-cells-requires-2 : tie.Need-bounds-cells-requires-2
 bounds-cells-requires-2 c κs =
-    let s = c .before .before .before .before .before .before .before .before .before in
-    (s .pre .0, s .pre .1, s .pre .2, s .pre .3, s .pre .4, s .pre .5, c .before .before .before .if3 .taken, omega arith, refl)
+    let s = c .before .before .before .before .before .before .before in
+    (s .pre .0, s .pre .1, s .pre .2, s .pre .3, s .pre .4, s .pre .5, c .before .before .before .if2 .taken, omega arith, refl)
 
-returns-3 : tie.Need-returns-3
-returns-3 c = search needs
+returns-2 : tie.Need-returns-2
+returns-2 c = search needs
 
 slice-aggregate-bounds-cells-3 : tie.Need-slice-aggregate-bounds-cells-3
 slice-aggregate-bounds-cells-3 c = search needs
 
 bounds-cells-requires-3 : tie.Need-bounds-cells-requires-3
 bounds-cells-requires-3 c κs =
-    let s = c .before .before .before .before .before .before .before .before .before .before in
-    (s .pre .0, s .pre .1, s .pre .2, s .pre .3, s .pre .4, s .pre .5, c .before .before .before .if4 .taken, omega arith, refl)
+    let s = c .before .before .before .before .before .before .before .before in
+    (s .pre .0, s .pre .1, s .pre .2, s .pre .3, s .pre .4, s .pre .5, c .before .before .before .if3 .taken, omega arith, refl)
 
-returns-4 : tie.Need-returns-4
-returns-4 c = search needs
+returns-3 : tie.Need-returns-3
+returns-3 c = search needs
 
 slice-aggregate-bounds-cells-4 : tie.Need-slice-aggregate-bounds-cells-4
 slice-aggregate-bounds-cells-4 c = search needs
 
 bounds-cells-requires-4 : tie.Need-bounds-cells-requires-4
 bounds-cells-requires-4 c κs =
-    let s = c .before .before .before .before .before .before .before .before .before .before in
+    let s = c .before .before .before .before .before .before .before .before in
     (s .pre .0, s .pre .1, s .pre .2, s .pre .3, s .pre .4, s .pre .5, mul-le-mul (s .pre .2) (s .pre .3), omega arith, refl)
 
-returns-5 : tie.Need-returns-5
-returns-5 c = search needs
+returns-4 : tie.Need-returns-4
+returns-4 c = search needs
 
 pub bounds-whole-spec : {M : Type 1} → statement M
 bounds-whole-spec =
     tie.close
     (tie.spec
-    agrees-requires
-    number-column-requires
-    number-column-requires-2
-    returns
     mul-cells
     slice-aggregate-bounds-cells
     bounds-cells-requires
-    returns-2
+    returns
     slice-aggregate-bounds-cells-2
     bounds-cells-requires-2
-    returns-3
+    returns-2
     slice-aggregate-bounds-cells-3
     bounds-cells-requires-3
-    returns-4
+    returns-3
     slice-aggregate-bounds-cells-4
     bounds-cells-requires-4
-    returns-5)
+    returns-4)
