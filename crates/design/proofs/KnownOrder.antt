@@ -4,7 +4,7 @@ use mathlib.Core.Path.{_≡_, refl, sym, ap, ap₂, _∙_, subst}
 use mathlib.Core.Logic.{_⊎_, inl, inr, ⊎-elim}
 use mathlib.Core.Bool.{Bool, true, false, _||_, true≢false}
 use mathlib.Core.List.{List}
-use Prim.Native.Nat.{ℕ, zero, suc, _*_, _/_, _%_, _^_, _≤_, _<_, max}
+use Prim.Native.Nat.{ℕ, zero, suc, _+_, _*_, _/_, _%_, _^_, _≤_, _<_, max}
 use native.Mathlib.Nat.{pow-suc}
 use native.Mathlib.Numerals.{one-add}
 use native.Mathlib.Omega.{arith}
@@ -21,7 +21,7 @@ use Rattle.rules.proofs.Numbering.{by-cases}
 use Rattle.rules.proofs.Bits.{bit-none}
 use Rattle.rules.proofs.Classes.{finer-test}
 use Rattle.rules.proofs.Bounds.{finer-trans, infimum-left, infimum-right, supremum-left, supremum-right}
-use Rattle.design.specs.State.{columnIn, toldFiner, noted, Held, Known}
+use Rattle.design.specs.State.{columnIn, toldFiner, noted, Held, Known, NamesCoarser, names, Follows, follows}
 use Rattle.design.proofs.Extremes.{one-class-coarsest, all-classes-finest}
 use Rattle.design.proofs.Work.{member-column, held-length, size-members, Stood, column-kept, PairAt}
 
@@ -148,3 +148,9 @@ module _ {n : ℕ} {store counts : List ℕ} {size i j : ℕ} (held : Held n sto
       let hp : p < size = omega (arith, a .less, size-members held) in
       known-noted (held .few) hp hj (subst (λ (F : Column). Finer n F (columnIn n store j)) (column-made infimum a) (infimum-right n (columnIn n store i) (columnIn n store j) (held-length held i hi) (held-length held j hj)))
       (known-noted (held .few) hp hi (subst (λ (F : Column). Finer n F (columnIn n store i)) (column-made infimum a) (infimum-left n (columnIn n store i) (columnIn n store j) (held-length held i hi) (held-length held j hj))) known)
+
+-- an entry that names a member known to be coarser than j, of a member known to be finer than j: the supremum follows
+pub known-follows : {n : ℕ} {store counts marks above : List ℕ} {size i j e : ℕ} → Held n store counts size → Known n store above size → j < size
+    → (y : ℕ) → y < j → bitAt (getD above y 0) j ≡ true → NamesCoarser n counts above size j e → e ≡ getD marks (32 * i + y) 0 → Follows n store marks size i j e
+known-follows {n} {store} {j = j} held known hj y hy bit (names q f hq t) e =
+    follows y q hy e f hq (known .sound y j bit .2) (finer-test n (columnIn n store j) (columnIn n store q) .0 (told-order held hj hq known t))

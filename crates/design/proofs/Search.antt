@@ -9,7 +9,6 @@ use native.Mathlib.Numerals.{add-one}
 use native.Mathlib.Omega.{arith}
 use lib.Dec.{eqb}
 use lib.ListN.{length, getD}
-use mir.Val.{boolByte}
 use borrow.Author.Tests.{eq-eqb, ne-eqb, lt-ltb, le-ltb}
 use Rattle.rules.specs.Factor.{Column}
 use Rattle.rules.specs.Family.{Family}
@@ -168,11 +167,6 @@ module _ (p : Column → Column → Bool) (S : Family) where
   cross-found t P h = crosses-from t 0 P (λ i j l m. ap (λ (x : ℕ). t x j) (zero-add i) ∙ h i j l m)
 
 -- ---- the mark of two members
-
--- a mark as a byte
-pub mark-byte : (b : Bool) → eqb (boolByte b) 1 ≡ b
-mark-byte true = refl
-mark-byte false = refl
 
 module _ (marks : List ℕ) (i j : ℕ) where
   pub marked-below : i < j → marked marks i j ≡ markedRow marks j i

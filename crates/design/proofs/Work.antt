@@ -2,30 +2,32 @@
 -- Assumes nothing.
 use mathlib.Core.Path.{_≡_, refl, sym, ap, ap₂, _∙_, subst}
 use mathlib.Core.Logic.{_⊎_, inl, inr, ⊎-elim}
-use mathlib.Core.Bool.{Bool, true, false}
+use mathlib.Core.Bool.{Bool, true, false, not}
 use mathlib.Core.List.{List, [], _∷_, _++_, List·Memᴰ·head, List·Memᴰ·tail, List·Memᴰ·cases-cons, List·Memᴰ·append-cases, List·Memᴰ·eq-of-singleton, Memᴰ·append-left}
 use Prim.Native.Nat.{ℕ, suc, _+_, _*_, _≤_, _<_}
 use native.Mathlib.Nat.{not-suc-le-zero, add-zero, mul-comm}
 use native.Mathlib.Numerals.{add-one}
 use native.Mathlib.Omega.{arith}
 use lib.Dec.{eqb, ltb}
-use lib.ListN.{length, set, length-set, List·getD-append}
+use lib.ListN.{length, getD, set, length-set, length-append, List·getD-append}
 use lib.Seq.{getD-append-add, getD-set-same, getD-set-other}
-use borrow.Author.Tests.{ltb-true, ltb-false, eq-eqb}
-use Rattle.rules.specs.Factor.{Column, finer, number, classes, infimum, supremum, orthogonal}
+use borrow.Author.Tests.{ltb-true, ltb-false, eq-eqb, ne-eqb}
+use Rattle.rules.specs.Factor.{Column, Finer, finer, number, classes, infimum, supremum, orthogonal}
 use Rattle.rules.specs.Family.{Family, _∈_, membersOf, insertAll}
 use Rattle.rules.specs.Closing.{both, onlySupremum, Made, given, made, tooMany, family, close}
 use Rattle.rules.specs.Relation.{memberAt}
 use Rattle.rules.proofs.Numbering.{by-cases, number-infimum}
 use Rattle.rules.proofs.Supremum.{number-supremum}
 use Rattle.rules.proofs.Bounds.{infimum-comm, supremum-comm, infimum-self, supremum-self}
+use Rattle.rules.proofs.Tests.{orthogonal-test, orthogonal-sym}
 use Rattle.rules.proofs.Orthogonality.{byCounts}
+use Rattle.rules.proofs.Between.{between-supremum, between-test}
 use Rattle.rules.proofs.Buffer.{member-is, length-members}
 use Rattle.rules.proofs.WorkList.{PlaceOf, place-of, member-in, Found, found-more, found-over, Combined, combined-none, combined-more, combined-step, combined-row, combined-close}
 use Rattle.design.proofs.Common.{column-length}
 use Rattle.design.proofs.Extremes.{finer-infimum, finer-supremum, coarser-infimum, coarser-supremum, finer-orthogonal, coarser-orthogonal}
 use Rattle.design.proofs.Placing.{grown-new, grown-old}
-use Rattle.design.specs.State.{columnIn, Held, Placed, full, old, new, grownTo, Begun, makeOf, markOf, markedRow, Work, Known, Advanced, Stepped, over, on}
+use Rattle.design.specs.State.{columnIn, Held, Placed, full, old, new, grownTo, Begun, makeOf, markOf, markedRow, entryOf, Joins, Work, Follows, unknown, follows, Known, Advanced, Stepped, over, on}
 
 -- ---- members by their places
 
@@ -119,14 +121,15 @@ pub record Going (n : ℕ) (infima : Bool) (Gs : List Column) (S : Family) (mark
   pub combined : Combined (makeOf infima) Gs S i j
   pub rows : (b a : ℕ) → a < b → b < i → Marked n infima S marks b a
   pub row : (a : ℕ) → a < j → Marked n infima S marks i a
+  pub joins : (a : ℕ) → a < j → Joins S i a (getD marks (32 * i + a) 0)
 
 -- the work without its store
 going : {n : ℕ} {infima : Bool} {Gs : List Column} {store counts marks : List ℕ} {size i j : ℕ} → Work n infima Gs store counts marks size i j → Going n infima Gs (membersOf n store size) marks i j
-going w = record { cells = w .cells; numbered = w .numbered; found = w .found; given = w .given; combined = w .combined; rows = w .rows; row = w .row }
+going w = record { cells = w .cells; numbered = w .numbered; found = w .found; given = w .given; combined = w .combined; rows = w .rows; row = w .row; joins = w .joins }
 
 -- the work in a store that holds the members
 work : {n : ℕ} {infima : Bool} {Gs : List Column} {store counts marks : List ℕ} {size i j : ℕ} → Held n store counts size → Going n infima Gs (membersOf n store size) marks i j → Work n infima Gs store counts marks size i j
-work h g = record { held = h; cells = g .cells; numbered = g .numbered; found = g .found; given = g .given; combined = g .combined; rows = g .rows; row = g .row }
+work h g = record { held = h; cells = g .cells; numbered = g .numbered; found = g .found; given = g .given; combined = g .combined; rows = g .rows; row = g .row; joins = g .joins }
 
 -- a member found on the way
 going-more : (n : ℕ) (infima : Bool) (Gs : List Column) (S : Family) (F : Column) (marks : List ℕ) (i j : ℕ) → i < length S → j ≤ i → Made (makeOf infima) Gs F → number F ≡ F → (F ∈ S → ⊥) → Going n infima Gs S marks i j → Going n infima Gs (S ++ F ∷ []) marks i j
@@ -138,6 +141,7 @@ going-more n infima Gs S F marks i j hi hj p e f g = record {
   combined = combined-more (makeOf infima) Gs S F i j hi hj (g .combined);
   rows = λ b a ab bi. kept b a (omega arith) (omega arith) (g .rows b a ab bi);
   row = λ a aj. kept i a hi (omega arith) (g .row a aj);
+  joins = λ a aj q e. joined a (omega arith) q (g .joins a aj q e);
 }
   where
     fresh : (G : Column) → (G ∈ S) ⊎ (G ∈ F ∷ []) → number G ≡ G
@@ -150,10 +154,14 @@ going-more n infima Gs S F marks i j hi hj p e f g = record {
     kept : (b a : ℕ) → b < length S → a < length S → Marked n infima S marks b a → Marked n infima (S ++ F ∷ []) marks b a
     kept b a hb ha m = m ∙ sym (ap₂ (markOf infima n) (same b hb) (same a ha))
 
+    joined : (a : ℕ) → a < length S → (q : ℕ) → (q < length S) × (memberAt S q ≡ supremum (memberAt S i) (memberAt S a))
+        → (q < length (S ++ F ∷ [])) × (memberAt (S ++ F ∷ []) q ≡ supremum (memberAt (S ++ F ∷ []) i) (memberAt (S ++ F ∷ []) a))
+    joined a ha q k = (omega (arith, length-append S (F ∷ [])), same q (k .0) ∙ k .1 ∙ sym (ap₂ supremum (same i hi) (same a ha)))
+
 -- the pair i, j has its mark: what the table has elsewhere is as it was
 going-step : (n : ℕ) (infima : Bool) (Gs : List Column) (S : Family) (marks : List ℕ) (i j mark : ℕ) → i < 32 → j < i → ((H : Column) → H ∈ makeOf infima (memberAt S i) (memberAt S j) → H ∈ S)
-    → eqb mark 1 ≡ markOf infima n (memberAt S i) (memberAt S j) → Going n infima Gs S marks i j → Going n infima Gs S (set marks (32 * i + j) mark) i (suc j)
-going-step n infima Gs S marks i j mark hi hj all e g = record {
+    → not (eqb mark 0) ≡ markOf infima n (memberAt S i) (memberAt S j) → Joins S i j mark → Going n infima Gs S marks i j → Going n infima Gs S (set marks (32 * i + j) mark) i (suc j)
+going-step n infima Gs S marks i j mark hi hj all e k g = record {
   cells = length-set marks (32 * i + j) mark ∙ g .cells;
   numbered = g .numbered;
   found = g .found;
@@ -161,13 +169,17 @@ going-step n infima Gs S marks i j mark hi hj all e g = record {
   combined = combined-step (makeOf infima) Gs S i j (g .combined) all;
   rows = λ b a ab bi. elsewhere b a (λ q. omega arith) (g .rows b a ab bi);
   row = λ a h. by-cases (ltb a j) (λ e. let l : a < j = ltb-true a j e in elsewhere i a (λ q. omega arith) (g .row a l)) (λ e. let q : a ≡ j = omega (arith, ltb-false a j e) in rw q here);
+  joins = λ a h. by-cases (ltb a j) (λ e. let l : a < j = ltb-true a j e in rw (getD-set-other marks (32 * i + j) (32 * i + a) mark 0 (λ q. omega arith)) (g .joins a l)) (λ e. let q : a ≡ j = omega (arith, ltb-false a j e) in rw (q, stored) k);
 }
   where
+    stored : getD (set marks (32 * i + j) mark) (32 * i + j) 0 ≡ mark
+    stored = getD-set-same marks (32 * i + j) mark 0 (omega (arith, g .cells))
+
     elsewhere : (b a : ℕ) → (32 * b + a ≡ 32 * i + j → ⊥) → Marked n infima S marks b a → Marked n infima S (set marks (32 * i + j) mark) b a
-    elsewhere b a d m = ap (λ (k : ℕ). eqb k 1) (getD-set-other marks (32 * i + j) (32 * b + a) mark 0 d) ∙ m
+    elsewhere b a d m = ap (λ (k : ℕ). not (eqb k 0)) (getD-set-other marks (32 * i + j) (32 * b + a) mark 0 d) ∙ m
 
     here : Marked n infima S (set marks (32 * i + j) mark) i j
-    here = ap (λ (k : ℕ). eqb k 1) (getD-set-same marks (32 * i + j) mark 0 (omega (arith, g .cells))) ∙ e
+    here = ap (λ (k : ℕ). not (eqb k 0)) stored ∙ e
 
 -- a row is done
 going-row : (n : ℕ) (infima : Bool) (Gs : List Column) (S : Family) (marks : List ℕ) (i : ℕ) → Going n infima Gs S marks i i → Going n infima Gs S marks (suc i) 0
@@ -179,6 +191,7 @@ going-row n infima Gs S marks i g = record {
   combined = combined-row (makeOf infima) Gs S i (g .combined);
   rows = λ b a ab h. by-cases (ltb b i) (λ e. g .rows b a ab (ltb-true b i e)) (λ e. last b a ab h (ltb-false b i e));
   row = λ a h. absurd (not-suc-le-zero h);
+  joins = λ a h. absurd (not-suc-le-zero h);
 }
   where
     last : (b a : ℕ) → a < b → b < suc i → i ≤ b → Marked n infima S marks b a
@@ -242,6 +255,7 @@ work-begun {n} infima {Gs} {store} {size = size} b l = record {
   combined = combined-none (makeOf infima) Gs (membersOf n store size);
   rows = λ i a ai h. absurd (not-suc-le-zero h);
   row = λ a h. absurd (not-suc-le-zero h);
+  joins = λ a h. absurd (not-suc-le-zero h);
 }
 
 module _ {n : ℕ} {infima : Bool} {Gs : List Column} {store counts marks : List ℕ} {size i j : ℕ} (w : Work n infima Gs store counts marks size i j) where
@@ -299,8 +313,8 @@ module _ {n : ℕ} {infima : Bool} {Gs : List Column} {store counts marks : List
     over-supremum s e = work-over made-supremum s e
 
     -- the pair has its mark
-    work-step : (mark : ℕ) → ((H : Column) → H ∈ makeOf infima (memberAt S i) (memberAt S j) → H ∈ S) → eqb mark 1 ≡ markOf infima n (memberAt S i) (memberAt S j) → Work n infima Gs store counts (set marks (32 * i + j) mark) size i (j + 1)
-    work-step mark all e = rw add-one (work (w .held) (going-step n infima Gs S marks i j mark (omega (arith, w .held .few)) hj all e (going w)))
+    work-step : (mark : ℕ) → ((H : Column) → H ∈ makeOf infima (memberAt S i) (memberAt S j) → H ∈ S) → not (eqb mark 0) ≡ markOf infima n (memberAt S i) (memberAt S j) → Joins S i j mark → Work n infima Gs store counts (set marks (32 * i + j) mark) size i (j + 1)
+    work-step mark all e k = rw add-one (work (w .held) (going-step n infima Gs S marks i j mark (omega (arith, w .held .few)) hj all e k (going w)))
 
     -- both members are where they are read
     at-i : memberAt S i ≡ A
@@ -373,16 +387,29 @@ pair-keeps {op} {i = i} {j = j} {p = p} hi hj s a = record {
   is = s .keeps p (a .less) ∙ a .is ∙ sym (ap₂ op (s .keeps i hi) (s .keeps j hj));
 }
 
--- the mark of the pair, whose infimum and supremum have places, is stored
-pub work-both : {n : ℕ} {infima : Bool} {Gs : List Column} {store counts marks : List ℕ} {size i j p q : ℕ} (mark : ℕ) → i < size → j < i
-    → PairAt infimum (membersOf n store size) i j p → PairAt supremum (membersOf n store size) i j q → eqb mark 1 ≡ markOf infima n (memberAt (membersOf n store size) i) (memberAt (membersOf n store size) j)
-    → Work n infima Gs store counts marks size i j → Work n infima Gs store counts (set marks (32 * i + j) mark) size i (j + 1)
-work-both {infima = infima} mark hi hj a b e w = work-step w hi hj mark (makes-both infima a b) e
+-- an entry is not 0 where the pair has the mark
+entry-marked : (q : ℕ) → not (eqb (suc q) 0) ≡ true
+entry-marked q = ap not (ne-eqb (suc q) 0 (λ e. omega arith))
+
+entry-mark : (mark : Bool) (q : ℕ) → not (eqb (entryOf mark q) 0) ≡ mark
+entry-mark true q = entry-marked q
+entry-mark false q = refl
+
+-- and then has the place of the supremum
+entry-joins : {S : Family} {i j q : ℕ} (mark : Bool) → PairAt supremum S i j q → Joins S i j (entryOf mark q)
+entry-joins {S} {i} {j} {q} true a k e = let l : q ≡ k = omega arith in rw (← l) (a .less, a .is)
+entry-joins false a k e = absurd (omega arith)
+
+-- the entry of the pair, whose infimum and supremum have places, is stored
+pub work-both : {n : ℕ} {infima : Bool} {Gs : List Column} {store counts marks : List ℕ} {size i j p q : ℕ} (mark : Bool) → i < size → j < i
+    → PairAt infimum (membersOf n store size) i j p → PairAt supremum (membersOf n store size) i j q → mark ≡ markOf infima n (memberAt (membersOf n store size) i) (memberAt (membersOf n store size) j)
+    → Work n infima Gs store counts marks size i j → Work n infima Gs store counts (set marks (32 * i + j) (entryOf mark q)) size i (j + 1)
+work-both {infima = infima} {q = q} mark hi hj a b e w = work-step w hi hj (entryOf mark q) (makes-both infima a b) (entry-mark mark q ∙ e) (entry-joins mark b)
 
 -- the same where no infima are asked for
-pub work-join : {n : ℕ} {Gs : List Column} {store counts marks : List ℕ} {size i j q : ℕ} (mark : ℕ) → i < size → j < i → PairAt supremum (membersOf n store size) i j q → eqb mark 1 ≡ orthogonal n (memberAt (membersOf n store size) i) (memberAt (membersOf n store size) j)
-    → Work n false Gs store counts marks size i j → Work n false Gs store counts (set marks (32 * i + j) mark) size i (j + 1)
-work-join mark hi hj b e w = work-step w hi hj mark (makes-join b) e
+pub work-join : {n : ℕ} {Gs : List Column} {store counts marks : List ℕ} {size i j q : ℕ} (mark : Bool) → i < size → j < i → PairAt supremum (membersOf n store size) i j q → mark ≡ orthogonal n (memberAt (membersOf n store size) i) (memberAt (membersOf n store size) j)
+    → Work n false Gs store counts marks size i j → Work n false Gs store counts (set marks (32 * i + j) (entryOf mark q)) size i (j + 1)
+work-join {q = q} mark hi hj b e w = work-step w hi hj (entryOf mark q) (makes-join b) (entry-mark mark q ∙ e) (entry-joins mark b)
 
 -- the products of the numbers of classes of two factors, one finer than the other, and of their infimum and supremum
 counts-left : {F G : Column} → F ≡ infimum F G → G ≡ supremum F G → byCounts F G ≡ true
@@ -398,24 +425,71 @@ module _ {n : ℕ} {infima : Bool} {Gs : List Column} {store counts marks : List
   here k h = omega (arith, size-members (w .held))
 
   -- the first is the finer
-  pub work-left : finer n (columnIn n store i) (columnIn n store j) ≡ true → Work n infima Gs store counts (set marks (32 * i + j) 1) size i (j + 1)
+  pub work-left : finer n (columnIn n store i) (columnIn n store j) ≡ true → Work n infima Gs store counts (set marks (32 * i + j) (entryOf true j)) size i (j + 1)
   work-left e =
       let f = nested-left w hi hj e in
-      work-both 1 hi hj record { less = here i hi; is = f .0 } record { less = here j (omega arith); is = f .1 } (mark infima) w
+      work-both true hi hj record { less = here i hi; is = f .0 } record { less = here j (omega arith); is = f .1 } (mark infima) w
     where
       mark : (t : Bool) → true ≡ markOf t n (memberAt (membersOf n store size) i) (memberAt (membersOf n store size) j)
       mark true = let f = nested-left w hi hj e in sym (counts-left (f .0) (f .1))
       mark false = rw (at-i w hi hj, at-j w hi hj) (sym (finer-orthogonal n (columnIn n store i) (columnIn n store j) (lA w hi hj) (lB w hi hj) e))
 
   -- the second is the finer
-  pub work-right : finer n (columnIn n store j) (columnIn n store i) ≡ true → Work n infima Gs store counts (set marks (32 * i + j) 1) size i (j + 1)
+  pub work-right : finer n (columnIn n store j) (columnIn n store i) ≡ true → Work n infima Gs store counts (set marks (32 * i + j) (entryOf true i)) size i (j + 1)
   work-right e =
       let f = nested-right w hi hj e in
-      work-both 1 hi hj record { less = here j (omega arith); is = f .0 } record { less = here i hi; is = f .1 } (mark infima) w
+      work-both true hi hj record { less = here j (omega arith); is = f .0 } record { less = here i hi; is = f .1 } (mark infima) w
     where
       mark : (t : Bool) → true ≡ markOf t n (memberAt (membersOf n store size) i) (memberAt (membersOf n store size) j)
       mark true = let f = nested-right w hi hj e in sym (counts-right (f .0) (f .1))
       mark false = rw (at-i w hi hj, at-j w hi hj) (sym (coarser-orthogonal n (columnIn n store j) (columnIn n store i) (lB w hi hj) (lA w hi hj) e))
+
+-- ---- a pair whose supremum follows
+
+module _ {n : ℕ} {Gs : List Column} {store counts marks : List ℕ} {size i j : ℕ} (w : Work n false Gs store counts marks size i j) (hi : i < size) (hj : j < i) where
+  -- member y is finer than j, and the supremum q of i and y is coarser: it is that of i and j too, and these are orthogonal if i and y are
+  work-between : (y q : ℕ) → y < j → getD marks (32 * i + y) 0 ≡ suc q → q < size → Finer n (columnIn n store y) (columnIn n store j) → Finer n (columnIn n store j) (columnIn n store q)
+      → Work n false Gs store counts (set marks (32 * i + j) (suc q)) size i (j + 1)
+  work-between y q hy e hq fine below = work-join {q = q} true hi hj record { less = omega (arith, size-members (w .held)); is = here-q ∙ sym (rw (at-i w hi hj, at-j w hi hj) high) } (sym (rw (at-i w hi hj, at-j w hi hj) right)) w
+    where
+      Y : Column
+      Y = columnIn n store y
+
+      lY : length Y ≡ n
+      lY = held-length (w .held) y (omega arith)
+
+      at-y : memberAt (membersOf n store size) y ≡ Y
+      at-y = member-column (w .held) y (omega arith)
+
+      here-q : memberAt (membersOf n store size) q ≡ columnIn n store q
+      here-q = member-column (w .held) q hq
+
+      -- the supremum of i and y
+      old : supremum Y (A w hi hj) ≡ columnIn n store q
+      old = supremum-comm n Y (A w hi hj) lY (lA w hi hj) ∙ sym (ap₂ supremum (at-i w hi hj) at-y) ∙ sym (w .joins y hy q e .1) ∙ here-q
+
+      under : Finer n (B w hi hj) (supremum Y (A w hi hj))
+      under = subst (Finer n (B w hi hj)) (sym old) below
+
+      -- it is that of i and j
+      high : supremum (A w hi hj) (B w hi hj) ≡ columnIn n store q
+      high = supremum-comm n (A w hi hj) (B w hi hj) (lA w hi hj) (lB w hi hj) ∙ between-supremum n Y (B w hi hj) (A w hi hj) lY (lB w hi hj) (lA w hi hj) fine under ∙ old
+
+      -- i and y are orthogonal
+      apart : orthogonal n (A w hi hj) Y ≡ true
+      apart = sym (ap₂ (orthogonal n) (at-i w hi hj) at-y) ∙ sym (w .row y hy) ∙ ap (λ (k : ℕ). not (eqb k 0)) e ∙ entry-marked q
+
+      flip : (F G : Column) → length F ≡ n → length G ≡ n → orthogonal n F G ≡ true → orthogonal n G F ≡ true
+      flip F G lF lG o = orthogonal-test n G F .1 (orthogonal-sym n F G lF lG (orthogonal-test n F G .0 o))
+
+      -- so are i and j
+      right : orthogonal n (A w hi hj) (B w hi hj) ≡ true
+      right = flip (B w hi hj) (A w hi hj) (lB w hi hj) (lA w hi hj) (between-test n Y (B w hi hj) (A w hi hj) lY (lB w hi hj) (lA w hi hj) fine under (flip (A w hi hj) Y (lA w hi hj) lY apart))
+
+  -- where it follows, its entry is stored
+  pub work-follows : (r : ℕ) → (r ≡ 0 → ⊥) → Follows n store marks size i j r → Work n false Gs store counts (set marks (32 * i + j) r) size i (j + 1)
+  work-follows r d (unknown e) = absurd (d e)
+  work-follows r d (follows y q hy e f hq fine below) = rw f (work-between y q hy (sym e ∙ f) hq fine below)
 
 -- ---- what a step answers
 

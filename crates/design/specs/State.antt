@@ -2,13 +2,13 @@
 -- Members and pairs are counted from 0 here. Assumes nothing.
 use mathlib.Core.Path.{_≡_}
 use mathlib.Core.Logic.{_⊎_}
-use mathlib.Core.Bool.{Bool, true, false, _||_}
+use mathlib.Core.Bool.{Bool, true, false, not, _||_}
 use mathlib.Core.List.{List, [], _∷_, _++_, map}
 use Prim.Native.Nat.{ℕ, suc, _+_, _*_, _%_, _^_, _≤_, _<_}
 use lib.Bits.{bitOr}
 use lib.Dec.{eqb, ltb}
 use lib.ListN.{length, getD, set, take, drop}
-use Rattle.rules.specs.Factor.{Column, Finer, number, classes, orthogonal}
+use Rattle.rules.specs.Factor.{Column, Finer, number, classes, supremum, orthogonal}
 use Rattle.rules.specs.Family.{Family, _∈_, Distinct, before, membersOf, insertAll}
 use Rattle.rules.specs.Lists.{bitAt}
 use Rattle.rules.specs.Closing.{both, onlySupremum, tooMany, family, close}
@@ -80,9 +80,18 @@ abbrev pub markOf : Bool → ℕ → Column → Column → Bool
 markOf true n = byCounts
 markOf false n = orthogonal n
 
--- the mark of the members b and a < b
+-- the mark of the members b and a < b: an entry that is not 0
 abbrev pub markedRow : List ℕ → ℕ → ℕ → Bool
-markedRow marks b a = eqb (getD marks (32 * b + a) 0) 1
+markedRow marks b a = not (eqb (getD marks (32 * b + a) 0) 0)
+
+-- the entry of a pair whose supremum stands at place q: 0 where the pair has not the mark
+abbrev pub entryOf : Bool → ℕ → ℕ
+entryOf true q = suc q
+entryOf false q = 0
+
+-- an entry that is not 0 is 1 and the place of the supremum of the two members
+abbrev pub Joins : Family → ℕ → ℕ → ℕ → Type 0
+Joins S b a entry = (q : ℕ) → entry ≡ suc q → (q < length S) × (memberAt S q ≡ supremum (memberAt S b) (memberAt S a))
 
 -- the mark of two members in either order
 abbrev pub marked : List ℕ → ℕ → ℕ → Bool
@@ -98,6 +107,17 @@ pub record Work (n : ℕ) (infima : Bool) (Gs : List Column) (store counts marks
   pub combined : Combined (makeOf infima) Gs (membersOf n store size) i j
   pub rows : (b a : ℕ) → a < b → b < i → markedRow marks b a ≡ markOf infima n (memberAt (membersOf n store size) b) (memberAt (membersOf n store size) a)
   pub row : (a : ℕ) → a < j → markedRow marks i a ≡ markOf infima n (memberAt (membersOf n store size) i) (memberAt (membersOf n store size) a)
+  pub joins : (a : ℕ) → a < j → Joins (membersOf n store size) i a (getD marks (32 * i + a) 0)
+
+-- the entry names a member, and it is known that member j is finer than or equivalent to it
+pub data NamesCoarser (n : ℕ) (counts above : List ℕ) (size j entry : ℕ) : Type 0 where
+  names : (q : ℕ) → entry ≡ suc q → q < size → toldFiner n (getD counts j 0) (getD counts q 0) (getD above j 0) q ≡ true → NamesCoarser n counts above size j entry
+
+-- The supremum of members i and j follows from what is known: member y is finer than j, and the supremum of i and y is coarser than j. Then
+-- r is the entry of i and y; 0 where no such member is known.
+pub data Follows (n : ℕ) (store marks : List ℕ) (size i j r : ℕ) : Type 0 where
+  unknown : r ≡ 0 → Follows n store marks size i j r
+  follows : (y q : ℕ) → y < j → r ≡ getD marks (32 * i + y) 0 → r ≡ suc q → q < size → Finer n (columnIn n store y) (columnIn n store j) → Finer n (columnIn n store j) (columnIn n store q) → Follows n store marks size i j r
 
 -- what a step leaves, whatever it works towards: 33 where the family is too large, or a store that has not shrunk
 abbrev pub Kept : ℕ → List ℕ → List ℕ → ℕ → ℕ → Type 0

@@ -2,12 +2,12 @@
 ghost use mathlib.Core.Path.{_≡_};
 ghost use mathlib.Core.Bool.{true, false};
 ghost use mathlib.Core.List.{List};
-ghost use Prim.Native.Nat.{_+_, _*_, _≤_, _<_};
+ghost use Prim.Native.Nat.{ℕ, _+_, _*_, _≤_, _<_};
 ghost use lib.Dec.{eqb};
 ghost use lib.ListN.{length};
 ghost use Rattle.rules.specs.Factor.{Column, classes, infimum, supremum, finer, orthogonal};
 ghost use Rattle.factor.specs.Lent.{overlay};
-ghost use Rattle.design.specs.State.{columnIn, toldFiner, noted, Held, Known, Work, Kept, Advanced, Stepped, Closed};
+ghost use Rattle.design.specs.State.{columnIn, toldFiner, noted, entryOf, NamesCoarser, Follows, Held, Known, Work, Kept, Advanced, Stepped, Closed};
 use crate::store::grown;
 use crate::store::place;
 use limits::MEMBERS;
@@ -143,14 +143,24 @@ fn member_bounds(
     standing::bounds_of(&store[a..c], &store[b..d], below, above)
 }
 
-// The mark of two factors with `a` and `b` classes, whose infimum has `p` and whose supremum `q`: those that are orthogonal and have
-// classes of one size make the same product.
-fn product_mark(p: usize, q: usize, a: u8, b: u8) -> u8
+// Whether two factors with `a` and `b` classes, whose infimum has `p` and whose supremum `q`, have the mark: those that are orthogonal
+// and have classes of one size make the same product.
+fn same_product(p: usize, q: usize, a: u8, b: u8) -> bool
     requires { ⌜ (p ≤ 240) × (q ≤ 240) ⌝ }
-    ensures { λ r. ⌜ eqb r 1 ≡ eqb (p * q) (a * b) ⌝ }
+    ensures { λ r. ⌜ r ≡ eqb (p * q) (a * b) ⌝ }
 {
-    let same = p * q == a as usize * b as usize;
-    same as u8
+    p * q == a as usize * b as usize
+}
+
+// The entry of a pair whose supremum is member `q`: 1 and its place where the pair has the mark.
+fn entry(mark: bool, q: usize) -> u8
+    requires { ⌜ q < 32 ⌝ }
+    ensures { λ r. ⌜ r ≡ entryOf mark q ⌝ }
+{
+    if mark {
+        return q as u8 + 1;
+    }
+    0
 }
 
 // Combines two members under both operations, with a mark where numbers of classes are as for two that are orthogonal.
@@ -171,7 +181,7 @@ fn combine_both(
     let mut infimum = [0u8; PLOTS];
     let mut supremum = [0u8; PLOTS];
     let bounds = member_bounds(store, n, i, j, &mut infimum, &mut supremum);
-    let mark = product_mark(bounds.infimum, bounds.supremum, counts[i], counts[j]);
+    let mark = same_product(bounds.infimum, bounds.supremum, counts[i], counts[j]);
     let p = place(store, counts, size, &infimum[..n], bounds.infimum as u8);
     if p == MEMBERS {
         return TOO_MANY;
@@ -181,7 +191,7 @@ fn combine_both(
     if q == MEMBERS {
         return TOO_MANY;
     }
-    marks[MEMBERS * i + j] = mark;
+    marks[MEMBERS * i + j] = entry(mark, q);
     note_supremum(above, i, j, q);
     note_infimum(above, i, j, p);
     grown(more, q)
@@ -208,9 +218,80 @@ fn combine_supremum(
     if q == MEMBERS {
         return TOO_MANY;
     }
-    marks[MEMBERS * i + j] = crossing.orthogonal as u8;
+    marks[MEMBERS * i + j] = entry(crossing.orthogonal, q);
     note_supremum(above, i, j, q);
     grown(size, q)
+}
+
+// Whether an entry of `marks` names a member that is known to be coarser than member `j`.
+fn names_coarser(
+    counts: &[u8; MEMBERS],
+    above: &[u32; MEMBERS],
+    size: usize,
+    n: usize,
+    j: usize,
+    entry: u8,
+) -> bool
+    requires { ⌜ (length (now counts) ≡ 32) × (length (now above) ≡ 32) × (size ≤ 32) × (j < size) ⌝ }
+    ensures { λ r. ⌜ (r ≡ true → NamesCoarser n (now (counts .entry)) (now (above .entry)) size j entry) ⌝ }
+{
+    if entry == 0 {
+        return false;
+    }
+    let q = entry as usize - 1;
+    if size <= q {
+        return false;
+    }
+    told_finer(n, counts[j], counts[q], above[j], q)
+}
+
+// The entry of members `i` and `j`, where it follows from that of `i` and a member finer than `j`: a factor between one of two orthogonal
+// factors and their supremum is orthogonal to the other, with the same supremum. 0 where none is known.
+fn known_entry(
+    counts: &[u8; MEMBERS],
+    marks: &[u8; PAIRS],
+    above: &[u32; MEMBERS],
+    size: usize,
+    n: usize,
+    i: usize,
+    j: usize,
+) -> u8
+    requires { ⌜ (length (now counts) ≡ 32) × (length (now above) ≡ 32) × (size ≤ 32) × (i < size) × (j < i) ⌝ }
+    ensures { λ r. ⌜ ((store : List ℕ) → Held n store (now (counts .entry)) size → Known n store (now (above .entry)) size → Follows n store (now (marks .entry)) size i j r) ⌝ }
+{
+    for y in 0..j {
+        let word = above[y];
+        if (word >> j) & 1 == 1 {
+            let entry = marks[MEMBERS * i + y];
+            if names_coarser(counts, above, size, n, j, entry) {
+                return entry;
+            }
+        }
+    }
+    0
+}
+
+// Combines two members under supremum, by a walk where it does not follow from what is known.
+fn combine_join(
+    store: &mut [u8],
+    counts: &mut [u8; MEMBERS],
+    marks: &mut [u8; PAIRS],
+    above: &mut [u32; MEMBERS],
+    size: usize,
+    n: usize,
+    i: usize,
+    j: usize,
+) -> usize
+    requires { ⌜ Held n (now store) (now counts) size × (i < size) × (j < i) × Known n (now store) (now above) size ⌝ }
+    ensures kept { λ r. ⌜ Advanced n (now (store .exit)) (now (counts .exit)) (now (above .exit)) size r ⌝ }
+    ensures step { λ r. ⌜ ((Gs : List Column) → Work n false Gs (now (store .entry)) (now (counts .entry)) (now (marks .entry)) size i j → Stepped n false Gs (now (store .exit)) (now (counts .exit)) (now (marks .exit)) r i (j + 1)) ⌝ }
+{
+    let known = known_entry(counts, marks, above, size, n, i, j);
+    if known != 0 {
+        marks[MEMBERS * i + j] = known;
+        return size;
+    }
+    combine_supremum(store, counts, marks, above, size, n, i, j)
 }
 
 // Combines members `i` and `j`; answers the new size, or TOO_MANY. Two that are nested make nothing new, and have the mark.
@@ -231,17 +312,17 @@ fn combine(
 {
     let at = MEMBERS * i + j;
     if found_finer(store, counts, above, size, n, i, j) {
-        marks[at] = 1;
+        marks[at] = entry(true, j);
         return size;
     }
     if found_finer(store, counts, above, size, n, j, i) {
-        marks[at] = 1;
+        marks[at] = entry(true, i);
         return size;
     }
     if infima {
         return combine_both(store, counts, marks, above, size, n, i, j);
     }
-    combine_supremum(store, counts, marks, above, size, n, i, j)
+    combine_join(store, counts, marks, above, size, n, i, j)
 }
 
 // Combines member `i` with each that was found before it; answers the new size, or TOO_MANY.

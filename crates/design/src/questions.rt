@@ -116,9 +116,9 @@ fn marked(marks: &[u8], i: usize, j: usize) -> bool
     ensures { λ r. ⌜ r ≡ marked (now (marks .entry)) i j ⌝ }
 {
     if i < j {
-        return marks[MEMBERS * j + i] == 1;
+        return marks[MEMBERS * j + i] != 0;
     }
-    marks[MEMBERS * i + j] == 1
+    marks[MEMBERS * i + j] != 0
 }
 
 // 10 and 12: the first pair of places whose members do not have the mark.

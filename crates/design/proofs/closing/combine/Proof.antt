@@ -22,6 +22,9 @@ found-finer-requires c κs =
     let s = c .before .before .before .before in
     (s .pre .0, s .pre .1, omega (arith, s .pre .1, s .pre .2), s .pre .3)
 
+entry-requires : tie.Need-entry-requires
+entry-requires c κs = search needs
+
 element-write-marks : tie.Need-element-write-marks
 element-write-marks c = search needs
 
@@ -30,15 +33,19 @@ same-length c = search needs
 
 returns : tie.Need-returns
 returns c =
-    let f = c .before in
+    let t = c .before in
+    let f = t .before in
     let s = f .before .before .before .before .before in
-    (inr (s .pre .0, le-refl _, f .found-finer .ensures .1), λ Gs w. on (work-left w (s .pre .1) (s .pre .2) (f .found-finer .ensures .0 (c .if1 .taken))))
+    (inr (s .pre .0, le-refl _, f .found-finer .ensures .1), λ Gs w. on (rw (c .entry .ensures) (work-left w (s .pre .1) (s .pre .2) (f .found-finer .ensures .0 (t .if1 .taken)))))
 
 found-finer-requires-2 : tie.Need-found-finer-requires-2
 found-finer-requires-2 c κs =
     let f = c .before .before .before .before in
     let s = f .before .before .before .before .before in
     (s .pre .0, omega (arith, s .pre .1, s .pre .2), s .pre .1, f .found-finer .ensures .1)
+
+entry-requires-2 : tie.Need-entry-requires-2
+entry-requires-2 c κs = search needs
 
 element-write-marks-2 : tie.Need-element-write-marks-2
 element-write-marks-2 c = search needs
@@ -48,9 +55,10 @@ same-length-2 c = search needs
 
 returns-2 : tie.Need-returns-2
 returns-2 c =
-    let f = c .before in
+    let t = c .before in
+    let f = t .before in
     let s = f .before .before .before .before .before .before .before .before .before .before in
-    (inr (s .pre .0, le-refl _, f .found-finer2 .ensures .1), λ Gs w. on (work-right w (s .pre .1) (s .pre .2) (f .found-finer2 .ensures .0 (c .if2 .taken))))
+    (inr (s .pre .0, le-refl _, f .found-finer2 .ensures .1), λ Gs w. on (rw (c .entry2 .ensures) (work-right w (s .pre .1) (s .pre .2) (f .found-finer2 .ensures .0 (t .if2 .taken)))))
 
 combine-both-requires : tie.Need-combine-both-requires
 combine-both-requires c κs = search needs
@@ -64,8 +72,8 @@ returns-3 c =
     let t = b .before .before .before .before .before in
     (b .combine-both .ensures .0, λ Gs w. step-as (t .if3 .taken) (b .combine-both .ensures .1 Gs) w)
 
-combine-supremum-requires : tie.Need-combine-supremum-requires
-combine-supremum-requires c κs = search needs
+combine-join-requires : tie.Need-combine-join-requires
+combine-join-requires c κs = search needs
 
 same-length-4 : tie.Need-same-length-4
 same-length-4 c = search needs
@@ -74,7 +82,7 @@ returns-4 : tie.Need-returns-4
 returns-4 c =
     let b = c .before .before in
     let t = b .before .before .before .before .before in
-    (b .combine-supremum .ensures .0, λ Gs w. step-as (t .if3 .left) (b .combine-supremum .ensures .1 Gs) w)
+    (b .combine-join .ensures .0, λ Gs w. step-as (t .if3 .left) (b .combine-join .ensures .1 Gs) w)
 
 pub combine-spec : {M : Type 1} → statement M
 combine-spec =
@@ -83,16 +91,18 @@ combine-spec =
     mul-at
     add-at
     found-finer-requires
+    entry-requires
     element-write-marks
     same-length
     returns
     found-finer-requires-2
+    entry-requires-2
     element-write-marks-2
     same-length-2
     returns-2
     combine-both-requires
     same-length-3
     returns-3
-    combine-supremum-requires
+    combine-join-requires
     same-length-4
     returns-4)

@@ -74,21 +74,21 @@ module _ (m : tie.After-member-bounds) where
   above-length = ap length above-front ∙ above-plots
 
 -- where both were written, seen from the place at which the mark is made
-abbrev written : tie.After-product-mark → tie.After-member-bounds
+abbrev written : tie.After-same-product → tie.After-member-bounds
 written x = x .before .before .before
 
 -- the mark says whether the numbers of classes make one product
-mark-is : (x : tie.After-product-mark)
+mark-is : (x : tie.After-same-product)
     → let a = start (written x) .args in
-    eqb (x .product-mark .result) 1 ≡ byCounts (columnIn (a .n) (now (a .store)) (a .i)) (columnIn (a .n) (now (a .store)) (a .j))
+    x .same-product .result ≡ byCounts (columnIn (a .n) (now (a .store)) (a .i)) (columnIn (a .n) (now (a .store)) (a .j))
 mark-is x =
     let m = written x in
     let s = start m in
     let b = m .member-bounds .ensures in
-    x .product-mark .ensures ∙ ap₂ eqb (ap₂ _*_ (b .0) (b .1 .0)) (ap₂ _*_ (s .pre .0 .counted (s .args .i) (s .pre .1)) (s .pre .0 .counted (s .args .j) (omega (arith, s .pre .1, s .pre .2))))
+    x .same-product .ensures ∙ ap₂ eqb (ap₂ _*_ (b .0) (b .1 .0)) (ap₂ _*_ (s .pre .0 .counted (s .args .i) (s .pre .1)) (s .pre .0 .counted (s .args .j) (omega (arith, s .pre .1, s .pre .2))))
 
 -- where the mark was made
-abbrev marking : tie.After-place → tie.After-product-mark
+abbrev marking : tie.After-place → tie.After-same-product
 marking p = p .before .before .before .before .before
 
 -- where both were written
@@ -168,14 +168,14 @@ here-2 c =
 member-bounds-requires : tie.Need-member-bounds-requires
 member-bounds-requires c κs = search needs
 
-element-copy-out-product-mark : tie.Need-element-copy-out-product-mark
-element-copy-out-product-mark c = search needs
+element-copy-out-same-product : tie.Need-element-copy-out-same-product
+element-copy-out-same-product c = search needs
 
-element-copy-out-product-mark-2 : tie.Need-element-copy-out-product-mark-2
-element-copy-out-product-mark-2 c = search needs
+element-copy-out-same-product-2 : tie.Need-element-copy-out-same-product-2
+element-copy-out-same-product-2 c = search needs
 
-product-mark-requires : tie.Need-product-mark-requires
-product-mark-requires c κs =
+same-product-requires : tie.Need-same-product-requires
+same-product-requires c κs =
     let m = c .before .before in
     let b = m .member-bounds .ensures in
     (omega (arith, b .0, classes-most (made infimum m), below-plots m, start m .pre .0 .most), omega (arith, b .1 .0, classes-most (made supremum m), above-plots m, start m .pre .0 .most))
@@ -241,35 +241,38 @@ returns-2 c =
       λ Gs w. over refl (over-supremum (work-infimum w (s .pre .1) (s .pre .2) (here g)) (i-in g) (s .pre .2) (placed-2 q) (c .if2 .taken)),
     )
 
+entry-requires : tie.Need-entry-requires
+entry-requires c κs = let y = here-2 c in omega (arith, y .here, y .held .few)
+
 mul-marks : tie.Need-mul-marks
 mul-marks c =
-    let s = start (bounds (first (second (c .before .before .before)))) in
+    let s = start (bounds (first (second (c .before .before .before .before)))) in
     omega (arith, s .pre .1, s .pre .0 .few)
 
 add-marks : tie.Need-add-marks
 add-marks c =
-    let s = start (bounds (first (second (c .before .before .before)))) in
+    let s = start (bounds (first (second (c .before .before .before .before)))) in
     omega (arith, s .pre .1, s .pre .2, s .pre .0 .few)
 
 element-write-marks : tie.Need-element-write-marks
 element-write-marks c =
-    let s = start (bounds (first (second (c .before .before .before)))) in
+    let s = start (bounds (first (second (c .before .before .before .before)))) in
     omega (arith, s .pre .1, s .pre .2, s .pre .0 .few)
 
 -- the members of the pair, and of its infimum and supremum, have words
 note-supremum-requires : tie.Need-note-supremum-requires
 note-supremum-requires c κs =
-    let y = here-2 (c .before) in
-    let s = start (bounds (first (second (c .before .before .before .before)))) in
+    let y = here-2 (c .before .before) in
+    let s = start (bounds (first (second (c .before .before .before .before .before)))) in
     (s .pre .3 .words, omega (arith, s .pre .0 .few, s .pre .1), omega (arith, s .pre .0 .few, s .pre .1, s .pre .2), omega (arith, y .here, y .held .few))
 
 note-infimum-requires : tie.Need-note-infimum-requires
 note-infimum-requires c κs =
     let t = c .before in
-    let g = second (t .before .before .before .before .before) in
+    let g = second (t .before .before .before .before .before .before) in
     let s = start (bounds (first g)) in
     let a = s .args in
-    let q = t .before .before .before .before .before .place2 .result in (
+    let q = t .before .before .before .before .before .before .place2 .result in (
       ap length (t .note-supremum .ensures) ∙ noted-words (noted (now (a .above)) (a .i) q) (a .j) q (noted-words (now (a .above)) (a .i) q (s .pre .3 .words)),
       omega (arith, s .pre .0 .few, s .pre .1),
       omega (arith, s .pre .0 .few, s .pre .1, s .pre .2),
@@ -277,7 +280,7 @@ note-infimum-requires c κs =
     )
 
 grown-requires-2 : tie.Need-grown-requires-2
-grown-requires-2 c κs = here (second (c .before .before .before .before .before .before .before)) .held .few
+grown-requires-2 c κs = here (second (c .before .before .before .before .before .before .before .before)) .held .few
 
 same-length-3 : tie.Need-same-length-3
 same-length-3 c = search needs
@@ -285,7 +288,8 @@ same-length-3 c = search needs
 returns-3 : tie.Need-returns-3
 returns-3 c =
     let t = c .before .before .before in
-    let e = t .before .before in
+    let n = t .before .before in
+    let e = n .before in
     let q = e .before .before .before in
     let g = second q in
     let s = start (bounds (first g)) in
@@ -305,7 +309,7 @@ returns-3 c =
     let known = known-infimum (y .held) i-now j-now low (known-supremum (y .held) i-now j-now high (known-grown (x .held) y (known-grown (s .pre .0) x (s .pre .3)))) in
     let words = c .before .note-infimum .ensures ∙ ap (λ (l : List ℕ). noted (noted l (first g .place .result) (a .i)) (first g .place .result) (a .j)) (t .note-supremum .ensures) in (
       inr (rw (c .grown2 .ensures, words) (y .held, more, known)),
-      λ Gs w. on (rw (c .grown2 .ensures) (work-both (marking (first g) .product-mark .result) i-now (s .pre .2) low high mark (work-supremum (work-infimum w (s .pre .1) (s .pre .2) x) (i-in g) (s .pre .2) y))),
+      λ Gs w. on (rw (c .grown2 .ensures, n .entry .ensures) (work-both (marking (first g) .same-product .result) i-now (s .pre .2) low high mark (work-supremum (work-infimum w (s .pre .1) (s .pre .2) x) (i-in g) (s .pre .2) y))),
     )
 
 pub combine-both-spec : {M : Type 1} → statement M
@@ -313,9 +317,9 @@ combine-both-spec =
     tie.close
     (tie.spec
     member-bounds-requires
-    element-copy-out-product-mark
-    element-copy-out-product-mark-2
-    product-mark-requires
+    element-copy-out-same-product
+    element-copy-out-same-product-2
+    same-product-requires
     array-share-prefix-infimum
     slice-aggregate-place
     cast-place
@@ -329,6 +333,7 @@ combine-both-spec =
     place-requires-2
     same-length-2
     returns-2
+    entry-requires
     mul-marks
     add-marks
     element-write-marks

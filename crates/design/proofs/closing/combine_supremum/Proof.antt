@@ -7,7 +7,6 @@ use Prim.Native.Nat.{ℕ, _≤_, _<_}
 use native.Mathlib.Omega.{arith}
 use denote.Ref.{now}
 use lib.ListN.{length, take, replicate, length-take}
-use mir.Val.{boolByte}
 use borrow.Author.Needs.{needs}
 use Rattle.rules.specs.Factor.{Column, classes, supremum, orthogonal}
 use Rattle.rules.specs.Family.{membersOf}
@@ -15,7 +14,6 @@ use Rattle.rules.proofs.Bounds.{length-supremum′}
 use Rattle.rules.proofs.ClassCount.{classes-most}
 use Rattle.design.specs.State.{columnIn, Placed, grownTo, over, on}
 use Rattle.design.proofs.Common.{overlay-front}
-use Rattle.design.proofs.Search.{mark-byte}
 use Rattle.design.proofs.Start.{held-on, placed-on}
 use Rattle.design.proofs.Work.{size-members, held-length, Stood, stood, kept-at, pair-here, work-supremum, over-supremum, work-join}
 use Rattle.design.proofs.KnownOrder.{known-grown, known-supremum}
@@ -104,8 +102,8 @@ returns c =
     let s = start (crossing p) in
     (inl refl, λ Gs w. over refl (over-supremum w (s .pre .1) (s .pre .2) (placed p) (c .if1 .taken)))
 
-cast-marks : tie.Need-cast-marks
-cast-marks c = search needs
+entry-requires : tie.Need-entry-requires
+entry-requires c κs = let x = here c in omega (arith, x .here, x .held .few)
 
 mul-marks : tie.Need-mul-marks
 mul-marks c = let s = start (crossing (c .before .before .before .before)) in omega (arith, s .pre .1, s .pre .0 .few)
@@ -142,10 +140,10 @@ returns-2 c =
     let j-in : a .j < a .size = omega (arith, s .pre .1, s .pre .2) in
     let j-now : a .j < grownTo (a .size) (p .place .result) = omega (arith, j-in, more) in
     let high = pair-here (s .pre .0) (s .pre .1) j-in x in
-    let mark = mark-byte (m .member-crossing .result .orthogonal) ∙ m .member-crossing .ensures .1 .0 ∙ sym (ap₂ (orthogonal (a .n)) (kept-at (s .pre .0) x (a .i) (s .pre .1)) (kept-at (s .pre .0) x (a .j) j-in)) in
+    let mark = m .member-crossing .ensures .1 .0 ∙ sym (ap₂ (orthogonal (a .n)) (kept-at (s .pre .0) x (a .i) (s .pre .1)) (kept-at (s .pre .0) x (a .j) j-in)) in
     let known = known-supremum (x .held) i-in j-now high (known-grown (s .pre .0) x (s .pre .3)) in (
       inr (rw (c .grown .ensures, c .before .note-supremum .ensures) (x .held, more, known)),
-      λ Gs w. on (rw (c .grown .ensures) (work-join (boolByte (m .member-crossing .result .orthogonal)) i-in (s .pre .2) high mark (work-supremum w (s .pre .1) (s .pre .2) x))),
+      λ Gs w. on (rw (c .grown .ensures, c .before .before .before .entry .ensures) (work-join (m .member-crossing .result .orthogonal) i-in (s .pre .2) high mark (work-supremum w (s .pre .1) (s .pre .2) x))),
     )
 
 pub combine-supremum-spec : {M : Type 1} → statement M
@@ -159,7 +157,7 @@ combine-supremum-spec =
     place-requires
     same-length
     returns
-    cast-marks
+    entry-requires
     mul-marks
     add-marks
     element-write-marks
