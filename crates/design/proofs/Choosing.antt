@@ -3,9 +3,9 @@
 use mathlib.Core.Path.{_≡_, refl, sym, ap, ap₂, _∙_, subst}
 use mathlib.Core.Logic.{_⊎_, inl, inr}
 use mathlib.Core.Bool.{Bool, true, false}
-use mathlib.Core.List.{List, [], _∷_, _++_, map, map-append, append-nil, append-assoc, List·Memᴰ·head, List·Memᴰ·tail, List·Memᴰ·not-nil, List·Memᴰ·cases-cons, Memᴰ·of-map, List·Memᴰ·append-cases, List·Memᴰ·eq-of-singleton, Memᴰ·cast, Memᴰ·append-left}
+use mathlib.Core.List.{List, [], _∷_, _++_, map, map-append, append-nil, append-assoc, List·Memᴰ·head, List·Memᴰ·tail, List·Memᴰ·not-nil, List·Memᴰ·cases-cons, Memᴰ·of-map, List·Memᴰ·append-cases, List·Memᴰ·eq-of-singleton, Memᴰ·cast, Memᴰ·append-left, Memᴰ·append-right}
 use Prim.Native.Nat.{ℕ, zero, suc, _+_, _*_, _-_, _≤_, _<_, _/_}
-use native.Mathlib.Nat.{le-of-eq, not-suc-le-zero, le-of-suc-le-suc, lt-irrefl, zero-add}
+use native.Mathlib.Nat.{le-of-eq, not-suc-le-zero, le-of-suc-le-suc, lt-irrefl, zero-add, add-zero}
 use native.Mathlib.Numerals.{add-one}
 use native.Mathlib.Omega.{arith}
 use lib.Dec.{ltb, eqb, leb·suc-suc, leb·suc-zero}
@@ -441,26 +441,33 @@ module _ (n k d : ℕ) (levels : List ℕ) where
 
 -- ---- infima placed in turn
 
--- no member
-pub members-none : (n : ℕ) (b : List ℕ) → membersOf n b 0 ≡ []
-unfolding membersOf columnsFrom
-members-none n b = refl
+-- the columns from a later place on are among those from an earlier one on
+columns-late : (n : ℕ) (b : List ℕ) (d c k : ℕ) (F : Column) → F ∈ columnsFrom n b (d + c) k → F ∈ columnsFrom n b c (d + k)
+unfolding columnsFrom
+columns-late n b zero c k F m = subst (λ (x : ℕ). F ∈ columnsFrom n b c x) (sym (zero-add k)) (subst (λ (x : ℕ). F ∈ columnsFrom n b x k) (zero-add c) m)
+columns-late n b (suc d) c k F m =
+    let p : suc d + c ≡ d + suc c = omega arith in
+    let q : suc (d + k) ≡ suc d + k = omega arith in
+    subst (λ (x : ℕ). F ∈ columnsFrom n b c x) q (List·Memᴰ·tail (columns-late n b d (suc c) k F (subst (λ (x : ℕ). F ∈ columnsFrom n b x k) p m)))
 
--- the first of the members of a buffer are members
-pub members-first : (n : ℕ) → n ≤ 240 → (b : List ℕ) (e m : ℕ) → e ≤ m → (F : Column) → F ∈ membersOf n b e → F ∈ membersOf n b m
-members-first n small b e m h F i =
-    let p = place-of (membersOf n b e) F i in
-    let l : p .place < e = omega (arith, p .less, length-members n small b e) in
-    Memᴰ·cast (sym (member-is n small b m (p .place) (omega arith) ∙ sym (member-is n small b e (p .place) l) ∙ p .is)) (member-in (membersOf n b m) (p .place) (rw (length-members n small b m) (omega arith)))
+-- those from place e on are members
+pub members-late : (n : ℕ) (b : List ℕ) (e m : ℕ) → e ≤ m → (F : Column) → F ∈ columnsFrom n b e (m - e) → F ∈ membersOf n b m
+unfolding membersOf
+members-late n b e m h F i =
+    let q : e + (m - e) ≡ m = omega arith in
+    subst (λ (k : ℕ). F ∈ columnsFrom n b 0 k) q (columns-late n b e 0 (m - e) F (subst (λ (k : ℕ). F ∈ columnsFrom n b k (m - e)) (sym (add-zero e)) i))
+
+-- from one place earlier on there is a column more
+pub members-before : (n : ℕ) (b : List ℕ) (e m : ℕ) → 0 < e → e ≤ m → columnsFrom n b (e - 1) (m - (e - 1)) ≡ columnIn n b (e - 1) ∷ columnsFrom n b e (m - e)
+unfolding columnsFrom
+members-before n b e m some h =
+    let p : m - (e - 1) ≡ suc (m - e) = omega arith in
+    let q : suc (e - 1) ≡ e = omega arith in
+    ap (columnsFrom n b (e - 1)) p ∙ ap (λ (x : ℕ). columnIn n b (e - 1) ∷ columnsFrom n b x (m - e)) q
 
 -- each column of a buffer is a member
 pub column-member : (n : ℕ) → n ≤ 240 → (b : List ℕ) (e m : ℕ) → e < m → columnIn n b e ∈ membersOf n b m
 column-member n small b e m h = Memᴰ·cast (sym (member-is n small b m e h)) (member-in (membersOf n b m) e (rw (length-members n small b m) h))
-
--- a column more
-pub members-snoc : (n : ℕ) (b : List ℕ) (e : ℕ) → membersOf n b (e + 1) ≡ membersOf n b e ++ columnIn n b e ∷ []
-unfolding membersOf
-members-snoc n b e = ap (columnsFrom n b 0) (add-one e) ∙ columns-snoc n b 0 e ∙ ap (λ (i : ℕ). columnsFrom n b 0 e ++ columnIn n b i ∷ []) (zero-add e)
 
 module _ (n : ℕ) (As : List Column) (store counts : List ℕ) (size : ℕ) (b : Begun n As store counts size) (F : Column)
     (r : ℕ) (after counts′ : List ℕ) (p : Placed n (membersOf n store size) F r after counts′) where
@@ -492,6 +499,25 @@ module _ (n : ℕ) (As : List Column) (store counts : List ℕ) (size : ℕ) (b 
           is-placed : (G : Column) → (G ∈ As) ⊎ (G ∈ F ∷ []) → G ∈ S
           is-placed G (inl i) = b .given G i
           is-placed G (inr i) = Memᴰ·cast (List·Memᴰ·eq-of-singleton i ∙ sym m) (member-in S r l)
+
+  -- the same with it in front
+  pub begun-before : number F ≡ F → (r ≡ 32 → ⊥) → Begun n (F ∷ As) after counts′ (grownTo size r)
+  begun-before numbered d = let q = begun-next numbered d in record {
+    held = q .held;
+    most = omega (arith, q .most, length-append As (F ∷ []));
+    distinct = q .distinct;
+    numbered = q .numbered;
+    only = λ G m. front G (List·Memᴰ·append-cases As (q .only G m));
+    given = λ G m. q .given G (back G (List·Memᴰ·cases-cons m));
+  }
+    where
+      front : (G : Column) → (G ∈ As) ⊎ (G ∈ F ∷ []) → G ∈ F ∷ As
+      front G (inl m) = List·Memᴰ·tail m
+      front G (inr m) = List·Memᴰ·head (List·Memᴰ·eq-of-singleton m)
+
+      back : (G : Column) → (G ≡ F) ⊎ (G ∈ As) → G ∈ As ++ F ∷ []
+      back G (inl e) = Memᴰ·append-right As (List·Memᴰ·head e)
+      back G (inr m) = Memᴰ·append-left _ m
 
   -- it has found none: more than 32 columns differ
   pub begun-over : r ≡ 32 → (Gs : List Column) → ((G : Column) → G ∈ As → G ∈ Gs) → F ∈ Gs → close onlySupremum Gs ≡ tooMany

@@ -132,7 +132,8 @@ fn place_one(
     place(store, counts, size, column, k)
 }
 
-// Places the first `total` columns; answers how many members they make, or TOO_MANY.
+// Places the first `total` columns; answers how many members they make, or TOO_MANY. The last is placed first: infima of more columns, which
+// are finer, come before those of fewer, so that closing can tell more suprema from others.
 fn place_all(
     infima: &[u8],
     total: usize,
@@ -144,7 +145,9 @@ fn place_all(
     ensures { λ r. ⌜ AllPlaced n (membersOf n (now (infima .entry)) total) (now (store .exit)) (now (counts .exit)) r ⌝ }
 {
     let mut size = 0;
-    for e in 0..total {
+    let mut e = total;
+    while 0 < e {
+        e -= 1;
         let p = place_one(infima, e, n, store, counts, size);
         if p == MEMBERS {
             return TOO_MANY;
