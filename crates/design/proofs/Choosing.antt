@@ -15,9 +15,10 @@ use borrow.Author.Tests.{lt-ltb, le-ltb, ltb-true, ltb-false, eqb-true, eqb-fals
 use Rattle.rules.specs.Factor.{Column, number, infimum, universal}
 use Rattle.rules.specs.Family.{Family, _∈_, columnsFrom, membersOf, insertAll, written}
 use Rattle.rules.specs.Closing.{choices, infimumAll, treatmentGenerators, onlySupremum, tooMany, family, close, given, Chosen, none-of, skipping, taking}
-use Rattle.rules.proofs.Numbering.{by-cases, length-number, length-infimum, number-infimum}
+use Rattle.rules.proofs.Numbering.{by-cases, length-number, number-number, length-infimum, number-infimum}
 use Rattle.rules.proofs.Supremum.{infimum-equivalent, number-equivalent, equivalent-refl}
 use Rattle.rules.proofs.Bounds.{numbered-equal}
+use Rattle.rules.proofs.ClassCount.{infimum-universal}
 use Rattle.rules.proofs.Extremes.{length-universal, number-universal}
 use Rattle.rules.proofs.Buffer.{put, length-put, length-members, member-is, members-add, columns-snoc}
 use Rattle.rules.proofs.WorkList.{place-of, member-in, found-over}
@@ -25,7 +26,7 @@ use Rattle.rules.proofs.Families.{choices-chosen}
 use Rattle.factor.specs.Lent.{onCommon, overlay}
 use Rattle.factor.proofs.Lent.{common-all, take-overlay}
 use Rattle.design.specs.State.{columnIn, Placed, full, old, new, grownTo, Begun, makeOf, Work, Closed, exceeded, complete}
-use Rattle.design.specs.Treatments.{shorter, extended, Room, Infima, AllPlaced, over, on}
+use Rattle.design.specs.Treatments.{withChoice, shorter, extended, Room, Infima, AllPlaced, over, on}
 use Rattle.design.proofs.Placing.{grown-old, part-column}
 use Rattle.design.proofs.Start.{begun-more}
 
@@ -319,6 +320,15 @@ module _ (n : ℕ) (infima lengths : List ℕ) (m : ℕ) (Cs : List (List Column
 
 -- ---- the infima extended by a column
 
+-- with the infimum of no column it is the column, and otherwise the infimum of the two
+pub choice-none : (l : ℕ) (T X : Column) → l ≡ 0 → withChoice l T X ≡ T
+choice-none zero T X e = refl
+choice-none (suc l) T X e = absurd (omega arith)
+
+pub choice-some : (l : ℕ) (T X : Column) → (l ≡ 0 → ⊥) → withChoice l T X ≡ infimum T X
+choice-some zero T X d = absurd (d refl)
+choice-some (suc l) T X d = refl
+
 module _ (column : Column) (k : ℕ) (infima₀ lengths₀ : List ℕ) (total : ℕ) where
   -- the first e infima are looked at
   pub record Extending (infima lengths : List ℕ) (size e : ℕ) : Type 0 where
@@ -350,27 +360,53 @@ module _ (column : Column) (k : ℕ) (infima₀ lengths₀ : List ℕ) (total : 
     columns-at : (T : Column) (Cs : List (List Column)) → number T ≡ column → Infima (length column) infima₀ lengths₀ total Cs → getD lengths e 0 ≡ length (getD Cs e [])
     columns-at T Cs q i = x .chosen T Cs q i .sizes e (omega (arith, x .low)) ∙ ap length (reached-at k T Cs e e (rw (i .count) less))
 
-    -- the infimum with the one at e is added
-    pub extending-more : getD lengths e 0 < k → (after lengths′ : List ℕ) (size′ : ℕ) → after ≡ paste infima (240 * size) (infimum column (columnIn (length column) infima e)) (length column)
+    -- what a column and a choice make is the infimum of the two, or the column where the choice is empty
+    choice-is : (T : Column) (Cs : List (List Column)) → number T ≡ column → Infima (length column) infima₀ lengths₀ total Cs
+        → (l : ℕ) → l ≡ getD lengths e 0 → withChoice l column (columnIn (length column) infima e) ≡ infimum column (columnIn (length column) infima e)
+    unfolding infimumAll
+    choice-is T Cs w i zero q =
+        let h : e < size = omega (arith, x .low) in
+        let alone : getD (reached k T Cs e) e [] ≡ [] = no-column (getD (reached k T Cs e) e []) (sym (x .chosen T Cs w i .sizes e h) ∙ sym q) in
+        let u : columnIn (length column) infima e ≡ universal (length column) = infimum-at (length column) infima lengths size (reached k T Cs e) (x .chosen T Cs w i) e h ∙ ap (infimumAll (length column)) alone in
+        sym (ap (infimum column) u ∙ infimum-universal (length column) column refl (ap number (sym w) ∙ number-number T ∙ w))
+      where
+        no-column : (C : List Column) → length C ≡ 0 → C ≡ []
+        no-column [] e = refl
+        no-column (F ∷ C) e = absurd (omega arith)
+    choice-is T Cs w i (suc l) q = refl
+
+    -- it is on as many plots
+    length-choice : (l : ℕ) → length (withChoice l column (columnIn (length column) infima e)) ≡ length column
+    length-choice zero = refl
+    length-choice (suc l) = length-met column infima e (x .room .most) fits-here
+
+    -- what the column makes with the choice at e is added
+    pub extending-more : getD lengths e 0 < k → (after lengths′ : List ℕ) (size′ : ℕ) → after ≡ paste infima (240 * size) (withChoice (getD lengths e 0) column (columnIn (length column) infima e)) (length column)
         → lengths′ ≡ set lengths size (getD lengths e 0 + 1) → size′ ≡ size + 1 → Extending after lengths′ size′ (e + 1)
     extending-more short after lengths′ size′ p q z = rw (p, q, z) record {
       room = room-more (length column) lengths size (getD lengths e 0 + 1) (x .room) (omega (arith, x .high)) (omega arith);
-      bytes = length-pasted (length column) (x .room .most) infima size (infimum column (columnIn (length column) infima e)) (length-met column infima e (x .room .most) fits-here) fits-next ∙ x .bytes;
+      bytes = length-pasted (length column) (x .room .most) infima size made (length-choice (getD lengths e 0)) fits-next ∙ x .bytes;
       low = omega (arith, x .low);
       high = omega (arith, x .high);
       chosen = next-chosen;
     }
       where
-        next-chosen : (T : Column) (Cs : List (List Column)) → number T ≡ column → Infima (length column) infima₀ lengths₀ total Cs
-            → Infima (length column) (paste infima (240 * size) (infimum column (columnIn (length column) infima e)) (length column)) (set lengths size (getD lengths e 0 + 1)) (size + 1) (reached k T Cs (e + 1))
+        made : Column
+        made = withChoice (getD lengths e 0) column (columnIn (length column) infima e)
+
+        Next : Column → (T : Column) → List (List Column) → Type 0
+        Next F T Ds = Infima (length column) (paste infima (240 * size) F (length column)) (set lengths size (getD lengths e 0 + 1)) (size + 1) Ds
+
+        next-chosen : (T : Column) (Cs : List (List Column)) → number T ≡ column → Infima (length column) infima₀ lengths₀ total Cs → Next made T (reached k T Cs (e + 1))
         next-chosen T Cs w i =
             let l : length T ≡ length column = sym (length-number T) ∙ ap length w in
             let h : e < length Cs = rw (i .count) less in
             let s : length (getD Cs e []) < k = subst (λ (m : ℕ). m < k) (columns-at T Cs w i) short in
             let j = infima-more (length column) infima lengths size (reached k T Cs e) (x .chosen T Cs w i) T l e (omega (arith, x .low)) (omega (arith, x .high)) (omega arith) fits-next in
-            subst (λ (Ds : List (List Column)). Infima (length column) (paste infima (240 * size) (infimum column (columnIn (length column) infima e)) (length column)) (set lengths size (getD lengths e 0 + 1)) (size + 1) Ds)
+            subst (λ (F : Column). Next F T (reached k T Cs (e + 1))) (sym (choice-is T Cs w i (getD lengths e 0) refl))
+            (subst (λ (Ds : List (List Column)). Next (infimum column (columnIn (length column) infima e)) T Ds)
             (ap (λ (D : List Column). reached k T Cs e ++ (T ∷ D) ∷ []) (reached-at k T Cs e e h) ∙ sym (reached-more k T Cs e h s))
-            (subst (λ (N : Column). Infima (length column) (paste infima (240 * size) (infimum N (columnIn (length column) infima e)) (length column)) (set lengths size (getD lengths e 0 + 1)) (size + 1) (reached k T Cs e ++ (T ∷ getD (reached k T Cs e) e []) ∷ [])) w j)
+            (subst (λ (N : Column). Next (infimum N (columnIn (length column) infima e)) T (reached k T Cs e ++ (T ∷ getD (reached k T Cs e) e []) ∷ [])) w j))
 
     -- the one at e is of too many columns
     pub extending-same : k ≤ getD lengths e 0 → (after lengths′ : List ℕ) (size′ : ℕ) → after ≡ infima → lengths′ ≡ lengths → size′ ≡ size → Extending after lengths′ size′ (e + 1)

@@ -3,10 +3,10 @@
 use mathlib.Core.Path.{_≡_}
 use mathlib.Core.Bool.{Bool, true, false, _||_}
 use mathlib.Core.List.{List, [], _∷_, _++_, map}
-use Prim.Native.Nat.{ℕ, _*_, _≤_, _<_}
+use Prim.Native.Nat.{ℕ, zero, suc, _*_, _≤_, _<_}
 use lib.Dec.{eqb, ltb}
 use lib.ListN.{length, getD}
-use Rattle.rules.specs.Factor.{Column, number, classes, orthogonal}
+use Rattle.rules.specs.Factor.{Column, number, classes, infimum, orthogonal}
 use Rattle.rules.specs.Family.{membersOf, insertAll}
 use Rattle.rules.specs.Closing.{onlySupremum, tooMany, close, infimumAll}
 use Rattle.design.specs.State.{columnIn, Held, Begun}
@@ -20,6 +20,11 @@ shorter k (C ∷ Cs) = elim (ltb (length C) k) [ true ↦ C ∷ shorter k Cs | f
 unfoldable pub extended : ℕ → Column → List (List Column) → List (List Column)
 unfolding shorter
 extended k T Cs = Cs ++ map (λ (C : List Column). T ∷ C) (shorter k Cs)
+
+-- a column with the infimum X of a choice of so many columns: with that of none it is the column
+abbrev pub withChoice : ℕ → Column → Column → Column
+withChoice zero T X = T
+withChoice (suc l) T X = infimum T X
 
 -- room for how many columns each of 64 choices has, which are at most 6
 pub record Room (n : ℕ) (lengths : List ℕ) : Type 0 where

@@ -11,7 +11,7 @@ ghost use Rattle.rules.specs.Family.{_∈_, columnsFrom, membersOf};
 ghost use Rattle.rules.specs.Closing.{treatmentGenerators};
 ghost use Rattle.design.specs.State.{columnIn, Held, Placed};
 ghost use Rattle.design.specs.Judging.{Listed};
-ghost use Rattle.design.specs.Treatments.{extended, Room, Infima, AllPlaced};
+ghost use Rattle.design.specs.Treatments.{extended, Room, Infima, AllPlaced, withChoice};
 use crate::closed::ClosedFamily;
 use crate::closed::close_family;
 use crate::closing::PAIRS;
@@ -50,6 +50,18 @@ fn add_infimum(infima: &mut [u8], total: usize, column: &[u8], e: usize)
     put(infima, total, &made[..n]);
 }
 
+// Writes the infimum of `column` with infimum `e`, which is of `taken` columns, at place `total`: with that of none it is the column.
+fn add_choice(infima: &mut [u8], total: usize, column: &[u8], e: usize, taken: u8)
+    requires { ⌜ (1 ≤ length (now column)) × (length (now column) ≤ 240) × (240 * total + 240 ≤ length (now infima)) × (240 * e + 240 ≤ length (now infima)) × (total < 64) × (e < 64) ⌝ }
+    ensures { λ _. ⌜ now (infima .exit) ≡ paste (now (infima .entry)) (240 * total) (withChoice taken (now (column .entry)) (columnIn (length (now (column .entry))) (now (infima .entry)) e)) (length (now (column .entry))) ⌝ }
+{
+    if taken == 0 {
+        put(infima, total, column);
+        return;
+    }
+    add_infimum(infima, total, column, e);
+}
+
 // Adds the infima of `column` with each of the first `total` that is of fewer than `k` columns; answers how many there are then.
 fn extend(
     infima: &mut [u8],
@@ -66,7 +78,7 @@ fn extend(
     for e in 0..total {
         let length = lengths[e];
         if (length as usize) < k {
-            add_infimum(infima, now, column, e);
+            add_choice(infima, now, column, e, length);
             lengths[now] = length + 1;
             now += 1;
         }

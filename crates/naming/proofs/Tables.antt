@@ -65,15 +65,6 @@ module _ (n : ℕ) (out : List ℕ) (F M : Column) (s : n ≤ 240) (lO : length 
   pub infimum-length : length (overlay out (onCommon infimum F M)) ≡ 240
   infimum-length = ap (λ (X : Column). length (overlay out X)) common-is ∙ rw (length-append, length-drop, l, lO) (omega arith)
 
--- a numbered column met with nothing
-pub infimum-universal : (n : ℕ) (C : Column) → length C ≡ n → number C ≡ C → infimum C (universal n) ≡ C
-infimum-universal n C l e =
-    let lU = length-universal n in
-    sym (number-infimum C (universal n) (l ∙ sym lU))
-    ∙ numbered-equal n (infimum C (universal n)) C (length-infimum′ n C (universal n) l lU) l
-    (record { to = infimum-left n C (universal n) l lU; from = infimum-greatest n C (universal n) l lU C (finer-refl n C) (finer-universal n C) })
-    ∙ e
-
 -- the column itself, written into an array
 pub column-part : (n at : ℕ) (zeros l : List ℕ) → n ≤ 240 → at + n ≤ length l → length zeros ≡ 240
     → (take n (written zeros 0 (take (at + n - at) (drop at l))) ≡ take n (drop at l)) × (length (written zeros 0 (take (at + n - at) (drop at l))) ≡ 240)

@@ -9,12 +9,12 @@ use native.Mathlib.Omega.{arith}
 use lib.Dec.{eqb}
 use lib.ListN.{length, replicate, getD-replicate}
 use borrow.Author.Tests.{eqb-true, eqb-false}
-use Rattle.rules.specs.Factor.{Column, at, same, Finer, Equivalent, addNew, labels, number, classes, universal, upFrom, equality}
-use Rattle.rules.proofs.Numbering.{by-cases, length-number}
+use Rattle.rules.specs.Factor.{Column, at, same, Finer, Equivalent, addNew, labels, number, classes, infimum, universal, upFrom, equality}
+use Rattle.rules.proofs.Numbering.{by-cases, length-number, number-infimum}
 use Rattle.rules.proofs.Supremum.{number-equivalent, equivalent-sym}
 use Rattle.rules.proofs.Classes.{classes-le, classes-lt}
 use Rattle.rules.proofs.Extremes.{number-universal, length-universal, add-up, number-equality, length-up, length-equality}
-use Rattle.rules.proofs.Bounds.{numbered-equal}
+use Rattle.rules.proofs.Bounds.{numbered-equal, finer-refl, length-infimum′, infimum-left, infimum-greatest}
 
 -- equivalent factors have as many classes
 pub classes-equivalent : (n : ℕ) (F G : Column) → length F ≡ n → length G ≡ n → Equivalent n F G → classes F ≡ classes G
@@ -37,6 +37,15 @@ finer-equal n F G lF lG fine e = record {
 pub finer-universal : (n : ℕ) (F : Column) → Finer n F (universal n)
 unfolding universal
 finer-universal n F u v hu hv e = getD-replicate n u 1 0 hu ∙ sym (getD-replicate n v 1 0 hv)
+
+-- a numbered column met with it
+pub infimum-universal : (n : ℕ) (F : Column) → length F ≡ n → number F ≡ F → infimum F (universal n) ≡ F
+infimum-universal n F l e =
+    let lU = length-universal n in
+    sym (number-infimum F (universal n) (l ∙ sym lU))
+    ∙ numbered-equal n (infimum F (universal n)) F (length-infimum′ n F (universal n) l lU) l
+    (record { to = infimum-left n F (universal n) l lU; from = infimum-greatest n F (universal n) l lU F (finer-refl n F) (finer-universal n F) })
+    ∙ e
 
 ones : (n : ℕ) → labels eqb (1 ∷ []) (replicate n 1) ≡ 1 ∷ []
 unfolding labels addNew

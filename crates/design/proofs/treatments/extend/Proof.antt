@@ -28,8 +28,8 @@ cast-if1 c =
     let b = c .before .before in
     omega (arith, b .loop .inv .1 .room .small (b .loop .e))
 
-add-infimum-requires : tie.Need-add-infimum-requires Inv-loop μ-loop
-add-infimum-requires c κs =
+add-choice-requires : tie.Need-add-choice-requires Inv-loop μ-loop
+add-choice-requires c κs =
     let b = c .before .before .before in
     let x = b .before .loop .inv .1 in
     (x .room .some, x .room .most, omega (arith, x .high, x .bytes), omega (arith, x .bytes), omega (arith, x .high), omega arith)
@@ -94,7 +94,7 @@ extend-spec =
     loop-holds
     element-copy-out-length
     cast-if1
-    add-infimum-requires
+    add-choice-requires
     add-lengths
     element-write-lengths
     add-now

@@ -10,10 +10,11 @@ use lib.Seq.{length-take-le}
 use borrow.Author.Needs.{needs}
 use Rattle.rules.specs.Factor.{Column, infimum}
 use Rattle.rules.proofs.Bounds.{length-infimum′}
+use Rattle.rules.proofs.ClassCount.{infimum-universal}
 use Rattle.factor.specs.Lent.{onCommon, overlay}
 use Rattle.families.specs.Lent.{columnAt}
 use Rattle.families.proofs.Lent.{part-of}
-use Rattle.naming.proofs.Tables.{length-part, infimum-part, infimum-length, infimum-universal, column-part}
+use Rattle.naming.proofs.Tables.{length-part, infimum-part, infimum-length, column-part}
 use Rattle.naming.proofs.columns.meet.Statement.{statement}
 use Rattle.naming.proofs.columns.meet.Tie as tie
 
