@@ -6,8 +6,8 @@ use Prim.Native.Nat.{ℕ, _*_, _<_}
 use lib.ListN.{length}
 use borrow.Author.Tests.{eqb-true, eq-eqb}
 use Rattle.rules.specs.Factor.{Column, Same, same, Finer, Equivalent, number, infimum, supremum, Chain, start, alongF, alongG, classSize, overlap, Orthogonal}
-use Rattle.rules.proofs.Numbering.{by-cases, number-unique, length-infimum, infimum-same, number-infimum}
-use Rattle.rules.proofs.Supremum.{length-supremum, number-supremum}
+use Rattle.rules.proofs.Numbering.{by-cases, length-number, number-unique, length-infimum, infimum-same, number-infimum}
+use Rattle.rules.proofs.Supremum.{length-supremum, number-supremum, equivalent-refl, number-equivalent, infimum-equivalent}
 use Rattle.rules.proofs.Tests.{count-same, size-equivalent, size-same, supremum-chain′, supremum-flip}
 
 -- every factor is finer than or equivalent to itself, and the order passes on
@@ -60,9 +60,17 @@ module _ (n : ℕ) (F G : Column) (lF : length F ≡ n) (lG : length G ≡ n) wh
       along h (alongF {w} {v} c k s) = (k, along h c .1 ∙ f w v (along h c .0) k s)
       along h (alongG {w} {v} c k s) = (k, along h c .1 ∙ g w v (along h c .0) k s)
 
--- ---- two factors in either order, one finer than the other, one factor twice, absorption
+-- ---- a factor numbered, two factors in either order, one finer than the other, one factor twice, absorption
 
 module _ (n : ℕ) (F G : Column) (lF : length F ≡ n) (lG : length G ≡ n) where
+  -- a column and its numbering have the same infimum with another
+  pub infimum-number : infimum (number F) G ≡ infimum F G
+  infimum-number =
+      let lN : length (number F) ≡ n = length-number F ∙ lF in
+      sym (number-infimum (number F) G (lN ∙ sym lG))
+      ∙ numbered-equal n _ _ (length-infimum′ n (number F) G lN lG) (length-infimum′ n F G lF lG) (infimum-equivalent n lN lG lF lG (number-equivalent F lF) equivalent-refl)
+      ∙ number-infimum F G (lF ∙ sym lG)
+
   -- the order of the two does not matter
   pub infimum-flip : Equivalent n (infimum F G) (infimum G F)
   infimum-flip = record {

@@ -36,7 +36,8 @@ module _ (make : Column → Column → List Column) (Gs : List Column) (P : Colu
       lists : Lists P S
       lists = record { ascending = s .ascending; few = s .few; only = λ F m. to F (s .only F m); all = λ F p. s .all F (from F p) }
 
-  close-lists : (R : Family) → close make Gs ≡ family R → Lists P R
+  -- a family that closing gives lists the columns with P, where just those of the smallest set have it
+  pub close-lists : (R : Family) → close make Gs ≡ family R → Lists P R
   close-lists R e = closed-lists R (close make Gs) (close-right make Gs) e
 
   close-many-iff : close make Gs ≡ tooMany ↔ (AtMost mostMembers P → ⊥)
@@ -113,7 +114,7 @@ choices-chosen (suc k) (T ∷ Ts) C m = go (choices-chosen (suc k) Ts C) (choice
     go f g (inl a) = (skipping (f a .0), f a .1)
     go f g (inr b) = taken g (Memᴰ·of-map (λ (D : List Column). T ∷ D) (choices k Ts) b)
 
-chosen-nothing : (k : ℕ) (Ts : List Column) → [] ∈ choices k Ts
+pub chosen-nothing : (k : ℕ) (Ts : List Column) → [] ∈ choices k Ts
 unfolding choices
 chosen-nothing zero Ts = List·Memᴰ·head refl
 chosen-nothing (suc k) [] = List·Memᴰ·head refl

@@ -33,6 +33,7 @@ pub mod Signed
 pub mod DegreesLaws
 pub mod Treatments
 pub mod Made
+pub mod PlotInfima
 pub mod ReadSheets
 pub mod Printing
 pub mod NameSize

@@ -67,8 +67,9 @@ plot-made n Fs on P is =
     let l = plot-family-lists n Fs P is in
     make n P (universal n) (l .all (universal n) by-universal) (l .few) (l .ascending) (λ F m. member-length n Fs on F (l .only F m)) (λ F m. member-numbered n Fs on F (l .only F m))
 
-module _ (n k : ℕ) (Ts : List Column) (on : (F : Column) → F ∈ Ts → length F ≡ n) where
-  chosen-on : {C Us : List Column} → Chosen C Us → ((F : Column) → F ∈ Us → length F ≡ n) → length (infimumAll n C) ≡ n
+-- the infimum of a choice is on the plots, and numbered
+module _ (n : ℕ) where
+  pub chosen-on : {C Us : List Column} → Chosen C Us → ((F : Column) → F ∈ Us → length F ≡ n) → length (infimumAll n C) ≡ n
   unfolding infimumAll
   chosen-on none-of h = length-universal n
   chosen-on (skipping c) h = chosen-on c (λ F m. h F (List·Memᴰ·tail m))
@@ -77,21 +78,22 @@ module _ (n k : ℕ) (Ts : List Column) (on : (F : Column) → F ∈ Ts → leng
       let t = h T (List·Memᴰ·head refl) in
       length-infimum T (infimumAll n C) (t ∙ sym l) ∙ t
 
-  chosen-numbered : {C Us : List Column} → Chosen C Us → ((F : Column) → F ∈ Us → length F ≡ n) → number (infimumAll n C) ≡ infimumAll n C
+  pub chosen-numbered : {C Us : List Column} → Chosen C Us → ((F : Column) → F ∈ Us → length F ≡ n) → number (infimumAll n C) ≡ infimumAll n C
   unfolding infimumAll
   chosen-numbered none-of h = number-universal n
   chosen-numbered (skipping c) h = chosen-numbered c (λ F m. h F (List·Memᴰ·tail m))
   chosen-numbered (taking {T = T} {C = C} c) h =
       number-infimum T (infimumAll n C) (h T (List·Memᴰ·head refl) ∙ sym (chosen-on c (λ F m. h F (List·Memᴰ·tail m))))
 
+module _ (n k : ℕ) (Ts : List Column) (on : (F : Column) → F ∈ Ts → length F ≡ n) where
   first-length : (H : Column) → InFirstTreatmentFamily n k Ts H → length H ≡ n
   first-length H of-universal = length-universal n
-  first-length H (of-infimum c h) = chosen-on c on
+  first-length H (of-infimum c h) = chosen-on n c on
   first-length H (of-supremum {F} {G} p q) = length-supremum F G (first-length F p ∙ sym (first-length G q)) ∙ first-length F p
 
   first-numbered : (H : Column) → InFirstTreatmentFamily n k Ts H → number H ≡ H
   first-numbered H of-universal = number-universal n
-  first-numbered H (of-infimum c h) = chosen-numbered c on
+  first-numbered H (of-infimum c h) = chosen-numbered n c on
   first-numbered H (of-supremum {F} {G} p q) = number-supremum F G (first-length F p ∙ sym (first-length G q))
 
   -- the first treatment family
