@@ -448,9 +448,9 @@ infima-none n k infima lengths r wide z = subst (λ (Cs : List (List Column)). I
 }
 
 -- the treatment columns from the last to the one at c
-module _ (n k d : ℕ) (levels : List ℕ) where
+module _ (n k first d : ℕ) (levels : List ℕ) where
   abbrev pub lastOf : ℕ → List (List Column)
-  lastOf c = choices k (columnsFrom n levels (6 + c) (d - c))
+  lastOf c = choices k (columnsFrom n levels (first + c) (d - c))
 
   -- no column
   pub last-none : (c : ℕ) → c ≡ d → lastOf c ≡ choices k []
@@ -460,19 +460,19 @@ module _ (n k d : ℕ) (levels : List ℕ) where
       rw z
 
   -- a column more
-  pub last-more : 1 ≤ k → (c : ℕ) → 0 < c → c ≤ d → extended k (columnIn n levels (6 + (c - 1))) (lastOf c) ≡ lastOf (c - 1)
+  pub last-more : 1 ≤ k → (c : ℕ) → 0 < c → c ≤ d → extended k (columnIn n levels (first + (c - 1))) (lastOf c) ≡ lastOf (c - 1)
   unfolding columnsFrom
   last-more some c h l =
       let z : d - (c - 1) ≡ suc (d - c) = omega arith in
-      let s : 6 + c ≡ suc (6 + (c - 1)) = omega arith in
-      rw (z, s) (choices-more k some (columnIn n levels (6 + (c - 1))) (columnsFrom n levels (suc (6 + (c - 1))) (d - c)))
+      let s : first + c ≡ suc (first + (c - 1)) = omega arith in
+      rw (z, s) (choices-more k some (columnIn n levels (first + (c - 1))) (columnsFrom n levels (suc (first + (c - 1))) (d - c)))
 
   -- all columns
-  pub last-all : (c : ℕ) → c ≡ 0 → map (infimumAll n) (lastOf c) ≡ treatmentGenerators n k (columnsFrom n levels 6 d)
+  pub last-all : (c : ℕ) → c ≡ 0 → map (infimumAll n) (lastOf c) ≡ treatmentGenerators n k (columnsFrom n levels first d)
   unfolding treatmentGenerators
   last-all c e =
       let z : d - c ≡ d = omega arith in
-      let s : 6 + c ≡ 6 = omega arith in
+      let s : first + c ≡ first = omega arith in
       rw (z, s)
 
 -- ---- infima placed in turn
@@ -492,6 +492,14 @@ unfolding membersOf
 members-late n b e m h F i =
     let q : e + (m - e) ≡ m = omega arith in
     subst (λ (k : ℕ). F ∈ columnsFrom n b 0 k) q (columns-late n b e 0 (m - e) F (subst (λ (k : ℕ). F ∈ columnsFrom n b k (m - e)) (sym (add-zero e)) i))
+
+-- columns of a larger list, with others behind both
+pub beside : {As Bs : List Column} → ((F : Column) → F ∈ As → F ∈ Bs) → (S : List Column) (F : Column) → F ∈ As ++ S → F ∈ Bs ++ S
+beside {As} {Bs} sub S F m = go (List·Memᴰ·append-cases As m)
+  where
+    go : (F ∈ As) ⊎ (F ∈ S) → F ∈ Bs ++ S
+    go (inl k) = Memᴰ·append-left S (sub F k)
+    go (inr k) = Memᴰ·append-right Bs k
 
 -- from one place earlier on there is a column more
 pub members-before : (n : ℕ) (b : List ℕ) (e m : ℕ) → 0 < e → e ≤ m → columnsFrom n b (e - 1) (m - (e - 1)) ≡ columnIn n b (e - 1) ∷ columnsFrom n b e (m - e)

@@ -13,7 +13,7 @@ use lib.Seq.{length-take-le, getD-take}
 use borrow.Author.Tests.{ltb-true, ltb-false}
 use Rattle.rules.specs.Factor.{Column, classes, uniform, orthogonal}
 use Rattle.rules.specs.Family.{Family, _∈_, Distinct, apart, empty, insertAll, membersOf, written}
-use Rattle.rules.specs.Closing.{plotGenerators, plotFamily, family, close}
+use Rattle.rules.specs.Closing.{both, onlySupremum, Made, plotGenerators, plotFamily, tooMany, family, close}
 use Rattle.rules.specs.Design.{Places, firstFailing, firstPair, question8, plotBuffer}
 use Rattle.rules.specs.Relation.{memberAt}
 use Rattle.rules.proofs.Numbering.{by-cases}
@@ -24,10 +24,11 @@ use Rattle.rules.proofs.Buffer.{length-members, written-members, length-written
 use Rattle.rules.proofs.Orthogonality.{same-test, byCounts}
 use Rattle.rules.proofs.Tests.{orthogonal-test, orthogonal-sym}
 use Rattle.rules.proofs.Questions.{question-10, plot-length}
+use Rattle.rules.proofs.PlotInfima.{plotInfima, infima-given, infima-many, infima-whole, suprema-made, same-family}
 use Rattle.rules.proofs.WorkList.{length-sorted, member-in}
 use Rattle.design.specs.State.{columnIn, makeOf, markOf, marked, Work, Sorted}
 use Rattle.design.specs.Search.{firstPairOf}
-use Rattle.design.specs.Judging.{apartAt, Tells, Listed, unlisted, listed, Judging}
+use Rattle.design.specs.Judging.{apartAt, Tells, Listed, unlisted, listed, PlotListed, by-counts, by-tests, Judging}
 use Rattle.design.specs.Closings.{closedIn, Ready}
 use Rattle.design.proofs.Answered.{eight-over, eight-buffer, held-over, held-on}
 use Rattle.design.proofs.Order.{sorted-columns}
@@ -143,20 +144,58 @@ module _ (n : ℕ) (small : n ≤ 240) (some : 1 ≤ n) (Fs : List Column) (on :
         told : firstFailing (uniform n) 1 S ≡ 0 → Tells (orthogonal n) S order marks r
         told z = let f = question-10 n Fs on S is some z in record { places = t .places; first = t .first ∙ ap (λ (p : Places). p .first) (sym f); second = t .second ∙ ap (λ (p : Places). p .second) (sym f) }
 
+    -- the same by marks that tell it of themselves
+    judging-tests : Tells (orthogonal n) S order marks r → Judging n r after order marks
+    judging-tests t = record {
+      most = small;
+      few = h;
+      room = rw e (rw (length-written n small S before 0 (plot-length n Fs on S is) (omega (arith, room, h, q))) room);
+      places = t .places;
+      tells = λ z. rw held-members t;
+    }
+
   -- memory holds it
-  pub plot-held : Listed n true (plotGenerators n Fs) before after marks order r → closedIn n after r ≡ plotFamily n Fs
+  pub plot-held : PlotListed n Fs before after marks order r → closedIn n after r ≡ plotFamily n Fs
   unfolding plotFamily
-  plot-held (unlisted q t e) = held-over n after r q ∙ sym t
-  plot-held (listed S is q h e t) = held-on n after r (λ z. omega arith) ∙ ap family (held-members S is q h e) ∙ sym is
+  plot-held (by-counts (unlisted q t e)) = held-over n after r q ∙ sym t
+  plot-held (by-counts (listed S is q h e t)) = held-on n after r (λ z. omega arith) ∙ ap family (held-members S is q h e) ∙ sym is
+  plot-held (by-tests S is q h e t) = held-on n after r (λ z. omega arith) ∙ ap family (held-members S is q h e) ∙ sym is
 
   -- the buffer is as the rules say
-  pub plot-left : Listed n true (plotGenerators n Fs) before after marks order r → after ≡ plotBuffer before (question8 n (plotFamily n Fs))
+  pub plot-left : PlotListed n Fs before after marks order r → after ≡ plotBuffer before (question8 n (plotFamily n Fs))
   unfolding plotFamily written
-  plot-left (unlisted q t e) = e ∙ ap (plotBuffer before) (sym (eight-over n (plotFamily n Fs) t))
-  plot-left (listed S is q h e t) = e ∙ sym (eight-buffer n (plotFamily n Fs) S before is)
+  plot-left (by-counts (unlisted q t e)) = e ∙ ap (plotBuffer before) (sym (eight-over n (plotFamily n Fs) t))
+  plot-left (by-counts (listed S is q h e t)) = e ∙ sym (eight-buffer n (plotFamily n Fs) S before is)
+  plot-left (by-tests S is q h e t) = e ∙ sym (eight-buffer n (plotFamily n Fs) S before is)
 
   -- it is held with what the questions need
-  pub plot-ready : Listed n true (plotGenerators n Fs) before after marks order r → Ready n r after order marks
+  pub plot-ready : PlotListed n Fs before after marks order r → Ready n r after order marks
   unfolding plotFamily
-  plot-ready (unlisted q t e) = record { most = small; room = rw e room; judging = λ d. absurd (d q) }
-  plot-ready (listed S is q h e t) = let j = judging S is q h e t in record { most = small; room = j .room; judging = λ d. j }
+  plot-ready (by-counts (unlisted q t e)) = record { most = small; room = rw e room; judging = λ d. absurd (d q) }
+  plot-ready (by-counts (listed S is q h e t)) = let j = judging S is q h e t in record { most = small; room = j .room; judging = λ d. j }
+  plot-ready (by-tests S is q h e t) = let j = judging-tests S is q h e t in record { most = small; room = j .room; judging = λ d. j }
+
+-- ---- the plot family by the infima of its columns
+
+module _ {n : ℕ} {Fs : List Column} {before after marks order : List ℕ} {r : ℕ} (on : (F : Column) → F ∈ Fs → length F ≡ n) where
+  -- too many infima, or suprema of them
+  pub plot-over : r ≡ 33 → close onlySupremum (plotInfima n Fs) ≡ tooMany → after ≡ before → PlotListed n Fs before after marks order r
+  unfolding plotFamily
+  plot-over q c e = by-counts (unlisted q (infima-many n Fs on c) e)
+
+  -- supremum adds nothing to them
+  pub plot-whole : length Fs ≤ 6 → (S : Family) → Distinct S → ((F : Column) → F ∈ S → F ∈ plotInfima n Fs) → r ≡ length S → Listed n false (plotInfima n Fs) before after marks order r → r ≤ 32 → PlotListed n Fs before after marks order r
+  plot-whole few S d only l (unlisted q c e) h = absurd (omega arith)
+  plot-whole few S d only l (listed P is q h e t) k = by-tests P (infima-whole n Fs on few S P d only is (sym q ∙ l)) q h e t
+
+  -- it does: all that was found is closed under both operations
+  pub plot-grown : (Ms : List Column) → ((F : Column) → F ∈ Ms → Made onlySupremum (plotInfima n Fs) F) → ((G : Column) → G ∈ plotInfima n Fs → G ∈ Ms) → Listed n true Ms before after marks order r → PlotListed n Fs before after marks order r
+  unfolding plotFamily
+  plot-grown Ms only given l = by-counts (as-family l)
+    where
+      same : close both Ms ≡ close both (plotGenerators n Fs)
+      same = same-family n Fs Ms (λ F m. suprema-made n Fs on F (only F m)) (λ G m. given G (infima-given n Fs on G m))
+
+      as-family : Listed n true Ms before after marks order r → Listed n true (plotGenerators n Fs) before after marks order r
+      as-family (unlisted q c e) = unlisted q (sym same ∙ c) e
+      as-family (listed S is q h e t) = listed S (sym same ∙ is) q h e t

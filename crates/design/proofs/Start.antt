@@ -231,3 +231,8 @@ module _ (n : ℕ) (levels : List ℕ) where
   pub length-first : (j : ℕ) → length (firstOf j) ≡ j + 2
   unfolding plotGenerators
   length-first j = ap (λ (k : ℕ). suc (suc k)) (length-map (columnsFrom n levels 0 j) number ∙ length-columns n levels 0 j) ∙ omega arith
+
+-- a store with one member holds it
+pub only-one : {n : ℕ} {F : Column} {store counts : List ℕ} → Begun n (F ∷ []) store counts 1 → membersOf n store 1 ≡ F ∷ []
+unfolding membersOf columnsFrom
+only-one b = ap (λ (G : Column). G ∷ []) (List·Memᴰ·eq-of-singleton (b .only _ (List·Memᴰ·head refl)))

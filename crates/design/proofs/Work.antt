@@ -27,7 +27,7 @@ use Rattle.rules.proofs.WorkList.{PlaceOf, place-of, member-in, Found, found-mo
 use Rattle.design.proofs.Common.{column-length}
 use Rattle.design.proofs.Extremes.{finer-infimum, finer-supremum, coarser-infimum, coarser-supremum, finer-orthogonal, coarser-orthogonal}
 use Rattle.design.proofs.Placing.{grown-new, grown-old}
-use Rattle.design.specs.State.{columnIn, Held, Placed, full, old, new, grownTo, Begun, makeOf, markOf, markedRow, entryOf, Joins, Work, Follows, unknown, follows, Known, Advanced, Stepped, over, on}
+use Rattle.design.specs.State.{columnIn, Held, Placed, full, old, new, grownTo, Begun, makeOf, markOf, markedRow, entryOf, Joins, Work, Follows, unknown, follows, Known, Kept, Advanced, Stepped, over, on, Grows, too-large, whole, more}
 
 -- ---- members by their places
 
@@ -508,6 +508,48 @@ stepped-over e (on w) = absurd (omega (arith, w .held .few))
 pub stepped-on : {n : ℕ} {infima : Bool} {Gs : List Column} {store counts marks : List ℕ} {r i j : ℕ} → (r ≡ 33 → ⊥) → Stepped n infima Gs store counts marks r i j → Work n infima Gs store counts marks r i j
 stepped-on f (over q c) = absurd (f q)
 stepped-on f (on w) = w
+
+-- the work has come to a row that changes the size: the family is too large, or has members more
+pub stepped-grows : {n : ℕ} {Gs : List Column} {store counts marks : List ℕ} {size r i j : ℕ} → (r ≡ size → ⊥) → Stepped n false Gs store counts marks r i j → Grows n Gs store counts marks size r
+stepped-grows d (over q c) = too-large q c
+stepped-grows {i = i} {j = j} d (on w) = more d i j w
+
+-- the family is too large
+pub grows-over : {n : ℕ} {Gs : List Column} {store counts marks : List ℕ} {size r : ℕ} → r ≡ 33 → Grows n Gs store counts marks size r → close onlySupremum Gs ≡ tooMany
+grows-over e (too-large q c) = c
+grows-over e (whole q w) = absurd (omega (arith, w .held .few))
+grows-over e (more d i j w) = absurd (omega (arith, w .held .few))
+
+-- no member is new, so all pairs are combined
+pub grows-whole : {n : ℕ} {Gs : List Column} {store counts marks : List ℕ} {size r : ℕ} → (r ≡ 33 → ⊥) → r ≡ size → Grows n Gs store counts marks size r → Work n false Gs store counts marks r r 0
+grows-whole d e (too-large q c) = absurd (d q)
+grows-whole d e (whole q w) = w
+grows-whole d e (more f i j w) = absurd (f e)
+
+-- the members are begun with by themselves, are made of the columns, and have them
+pub record MadeOf (n : ℕ) (Gs : List Column) (store counts marks : List ℕ) (r : ℕ) : Type 0 where
+  pub cells : length marks ≡ 1024
+  pub begun : Begun n (membersOf n store r) store counts r
+  pub only : (F : Column) → F ∈ membersOf n store r → Made onlySupremum Gs F
+  pub given : (G : Column) → G ∈ Gs → G ∈ membersOf n store r
+
+work-own : {n : ℕ} {Gs : List Column} {store counts marks : List ℕ} {size i j : ℕ} → Work n false Gs store counts marks size i j → MadeOf n Gs store counts marks size
+work-own w = record {
+  cells = w .cells;
+  begun = record { held = w .held; most = omega (arith, size-members (w .held)); distinct = w .found .distinct; numbered = w .numbered; only = λ F m. m; given = λ F m. m };
+  only = w .found .only;
+  given = w .given;
+}
+
+pub grows-own : {n : ℕ} {Gs : List Column} {store counts marks : List ℕ} {size r : ℕ} → (r ≡ 33 → ⊥) → Grows n Gs store counts marks size r → MadeOf n Gs store counts marks r
+grows-own d (too-large q c) = absurd (d q)
+grows-own d (whole q w) = work-own w
+grows-own d (more f i j w) = work-own w
+
+-- the store is held, without what is known of the order
+pub advanced-kept : {n : ℕ} {store counts above : List ℕ} {size r : ℕ} → Advanced n store counts above size r → Kept n store counts size r
+advanced-kept (inl q) = inl q
+advanced-kept (inr k) = inr (k .0, k .1)
 
 -- the store is held, and what is known of the order is true
 pub advanced-on : {n : ℕ} {store counts above : List ℕ} {size r : ℕ} → (r ≡ 33 → ⊥) → Advanced n store counts above size r → Held n store counts r × (size ≤ r) × Known n store above r

@@ -1,13 +1,13 @@
 -- What questions 9, 10 and 12 need to know of a family that is written: where its members were found, and the marks of pairs.
 -- Assumes nothing.
 use mathlib.Core.Path.{_≡_}
-use mathlib.Core.Bool.{Bool}
+use mathlib.Core.Bool.{Bool, true}
 use mathlib.Core.List.{List}
 use Prim.Native.Nat.{ℕ, _≤_, _<_}
 use lib.ListN.{length, getD}
 use Rattle.rules.specs.Factor.{Column, uniform, orthogonal}
 use Rattle.rules.specs.Family.{Family, membersOf, written}
-use Rattle.rules.specs.Closing.{tooMany, family, close}
+use Rattle.rules.specs.Closing.{tooMany, family, close, plotGenerators, plotFamily}
 use Rattle.rules.specs.Design.{Places, firstFailing, firstPair}
 use Rattle.design.specs.declared.questions.Places as found
 use Rattle.design.specs.State.{makeOf, markOf, marked}
@@ -28,6 +28,11 @@ pub record Tells (test : Column → Column → Bool) (S : Family) (order marks :
 pub data Listed (n : ℕ) (infima : Bool) (Gs : List Column) (before after marks order : List ℕ) (r : ℕ) : Type 0 where
   unlisted : r ≡ 33 → close (makeOf infima) Gs ≡ tooMany → after ≡ before → Listed n infima Gs before after marks order r
   listed : (S : Family) → close (makeOf infima) Gs ≡ family S → r ≡ length S → r ≤ 32 → after ≡ written before 0 S → Tells (markOf infima n) S order marks r → Listed n infima Gs before after marks order r
+
+-- the plot family is closed and written, with marks by numbers of classes, or with marks that tell which members are orthogonal
+pub data PlotListed (n : ℕ) (Fs : List Column) (before after marks order : List ℕ) (r : ℕ) : Type 0 where
+  by-counts : Listed n true (plotGenerators n Fs) before after marks order r → PlotListed n Fs before after marks order r
+  by-tests : (S : Family) → plotFamily n Fs ≡ family S → r ≡ length S → r ≤ 32 → after ≡ written before 0 S → Tells (orthogonal n) S order marks r → PlotListed n Fs before after marks order r
 
 -- the plot family in memory: where all members have classes of one size, the marks tell those that are orthogonal
 pub record Judging (n size : ℕ) (plot order marks : List ℕ) : Type 0 where

@@ -137,6 +137,12 @@ pub data Closed (n : ℕ) (infima : Bool) (Gs : List Column) (store counts marks
   exceeded : r ≡ 33 → close (makeOf infima) Gs ≡ tooMany → Closed n infima Gs store counts marks r
   complete : Work n infima Gs store counts marks r r 0 → close (makeOf infima) Gs ≡ family (insertAll (membersOf n store r) []) → Closed n infima Gs store counts marks r
 
+-- what closing under supremum up to the first row that adds a member leaves: the family is too large, or closed, or has members more
+pub data Grows (n : ℕ) (Gs : List Column) (store counts marks : List ℕ) (size r : ℕ) : Type 0 where
+  too-large : r ≡ 33 → close onlySupremum Gs ≡ tooMany → Grows n Gs store counts marks size r
+  whole : r ≡ size → Work n false Gs store counts marks r r 0 → Grows n Gs store counts marks size r
+  more : (r ≡ size → ⊥) → (i j : ℕ) → Work n false Gs store counts marks r i j → Grows n Gs store counts marks size r
+
 -- ---- the order of members
 
 -- the first of the first i places of the order whose member F stands before, or i

@@ -1,24 +1,36 @@
 // The closing step: a family that grows in a store is closed, and written in its order.
 ghost use mathlib.Core.Path.{_≡_};
 ghost use mathlib.Core.Bool.{true};
-ghost use mathlib.Core.List.{List};
+ghost use mathlib.Core.List.{List, [], _∷_, _++_};
 ghost use Prim.Native.Nat.{_≤_};
 ghost use lib.ListN.{length};
-ghost use Rattle.rules.specs.Factor.{Column};
+ghost use Rattle.rules.specs.Factor.{Column, equality};
 ghost use Rattle.rules.specs.Family.{columnsFrom, membersOf};
-ghost use Rattle.rules.specs.Closing.{plotFamily};
+ghost use Rattle.rules.specs.Closing.{plotFamily, treatmentGenerators};
 ghost use Rattle.rules.specs.Design.{question8, plotBuffer};
 ghost use Rattle.design.specs.State.{Begun};
-ghost use Rattle.design.specs.Judging.{Listed};
+ghost use Rattle.design.specs.Judging.{Listed, PlotListed};
+ghost use Rattle.design.specs.Treatments.{AllPlaced};
 ghost use Rattle.design.specs.Closings.{closedIn, Ready};
 use crate::closing::PAIRS;
 use crate::closing::TOO_MANY;
 use crate::closing::close;
+use crate::closing::close_or_grow;
+use crate::columns::equality;
 use crate::columns::place_plot_columns;
 use crate::sorting::sort;
 use crate::sorting::write;
+use crate::store::place;
+use crate::treatments::FEW_COLUMNS;
+use crate::treatments::FEW_INFIMA;
+use crate::treatments::INFIMA;
+use crate::treatments::place_infima;
+use limits::COLUMNS;
 use limits::Level;
 use limits::MEMBERS;
+
+// So many plot columns and more are closed by their infima.
+const SEVERAL_COLUMNS: usize = 3;
 
 // A closed family: its size, or TOO_MANY; and where its members were found, in their order.
 pub struct ClosedFamily {
@@ -50,7 +62,70 @@ pub fn close_family(
     ClosedFamily { size, order }
 }
 
-// Closes the plot family and writes it in its order, where it is not too large.
+// Places E and the infima of all choices of plot columns; answers how many members they make, or TOO_MANY.
+fn place_plot_infima(
+    levels: &[Level],
+    n: usize,
+    c: usize,
+    store: &mut [u8],
+    counts: &mut [u8; MEMBERS],
+) -> usize
+    requires { ⌜ (1 ≤ n) × (n ≤ 240) × (c ≤ 6) × (2880 ≤ length (now levels)) × (length (now store) ≡ 7680) × (length (now counts) ≡ 32) ⌝ }
+    ensures { λ r. ⌜ AllPlaced n (treatmentGenerators n 6 (columnsFrom n (now (levels .entry)) 0 c) ++ equality n ∷ []) (now (store .exit)) (now (counts .exit)) r ⌝ }
+{
+    let column = equality(n);
+    place(store, counts, 0, &column[..n], n as u8);
+    if c < FEW_COLUMNS {
+        let mut infima = [0u8; FEW_INFIMA];
+        return place_infima(levels, n, 0, c, COLUMNS, &mut infima, store, counts, 1);
+    }
+    let mut infima = [0u8; INFIMA];
+    place_infima(levels, n, 0, c, COLUMNS, &mut infima, store, counts, 1)
+}
+
+// The answer for a family that is too large.
+fn too_many() -> ClosedFamily
+    ensures { λ r. ⌜ r .size ≡ 33 ⌝ }
+{
+    let order = [0u8; MEMBERS];
+    ClosedFamily {
+        size: TOO_MANY,
+        order,
+    }
+}
+
+// Closes the plot family by the infima of its columns: these make no other infima, so that they are the family where no two of them
+// have another supremum. Else it is closed under both operations.
+fn close_by_infima(
+    levels: &[Level],
+    n: usize,
+    columns: usize,
+    store: &mut [u8],
+    counts: &mut [u8; MEMBERS],
+    marks: &mut [u8; PAIRS],
+    plot: &mut [u8],
+) -> ClosedFamily
+    requires { ⌜ (1 ≤ n) × (n ≤ 240) × (columns ≤ 6) × (2880 ≤ length (now levels)) × (7680 ≤ length (now plot)) × (length (now store) ≡ 7680) × (length (now counts) ≡ 32) × (length (now marks) ≡ 1024) ⌝ }
+    ensures { λ r. ⌜ PlotListed n (columnsFrom n (now (levels .entry)) 0 columns) (now (plot .entry)) (now (plot .exit)) (now (marks .exit)) (r .order) (r .size) ⌝ }
+{
+    let start = place_plot_infima(levels, n, columns, store, counts);
+    if start == TOO_MANY {
+        return too_many();
+    }
+    let size = close_or_grow(store, counts, marks, start, n);
+    if size == TOO_MANY {
+        return too_many();
+    }
+    if size == start {
+        let order = sort(store, counts, n, size);
+        write(store, &order, n, size, plot);
+        return ClosedFamily { size, order };
+    }
+    close_family(store, counts, marks, size, n, true, plot)
+}
+
+// Closes the plot family and writes it in its order, where it is not too large. One or two columns make few pairs, whose infima are found
+// with their suprema.
 pub fn close_plot_family(
     levels: &[Level],
     n: usize,
@@ -65,6 +140,9 @@ pub fn close_plot_family(
     ensures tables { λ r. ⌜ Ready n (r .size) (now (plot .exit)) (r .order) (now (marks .exit)) ⌝ }
 {
     let mut counts = [0u8; MEMBERS];
+    if SEVERAL_COLUMNS <= columns {
+        return close_by_infima(levels, n, columns, store, &mut counts, marks, plot);
+    }
     let start = place_plot_columns(levels, columns, store, &mut counts, n);
     close_family(store, &mut counts, marks, start, n, true, plot)
 }

@@ -7,7 +7,7 @@ ghost use lib.Dec.{eqb};
 ghost use lib.ListN.{length};
 ghost use Rattle.rules.specs.Factor.{Column, classes, infimum, supremum, finer, orthogonal};
 ghost use Rattle.factor.specs.Lent.{overlay};
-ghost use Rattle.design.specs.State.{columnIn, toldFiner, noted, entryOf, NamesCoarser, Follows, Held, Known, Work, Kept, Advanced, Stepped, Closed};
+ghost use Rattle.design.specs.State.{columnIn, toldFiner, noted, entryOf, NamesCoarser, Follows, Held, Known, Work, Kept, Advanced, Stepped, Closed, Grows};
 use crate::store::grown;
 use crate::store::place;
 use limits::MEMBERS;
@@ -374,4 +374,26 @@ pub fn close(
         i += 1;
     }
     now
+}
+
+// Combines members under supremum up to the first row that adds one; answers the new size, or TOO_MANY. Where it is as it was, they are closed.
+pub fn close_or_grow(
+    store: &mut [u8],
+    counts: &mut [u8; MEMBERS],
+    marks: &mut [u8; PAIRS],
+    size: usize,
+    n: usize,
+) -> usize
+    requires { ⌜ Held n (now store) (now counts) size ⌝ }
+    ensures kept { λ r. ⌜ Kept n (now (store .exit)) (now (counts .exit)) size r ⌝ }
+    ensures grows { λ r. ⌜ ((Gs : List Column) → Work n false Gs (now (store .entry)) (now (counts .entry)) (now (marks .entry)) size 0 0 → Grows n Gs (now (store .exit)) (now (counts .exit)) (now (marks .exit)) size r) ⌝ }
+{
+    let mut above = [0u32; MEMBERS];
+    for i in 0..size {
+        let now = combine_row(store, counts, marks, &mut above, size, n, false, i);
+        if now != size {
+            return now;
+        }
+    }
+    size
 }

@@ -14,7 +14,7 @@ use limits::MEMBERS;
 use limits::PLOTS;
 
 // The equality factor on `n` plots.
-fn equality(n: usize) -> [u8; PLOTS]
+pub fn equality(n: usize) -> [u8; PLOTS]
     requires { ⌜ n ≤ 240 ⌝ }
     ensures { λ r. ⌜ take n r ≡ equality n ⌝ }
 {

@@ -1,7 +1,7 @@
-// The first treatment family. (The final one: crossing.rt.)
+// The infima of columns that a family starts from, and the first treatment family. (The final one: crossing.rt.)
 ghost use mathlib.Core.Path.{_≡_};
 ghost use mathlib.Core.Bool.{false};
-ghost use mathlib.Core.List.{List};
+ghost use mathlib.Core.List.{List, _++_};
 ghost use mathlib.Core.Logic.{_⊎_};
 ghost use Prim.Native.Nat.{_+_, _*_, _≤_, _<_};
 ghost use lib.ListN.{length};
@@ -9,7 +9,7 @@ ghost use lib.Seq.{paste};
 ghost use Rattle.rules.specs.Factor.{Column, number, infimum};
 ghost use Rattle.rules.specs.Family.{_∈_, columnsFrom, membersOf};
 ghost use Rattle.rules.specs.Closing.{treatmentGenerators};
-ghost use Rattle.design.specs.State.{columnIn, Held, Placed};
+ghost use Rattle.design.specs.State.{columnIn, Held, Placed, Begun};
 ghost use Rattle.design.specs.Judging.{Listed};
 ghost use Rattle.design.specs.Treatments.{extended, Room, Infima, AllPlaced, withChoice};
 use crate::closed::ClosedFamily;
@@ -29,13 +29,13 @@ use limits::PLOTS;
 const CHOICES: usize = 64;
 
 // Bytes for an infimum of each choice.
-const INFIMA: usize = 15360;
+pub const INFIMA: usize = 15360;
 
 // Fewer columns than these, which most sheets have, make at most 8 choices.
-const FEW_COLUMNS: usize = 4;
+pub const FEW_COLUMNS: usize = 4;
 
 // Bytes for an infimum of each of these.
-const FEW_INFIMA: usize = 1920;
+pub const FEW_INFIMA: usize = 1920;
 
 // Writes the infimum of `column` with infimum `e` at place `total`.
 fn add_infimum(infima: &mut [u8], total: usize, column: &[u8], e: usize)
@@ -107,11 +107,18 @@ fn extend_by(
     extend(infima, lengths, total, &column[..n], k)
 }
 
-// Writes U and all infima of 1 to `k` different treatment columns; answers how many they are.
-fn fill_infima(levels: &[Level], n: usize, d: usize, k: usize, infima: &mut [u8]) -> usize
-    requires { ⌜ (1 ≤ n) × (n ≤ 240) × (d ≤ 6) × (1 ≤ k) × (k ≤ 6) × (2880 ≤ length (now levels)) × (((d ≤ 3) × (1920 ≤ length (now infima))) ⊎ (15360 ≤ length (now infima))) ⌝ }
+// Writes U and all infima of 1 to `k` different columns of the `d` from `first` on; answers how many they are.
+fn fill_infima(
+    levels: &[Level],
+    n: usize,
+    first: usize,
+    d: usize,
+    k: usize,
+    infima: &mut [u8],
+) -> usize
+    requires { ⌜ (1 ≤ n) × (n ≤ 240) × (d ≤ 6) × (1 ≤ k) × (k ≤ 6) × (first ≤ 6) × (2880 ≤ length (now levels)) × (((d ≤ 3) × (1920 ≤ length (now infima))) ⊎ (15360 ≤ length (now infima))) ⌝ }
     ensures few { λ r. ⌜ (r ≤ 64) × (240 * r ≤ length (now (infima .exit))) ⌝ }
-    ensures columns { λ r. ⌜ membersOf n (now (infima .exit)) r ≡ treatmentGenerators n k (columnsFrom n (now (levels .entry)) 6 d) ⌝ }
+    ensures columns { λ r. ⌜ membersOf n (now (infima .exit)) r ≡ treatmentGenerators n k (columnsFrom n (now (levels .entry)) first d) ⌝ }
 {
     let ones = [1u8; PLOTS];
     put(infima, 0, &ones[..n]);
@@ -120,7 +127,7 @@ fn fill_infima(levels: &[Level], n: usize, d: usize, k: usize, infima: &mut [u8]
     let mut c = d;
     while 0 < c {
         c -= 1;
-        total = extend_by(levels, COLUMNS + c, infima, &mut lengths, total, n, k);
+        total = extend_by(levels, first + c, infima, &mut lengths, total, n, k);
     }
     total
 }
@@ -144,29 +151,50 @@ fn place_one(
     place(store, counts, size, column, k)
 }
 
-// Places the first `total` columns; answers how many members they make, or TOO_MANY. The last is placed first: infima of more columns, which
-// are finer, come before those of fewer, so that closing can tell more suprema from others.
+// Places the first `total` columns beside the `size` members of a store; answers how many members there are then, or TOO_MANY. The last is
+// placed first: infima of more columns, which are finer, come before those of fewer, so that closing can tell more suprema from others.
 fn place_all(
     infima: &[u8],
     total: usize,
     n: usize,
     store: &mut [u8],
     counts: &mut [u8; MEMBERS],
+    size: usize,
 ) -> usize
-    requires { ⌜ (1 ≤ n) × (n ≤ 240) × (240 * total ≤ length (now infima)) × (total ≤ 64) × (length (now store) ≡ 7680) × (length (now counts) ≡ 32) × ((F : Column) → F ∈ membersOf n (now infima) total → number F ≡ F) ⌝ }
-    ensures { λ r. ⌜ AllPlaced n (membersOf n (now (infima .entry)) total) (now (store .exit)) (now (counts .exit)) r ⌝ }
+    requires { ⌜ Begun n (membersOf n (now store) size) (now store) (now counts) size × (240 * total ≤ length (now infima)) × (total ≤ 64) × ((F : Column) → F ∈ membersOf n (now infima) total → number F ≡ F) ⌝ }
+    ensures { λ r. ⌜ AllPlaced n (membersOf n (now (infima .entry)) total ++ membersOf n (now (store .entry)) size) (now (store .exit)) (now (counts .exit)) r ⌝ }
 {
-    let mut size = 0;
+    let mut now = size;
     let mut e = total;
     while 0 < e {
         e -= 1;
-        let p = place_one(infima, e, n, store, counts, size);
+        let p = place_one(infima, e, n, store, counts, now);
         if p == MEMBERS {
             return TOO_MANY;
         }
-        size = grown(size, p);
+        now = grown(now, p);
     }
-    size
+    now
+}
+
+// Places U and all infima of 1 to `k` different columns of the `d` from `first` on beside the members of a store, with memory for the
+// infima; answers how many members there are then, or TOO_MANY.
+pub fn place_infima(
+    levels: &[Level],
+    n: usize,
+    first: usize,
+    d: usize,
+    k: usize,
+    infima: &mut [u8],
+    store: &mut [u8],
+    counts: &mut [u8; MEMBERS],
+    size: usize,
+) -> usize
+    requires { ⌜ (d ≤ 6) × (1 ≤ k) × (k ≤ 6) × (first ≤ 6) × (2880 ≤ length (now levels)) × (((d ≤ 3) × (1920 ≤ length (now infima))) ⊎ (15360 ≤ length (now infima))) × Begun n (membersOf n (now store) size) (now store) (now counts) size ⌝ }
+    ensures { λ r. ⌜ AllPlaced n (treatmentGenerators n k (columnsFrom n (now (levels .entry)) first d) ++ membersOf n (now (store .entry)) size) (now (store .exit)) (now (counts .exit)) r ⌝ }
+{
+    let total = fill_infima(levels, n, first, d, k, infima);
+    place_all(infima, total, n, store, counts, size)
 }
 
 // Closes the first treatment family and writes it in its order, where it is not too large.
@@ -204,9 +232,8 @@ fn first_by(
     requires { ⌜ (1 ≤ n) × (n ≤ 240) × (d ≤ 6) × (1 ≤ k) × (k ≤ 6) × (2880 ≤ length (now levels)) × (7680 ≤ length (now family)) × (length (now store) ≡ 7680) × (length (now marks) ≡ 1024) × (((d ≤ 3) × (1920 ≤ length (now infima))) ⊎ (15360 ≤ length (now infima))) ⌝ }
     ensures { λ r. ⌜ Listed n false (treatmentGenerators n k (columnsFrom n (now (levels .entry)) 6 d)) (now (family .entry)) (now (family .exit)) (now (marks .exit)) (r .order) (r .size) ⌝ }
 {
-    let total = fill_infima(levels, n, d, k, infima);
     let mut counts = [0u8; MEMBERS];
-    let start = place_all(infima, total, n, store, &mut counts);
+    let start = place_infima(levels, n, COLUMNS, d, k, infima, store, &mut counts, 0);
     if start == TOO_MANY {
         let order = [0u8; MEMBERS];
         return ClosedFamily { size: start, order };

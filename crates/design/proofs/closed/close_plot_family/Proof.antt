@@ -1,26 +1,23 @@
--- `closed::close_plot_family` meets its contract: the plot columns are placed, and the family is closed and written.
+-- `closed::close_plot_family` meets its contract: the family is closed and written, by the infima of its columns or from the columns.
 -- Assumes nothing.
+use mathlib.Core.Path.{_≡_}
 use mathlib.Core.List.{List}
 use native.Mathlib.Omega.{arith}
 use denote.Ref.{now}
 use borrow.Author.Needs.{needs}
+use lib.ListN.{length}
 use Rattle.rules.specs.Factor.{Column}
-use Rattle.rules.specs.Family.{columnsFrom}
+use Rattle.rules.specs.Family.{_∈_, columnsFrom}
 use Rattle.rules.specs.Closing.{plotGenerators}
 use Rattle.rules.proofs.Demand3.{column-length}
+use Rattle.design.specs.Judging.{by-counts}
 use Rattle.design.proofs.Choosing.{begun-own}
 use Rattle.design.proofs.Judge.{plot-held, plot-left, plot-ready}
 use Rattle.design.proofs.closed.close_plot_family.Statement.{statement}
 use Rattle.design.proofs.closed.close_plot_family.Tie as tie
 
-place-plot-columns-requires : tie.Need-place-plot-columns-requires
-place-plot-columns-requires c κs = search needs
-
-close-family-requires : tie.Need-close-family-requires
-close-family-requires c κs =
-    let p = c .before .before .before .before .before .before in
-    let s = p .before .before .before .before .before .before in
-    (begun-own (p .place-plot-columns .ensures), s .pre .6, s .pre .4)
+close-by-infima-requires : tie.Need-close-by-infima-requires
+close-by-infima-requires c κs = search needs
 
 same-length : tie.Need-same-length
 same-length c = search needs
@@ -28,19 +25,51 @@ same-length c = search needs
 same-length-2 : tie.Need-same-length-2
 same-length-2 c = search needs
 
+-- the plot columns are on n plots
+on : (s : tie.Start) (F : Column) → F ∈ columnsFrom (s .args .n) (now (s .args .levels)) 0 (s .args .columns) → length F ≡ s .args .n
+on s = column-length (s .args .n) (now (s .args .levels)) (s .args .columns) 0 (s .pre .1) (s .pre .3) (omega (arith, s .pre .2))
+
 returns : tie.Need-returns
 returns c =
     let f = c .before .before .before .before in
-    let p = f .before .before .before .before .before .before .before in
-    let s = p .before .before .before .before .before .before in
+    let s = f .before .before .before .before .before .before .before .before .before in
     let n = s .args .n in
     let Fs : List Column = columnsFrom n (now (s .args .levels)) 0 (s .args .columns) in
-    let on = column-length n (now (s .args .levels)) (s .args .columns) 0 (s .pre .1) (s .pre .3) (omega (arith, s .pre .2)) in
-    let l = f .close-family .ensures (plotGenerators n Fs) (p .place-plot-columns .ensures) in (
-      plot-held n (s .pre .1) (s .pre .0) Fs on _ _ _ _ _ (s .pre .4) l,
+    let l = f .close-by-infima .ensures in (
+      plot-held n (s .pre .1) (s .pre .0) Fs (on s) _ _ _ _ _ (s .pre .4) l,
       (
-        plot-left n (s .pre .1) (s .pre .0) Fs on _ _ _ _ _ (s .pre .4) l,
-        plot-ready n (s .pre .1) (s .pre .0) Fs on _ _ _ _ _ (s .pre .4) l,
+        plot-left n (s .pre .1) (s .pre .0) Fs (on s) _ _ _ _ _ (s .pre .4) l,
+        plot-ready n (s .pre .1) (s .pre .0) Fs (on s) _ _ _ _ _ (s .pre .4) l,
+      ),
+    )
+
+place-plot-columns-requires : tie.Need-place-plot-columns-requires
+place-plot-columns-requires c κs = search needs
+
+close-family-requires : tie.Need-close-family-requires
+close-family-requires c κs =
+    let p = c .before .before .before .before .before .before in
+    let s = p .before .before .before .before .before .before .before in
+    (begun-own (p .place-plot-columns .ensures), s .pre .6, s .pre .4)
+
+same-length-3 : tie.Need-same-length-3
+same-length-3 c = search needs
+
+same-length-4 : tie.Need-same-length-4
+same-length-4 c = search needs
+
+returns-2 : tie.Need-returns-2
+returns-2 c =
+    let f = c .before .before .before .before in
+    let p = f .before .before .before .before .before .before .before in
+    let s = p .before .before .before .before .before .before .before in
+    let n = s .args .n in
+    let Fs : List Column = columnsFrom n (now (s .args .levels)) 0 (s .args .columns) in
+    let l = by-counts (f .close-family .ensures (plotGenerators n Fs) (p .place-plot-columns .ensures)) in (
+      plot-held n (s .pre .1) (s .pre .0) Fs (on s) _ _ _ _ _ (s .pre .4) l,
+      (
+        plot-left n (s .pre .1) (s .pre .0) Fs (on s) _ _ _ _ _ (s .pre .4) l,
+        plot-ready n (s .pre .1) (s .pre .0) Fs (on s) _ _ _ _ _ (s .pre .4) l,
       ),
     )
 
@@ -48,8 +77,12 @@ pub close-plot-family-spec : {M : Type 1} → statement M
 close-plot-family-spec =
     tie.close
     (tie.spec
-    place-plot-columns-requires
-    close-family-requires
+    close-by-infima-requires
     same-length
     same-length-2
-    returns)
+    returns
+    place-plot-columns-requires
+    close-family-requires
+    same-length-3
+    same-length-4
+    returns-2)

@@ -18,10 +18,10 @@ use Rattle.design.proofs.treatments.fill_infima.Statement.{statement}
 use Rattle.design.proofs.treatments.fill_infima.Tie as tie
 
 abbrev Inv-loop : tie.InvT-loop
-Inv-loop levels n d k infima₀ lengths₀ total₀ c₀ infima lengths total c = (c ≤ d) × (doubled c total ≤ 64) × (doubled c total ≤ length infima / 240) × (length infima ≡ length infima₀) × Infima n infima lengths total (lastOf n k d levels c)
+Inv-loop levels n first d k infima₀ lengths₀ total₀ c₀ infima lengths total c = (c ≤ d) × (doubled c total ≤ 64) × (doubled c total ≤ length infima / 240) × (length infima ≡ length infima₀) × Infima n infima lengths total (lastOf n k first d levels c)
 
 abbrev μ-loop : tie.MeasureT-loop
-μ-loop levels n d k infima₀ lengths₀ total₀ c₀ infima lengths total c = c
+μ-loop levels n first d k infima₀ lengths₀ total₀ c₀ infima lengths total c = c
 
 -- the first of the ones are as many as plots
 length-ones : (s : tie.Start Inv-loop μ-loop) → length (take {A = ℕ} (s .args .n) (replicate 240 1)) ≡ s .args .n
@@ -33,7 +33,7 @@ room s = record { some = s .pre .0; most = s .pre .1; cells = length-replicate {
 
 -- the buffer has room for each infimum, so for one
 bytes : (s : tie.Start Inv-loop μ-loop) → doubled (s .args .d) 1 ≤ length (now (s .args .infima)) / 240
-bytes s = doubled-bytes (s .args .d) (length (now (s .args .infima))) (s .pre .2) (s .pre .6)
+bytes s = doubled-bytes (s .args .d) (length (now (s .args .infima))) (s .pre .2) (s .pre .7)
 
 wide : (s : tie.Start Inv-loop μ-loop) → 240 ≤ length (now (s .args .infima))
 wide s = omega (arith, bytes s, doubled-least (s .args .d) 1)
@@ -74,7 +74,7 @@ loop-holds c =
       doubled-first (s .args .d) (s .pre .2),
       subst (λ (l : ℕ). doubled (s .args .d) 1 ≤ l / 240) (sym (same p)) (bytes s),
       refl,
-      subst (λ (Cs : List (List Column)). Infima n (p .put .last .0) zeros 1 Cs) (sym (last-none n (s .args .k) (s .args .d) (now (s .args .levels)) (s .args .d) refl))
+      subst (λ (Cs : List (List Column)). Infima n (p .put .last .0) zeros 1 Cs) (sym (last-none n (s .args .k) (s .args .first) (s .args .d) (now (s .args .levels)) (s .args .d) refl))
           (subst (λ (b : List ℕ). Infima n b zeros 1 (choices (s .args .k) [])) (sym e) (infima-none n (s .args .k) infima zeros (room s) (wide s) (zero-at 64 0))),
     )
 
@@ -110,8 +110,8 @@ loop-again c =
       doubled-next 64 m (b .loop .total) (q .extend-by .result) (i .loop-test .taken) (b .loop .inv .1) (q .extend-by .ensures .0 .1),
       subst (λ (l : ℕ). doubled (m - 1) (q .extend-by .result) ≤ l / 240) (sym kept) (doubled-next (length (b .loop .infima) / 240) m (b .loop .total) (q .extend-by .result) (i .loop-test .taken) (b .loop .inv .2) (q .extend-by .ensures .0 .1)),
       kept ∙ b .loop .inv .3,
-      subst (λ (Cs : List (List Column)). Infima n (q .extend-by .last .1 .1 .0) (q .extend-by .last .1 .1 .1 .0) (q .extend-by .result) Cs) (last-more n k d levels (s .pre .3) m (i .loop-test .taken) (b .loop .inv .0))
-          (q .extend-by .ensures .1 (lastOf n k d levels m) (b .loop .inv .4)),
+      subst (λ (Cs : List (List Column)). Infima n (q .extend-by .last .1 .1 .0) (q .extend-by .last .1 .1 .1 .0) (q .extend-by .result) Cs) (last-more n k (s .args .first) d levels (s .pre .3) m (i .loop-test .taken) (b .loop .inv .0))
+          (q .extend-by .ensures .1 (lastOf n k (s .args .first) d levels m) (b .loop .inv .4)),
     )
 
 same-length : tie.Need-same-length Inv-loop μ-loop
@@ -122,7 +122,7 @@ returns c =
     let b = c .before in
     let s = b .before .before .before .before .before .before .before .before in
     let e : b .loop .c ≡ 0 = omega arith in
-    ((b .loop .inv .4 .few, b .loop .inv .4 .fits), b .loop .inv .4 .columns ∙ last-all (s .args .n) (s .args .k) (s .args .d) (now (s .args .levels)) (b .loop .c) e)
+    ((b .loop .inv .4 .few, b .loop .inv .4 .fits), b .loop .inv .4 .columns ∙ last-all (s .args .n) (s .args .k) (s .args .first) (s .args .d) (now (s .args .levels)) (b .loop .c) e)
 
 pub fill-infima-spec : {M : Type 1} → statement M
 fill-infima-spec =

@@ -1,65 +1,43 @@
--- `first_by` meets its contract: the infima are filled in and placed, and the family is closed.
+-- `first_by` meets its contract: the infima are placed, and the family is closed.
 -- Assumes nothing.
 use mathlib.Core.Path.{_≡_, refl, subst}
-use mathlib.Core.List.{List}
+use mathlib.Core.List.{List, append-nil}
 use Prim.Native.Nat.{ℕ}
 use native.Mathlib.Omega.{arith}
 use borrow.Author.Needs.{needs}
 use denote.Ref.{now}
-use lib.ListN.{length-replicate}
-use Rattle.rules.specs.Factor.{Column, number}
-use Rattle.rules.specs.Family.{_∈_, columnsFrom, membersOf}
-use Rattle.rules.specs.Closing.{treatmentGenerators, onlySupremum, tooMany, close}
-use Rattle.design.specs.State.{Begun}
+use lib.ListN.{replicate, length-replicate}
+use Rattle.rules.specs.Factor.{Column}
+use Rattle.rules.specs.Family.{columnsFrom, membersOf}
+use Rattle.rules.specs.Closing.{treatmentGenerators}
+use Rattle.design.specs.Treatments.{AllPlaced}
 use Rattle.design.specs.Judging.{unlisted}
-use Rattle.design.proofs.Choosing.{generators-numbered, all-on, all-over, begun-own}
+use Rattle.design.proofs.Choosing.{all-on, all-over, begun-own}
+use Rattle.design.proofs.Start.{held-none, begun-none}
 use Rattle.design.proofs.treatments.first_by.Statement.{statement}
 use Rattle.design.proofs.treatments.first_by.Tie as tie
 
--- where the function starts, seen from the place at which the infima are filled in
-abbrev start : tie.After-fill-infima → tie.Start
-start f = f .before .before .before .before .before .before
-
--- the infima
-abbrev infima : tie.After-fill-infima → List ℕ
-infima f = f .fill-infima .last .1 .1 .1 .1 .0
-
--- the treatment columns
-abbrev columns : tie.After-fill-infima → List Column
-columns f = columnsFrom (start f .args .n) (now (start f .args .levels)) 6 (start f .args .d)
+-- where the function starts, seen from the place at which the infima are placed
+abbrev start : tie.After-place-infima → tie.Start
+start p = p .before .before .before .before .before .before .before .before
 
 -- the infima of the choices
-abbrev generators : tie.After-fill-infima → List Column
-generators f = treatmentGenerators (start f .args .n) (start f .args .k) (columns f)
+abbrev generators : tie.After-place-infima → List Column
+generators p = let a = start p .args in treatmentGenerators (a .n) (a .k) (columnsFrom (a .n) (now (a .levels)) 6 (a .d))
 
--- they are numbered
-numbered : (f : tie.After-fill-infima) (F : Column) → F ∈ membersOf (start f .args .n) (infima f) (f .fill-infima .result) → number F ≡ F
-numbered f F m =
-    let s = start f in
-    generators-numbered (s .args .n) (s .args .k) (s .pre .1) (now (s .args .levels)) 6 (s .args .d) (omega arith) F (subst (λ (S : List Column). F ∈ S) (f .fill-infima .ensures .1) m)
+-- they are placed beside no other member
+placed : (p : tie.After-place-infima) → AllPlaced (start p .args .n) (generators p) (p .place-infima .last .1 .1 .1 .1 .1 .1 .0) (p .place-infima .last .1 .1 .1 .1 .1 .1 .1 .0) (p .place-infima .result)
+unfolding membersOf columnsFrom
+placed p = subst (λ (S : List Column). AllPlaced (start p .args .n) S (p .place-infima .last .1 .1 .1 .1 .1 .1 .0) (p .place-infima .last .1 .1 .1 .1 .1 .1 .1 .0) (p .place-infima .result)) (append-nil (generators p)) (p .place-infima .ensures)
 
--- where the infima are filled in, seen from the place at which they are placed
-abbrev filled : tie.After-place-all → tie.After-fill-infima
-filled p = p .before .before .before .before .before .before
-
--- there is no place for one
-too-large : (p : tie.After-place-all) → p .place-all .result ≡ 33 → close onlySupremum (generators (filled p)) ≡ tooMany
-too-large p e = subst (λ (S : List Column). close onlySupremum S ≡ tooMany) (filled p .fill-infima .ensures .1) (all-over e (p .place-all .ensures))
-
--- all are placed
-begun : (p : tie.After-place-all) → (p .place-all .result ≡ 33 → ⊥) → Begun (start (filled p) .args .n) (generators (filled p)) (p .place-all .last .1 .1 .1 .0) (p .place-all .last .1 .1 .1 .1 .0) (p .place-all .result)
-begun p d =
-    subst (λ (S : List Column). Begun (start (filled p) .args .n) S (p .place-all .last .1 .1 .1 .0) (p .place-all .last .1 .1 .1 .1 .0) (p .place-all .result)) (filled p .fill-infima .ensures .1)
-    (all-on d (p .place-all .ensures))
-
-fill-infima-requires : tie.Need-fill-infima-requires
-fill-infima-requires c κs = search needs
-
-place-all-requires : tie.Need-place-all-requires
-place-all-requires c κs =
-    let f = c .before .before .before .before .before in
-    let s = start f in
-    (s .pre .0, s .pre .1, f .fill-infima .ensures .0 .1, f .fill-infima .ensures .0 .0, s .pre .7, length-replicate {A = ℕ} 32 0, numbered f)
+place-infima-requires : tie.Need-place-infima-requires
+unfolding membersOf columnsFrom
+place-infima-requires c κs =
+    let s = c .before .before .before .before .before .before .before in
+    let n = s .args .n in
+    let store = now (s .args .store) in
+    let zeros : List ℕ = replicate 32 0 in
+    (s .pre .2, s .pre .3, s .pre .4, omega arith, s .pre .5, s .pre .9, begun-none n store zeros (held-none n store zeros (s .pre .0) (s .pre .1) (s .pre .7) (length-replicate {A = ℕ} 32 0)))
 
 same-length : tie.Need-same-length
 same-length c = search needs
@@ -68,13 +46,13 @@ same-length-2 : tie.Need-same-length-2
 same-length-2 c = search needs
 
 returns : tie.Need-returns
-returns c = unlisted (c .if1 .taken) (too-large (c .before .before .before) (c .if1 .taken)) refl
+returns c = unlisted (c .if1 .taken) (all-over (c .if1 .taken) (placed (c .before .before .before .before .before))) refl
 
 close-family-requires : tie.Need-close-family-requires
 close-family-requires c κs =
     let l = c .before .before .before .before in
-    let p = l .before .before .before in
-    (begun-own (begun p (l .if1 .left)), start (filled p) .pre .8, start (filled p) .pre .6)
+    let p = l .before .before .before .before .before in
+    (begun-own (all-on (l .if1 .left) (placed p)), start p .pre .8, start p .pre .6)
 
 same-length-3 : tie.Need-same-length-3
 same-length-3 c = search needs
@@ -89,15 +67,14 @@ returns-2 : tie.Need-returns-2
 returns-2 c =
     let z = c .before .before .before .before in
     let l = z .before .before .before .before .before in
-    let p = l .before .before .before in
-    z .close-family .ensures (generators (filled p)) (begun p (l .if1 .left))
+    let p = l .before .before .before .before .before in
+    z .close-family .ensures (generators p) (all-on (l .if1 .left) (placed p))
 
 pub first-by-spec : {M : Type 1} → statement M
 first-by-spec =
     tie.close
     (tie.spec
-    fill-infima-requires
-    place-all-requires
+    place-infima-requires
     same-length
     same-length-2
     returns
