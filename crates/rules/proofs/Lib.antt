@@ -12,6 +12,7 @@ pub mod ClassCount
 pub mod Tests
 pub mod Sums
 pub mod Orthogonality
+pub mod Between
 pub mod Members
 pub mod Buffer
 pub mod Closing
