@@ -42,7 +42,7 @@ low-or : (x y : ℕ) → x < 2 → y < 2 → eqb (max x y) 1 ≡ true → (eqb x
 low-or x y h k e = by-cases (eqb x 1) inl (λ q. inr (eq-eqb y 1 (omega (arith, eqb-false x 1 q, eqb-true (max x y) 1 e))))
 
 -- a bit of either word
-or-bit : (k x y : ℕ) → bitAt (bitOr x y) k ≡ true → (bitAt x k ≡ true) ⊎ (bitAt y k ≡ true)
+pub or-bit : (k x y : ℕ) → bitAt (bitOr x y) k ≡ true → (bitAt x k ≡ true) ⊎ (bitAt y k ≡ true)
 unfolding bitAt
 or-bit zero x y e =
     let f : bitOr x y / 1 % 2 ≡ max (x / 1 % 2) (y / 1 % 2) = omega (arith, or-step x y) in
@@ -62,7 +62,7 @@ power-bit (suc b) (suc k) e =
     ap suc (power-bit b k (ap (λ (z : ℕ). bitAt z k) (sym f) ∙ sym (bit-half (2 ^ suc b) k) ∙ e))
 
 -- the only bit of one that is shifted
-shifted-bit : (b k : ℕ) → b < 32 → bitAt (1 * 2 ^ b % 2 ^ 32) k ≡ true → k ≡ b
+pub shifted-bit : (b k : ℕ) → b < 32 → bitAt (1 * 2 ^ b % 2 ^ 32) k ≡ true → k ≡ b
 shifted-bit b k h e = power-bit b k (ap (λ (z : ℕ). bitAt z k) (omega (arith, shl-exact {a = 1} 1 b 32 (omega arith) (omega arith))) ∙ e)
 
 -- ---- what is known

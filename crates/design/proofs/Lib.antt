@@ -10,6 +10,8 @@ pub mod Suprema
 pub mod Rewriting
 pub mod Work
 pub mod KnownOrder
+pub mod Joins
+pub mod FinerWords
 pub mod Judge
 pub mod Answered
 pub mod FullAnswered

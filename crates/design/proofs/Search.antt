@@ -4,14 +4,15 @@ use mathlib.Core.Path.{_≡_, refl, sym, ap, ap₂, _∙_}
 use mathlib.Core.Bool.{Bool, true, false}
 use mathlib.Core.List.{List, [], _∷_}
 use Prim.Native.Nat.{ℕ, zero, suc, _+_, _-_, _≤_, _<_, zero-le, suc-le-suc}
-use native.Mathlib.Nat.{add-zero, suc-ne-zero, zero-add, sub-zero}
+use native.Mathlib.Nat.{le-refl, add-zero, suc-ne-zero, zero-add, sub-zero}
 use native.Mathlib.Numerals.{add-one}
 use native.Mathlib.Omega.{arith}
 use lib.Dec.{eqb}
 use lib.ListN.{length, getD}
-use borrow.Author.Tests.{eq-eqb, ne-eqb, lt-ltb, le-ltb}
+use borrow.Author.Tests.{eq-eqb, ne-eqb, eqb-true, eqb-false, lt-ltb, le-ltb}
 use Rattle.rules.specs.Factor.{Column}
 use Rattle.rules.specs.Family.{Family}
+use Rattle.rules.proofs.Numbering.{by-cases}
 use Rattle.rules.specs.Design.{firstFailing, pairAt, firstPair, firstCross}
 use Rattle.design.specs.Search.{firstFrom, partner, firstPlace, secondPlace, firstPairOf, crossPartner, crossFirst, crossSecond}
 use Rattle.design.specs.State.{markedRow, marked}
@@ -46,6 +47,20 @@ module _ (t : ℕ → Bool) (j n : ℕ) where
   from-end h =
       let e : n - j ≡ 0 = omega arith in
       rw e
+
+-- no place fails, where none is found
+module _ (t : ℕ → Bool) where
+  pub from-none : (j left : ℕ) → ((k : ℕ) → j ≤ k → k < j + left → t k ≡ true) → firstFrom t j left ≡ 0
+  unfolding firstFrom
+  from-none j zero h = refl
+  from-none j (suc left) h = pass t j left (h j (le-refl j) (omega arith)) ∙ from-none (suc j) left (λ k a b. h k (omega arith) (omega arith))
+
+  pub from-all : (j left : ℕ) → firstFrom t j left ≡ 0 → (k : ℕ) → j ≤ k → k < j + left → t k ≡ true
+  from-all j zero e k a b = absurd (omega arith)
+  from-all j (suc left) e k a b =
+      by-cases (t j)
+      (λ p. by-cases (eqb k j) (λ q. rw (eqb-true k j q) p) (λ q. from-all (suc j) left (sym (pass t j left p) ∙ e) k (omega (arith, eqb-false k j q)) (omega arith)))
+      (λ p. absurd (suc-ne-zero j (sym (fail t j left p) ∙ e)))
 
 -- ---- pairs of places
 
@@ -138,6 +153,15 @@ module _ (t : ℕ → ℕ → Bool) (n i : ℕ) where
 pub cross-first-start : (t : ℕ → ℕ → Bool) (m n : ℕ) → crossFirst t m n ≡ firstFrom (crossAlone t n) 0 (m - 0)
 unfolding crossFirst
 cross-first-start t m n = rw sub-zero
+
+-- no pair fails, where none is found
+pub cross-none : (t : ℕ → ℕ → Bool) (m n : ℕ) → ((i j : ℕ) → i < m → j < n → t i j ≡ true) → crossFirst t m n ≡ 0
+unfolding crossFirst crossPartner
+cross-none t m n h = from-none (crossAlone t n) 0 m (λ i a b. cross-alone-yes t n i (from-none (t i) 0 n (λ j c d. h i j (omega arith) (omega arith))))
+
+pub cross-all : (t : ℕ → ℕ → Bool) (m n : ℕ) → crossFirst t m n ≡ 0 → (i j : ℕ) → i < m → j < n → t i j ≡ true
+unfolding crossFirst crossPartner
+cross-all t m n e i j hi hj = from-all (t i) 0 n (eqb-true (crossPartner t n i) 0 (from-all (crossAlone t n) 0 m e i zero-le (omega arith))) j zero-le (omega arith)
 
 module _ (p : Column → Column → Bool) (S : Family) where
   crosses-from : (t : ℕ → ℕ → Bool) (a : ℕ) (P : Family) → ((i j : ℕ) → i < length P → j < length S → t (a + i) j ≡ p (getD P i []) (getD S j []))

@@ -28,7 +28,7 @@ use Rattle.factor.specs.Lent.{common, onCommon, overlay}
 use Rattle.standing.specs.Standing.{testCommon}
 use Rattle.factor.proofs.Lent.{common-all}
 use Rattle.design.specs.State.{columnIn, Held, Placed, full, old, new, grownTo, Begun, Sorted}
-use Rattle.design.specs.Treatments.{Placing, exceeded, begun, Growing, knownFiner, Member}
+use Rattle.design.specs.Treatments.{Placing, exceeded, begun, knownFiner, Member}
 use Rattle.design.proofs.Asked.{part-is, length-column}
 use Rattle.design.proofs.Extremes.{one-class-coarsest, all-classes-finest, finer-supremum, finer-orthogonal, coarser-supremum, coarser-orthogonal}
 use Rattle.design.proofs.Placing.{grown-new, grown-old}
@@ -142,13 +142,18 @@ or-cases false b e = inr e
 pub member-in-buffer : (n i k : ℕ) (family : List ℕ) → n ≤ 240 → Member n family i k → 240 * i + n ≤ length family
 member-in-buffer n i k family small m = omega (arith, m .place, m .room)
 
+-- of two columns the first is finer
+pub known-order : (n f g : ℕ) (F G : Column) → 1 ≤ n → length F ≡ n → length G ≡ n → f ≡ classes F → g ≡ classes G → knownFiner n f g ≡ true → finer n F G ≡ true
+known-order n f g F G some lF lG cF cG e = go (or-cases (eqb g 1) (eqb f n) e)
+  where
+    go : (eqb g 1 ≡ true) ⊎ (eqb f n ≡ true) → finer n F G ≡ true
+    go (inl h) = one-class-coarsest n G F lG some (sym cG ∙ eqb-true g 1 h)
+    go (inr h) = all-classes-finest n F G lF (sym cF ∙ eqb-true f n h)
+
 -- of two members the first is finer
 known-finer : (n i j f g : ℕ) (a b : List ℕ) → 1 ≤ n → n ≤ 240 → Member n a i f → Member n b j g → knownFiner n f g ≡ true → finer n (columnIn n a i) (columnIn n b j) ≡ true
-known-finer n i j f g a b some small p q e = go (or-cases (eqb g 1) (eqb f n) e)
-  where
-    go : (eqb g 1 ≡ true) ⊎ (eqb f n ≡ true) → finer n (columnIn n a i) (columnIn n b j) ≡ true
-    go (inl h) = one-class-coarsest n (columnIn n b j) (columnIn n a i) (length-column n j b (member-in-buffer n j g b small q)) some (sym (q .count) ∙ eqb-true g 1 h)
-    go (inr h) = all-classes-finest n (columnIn n a i) (columnIn n b j) (length-column n i a (member-in-buffer n i f a small p)) (sym (p .count) ∙ eqb-true f n h)
+known-finer n i j f g a b some small p q e =
+    known-order n f g (columnIn n a i) (columnIn n b j) some (length-column n i a (member-in-buffer n i f a small p)) (length-column n j b (member-in-buffer n j g b small q)) (p .count) (q .count) e
 
 module _ (n i j f g : ℕ) (plot first : List ℕ) (some : 1 ≤ n) (small : n ≤ 240) (p : Member n plot i f) (q : Member n first j g) where
   -- the supremum is the treatment member
@@ -170,74 +175,6 @@ module _ (n i j f g : ℕ) (plot first : List ℕ) (some : 1 ≤ n) (small : n �
       let lG = length-column n j first (member-in-buffer n j g first small q) in
       let h = known-finer n j i g f first plot some small q p e in
       (sym (coarser-orthogonal n G F lG lF h), sym (coarser-supremum n G F lG lF h (p .numbered)))
-
--- ---- members of a buffer one by one
-
-module _ (n : ℕ) (b : List ℕ) where
-  -- one member more
-  pub members-snoc : (j : ℕ) → membersOf n b (j + 1) ≡ membersOf n b j ++ columnIn n b j ∷ []
-  unfolding membersOf
-  members-snoc j = ap (columnsFrom n b 0) (add-one j) ∙ columns-snoc n b 0 j ∙ ap (λ (i : ℕ). columnsFrom n b 0 j ++ columnIn n b i ∷ []) (zero-add j)
-
--- ---- suprema row by row
-
-module _ (make : Column → Column → List Column) where
-  -- with the members of two families one after the other
-  productsOf-append : (F : Column) (S T : Family) → productsOf make F (S ++ T) ≡ productsOf make F S ++ productsOf make F T
-  unfolding productsOf
-  productsOf-append F [] T = refl
-  productsOf-append F (G ∷ S) T = ap (λ (l : List Column). make F G ++ l) (productsOf-append F S T) ∙ sym (append-assoc (make F G) (productsOf make F S) (productsOf make F T))
-
-  -- of the members of two families one after the other
-  products-append : (P R S : Family) → products make (P ++ R) S ≡ products make P S ++ products make R S
-  unfolding products
-  products-append [] R S = refl
-  products-append (F ∷ P) R S = ap (λ (l : List Column). productsOf make F S ++ l) (products-append P R S) ∙ sym (append-assoc (productsOf make F S) (products make P S) (products make R S))
-
-  -- of one member
-  products-one : (F : Column) (S : Family) → products make (F ∷ []) S ≡ productsOf make F S
-  unfolding products
-  products-one F S = append-nil (productsOf make F S)
-
--- with one member
-productsOf-one : (F G : Column) → productsOf onlySupremum F (G ∷ []) ≡ supremum F G ∷ []
-unfolding productsOf onlySupremum
-productsOf-one F G = refl
-
-module _ (n : ℕ) (b : List ℕ) where
-  module _ (As : List Column) (F : Column) where
-    -- what there is once the suprema of F with the first j members are placed after As
-    abbrev pub rowOf : ℕ → List Column
-    rowOf j = As ++ productsOf onlySupremum F (membersOf n b j)
-
-    -- no supremum yet
-    pub row-none : rowOf 0 ≡ As
-    unfolding membersOf columnsFrom productsOf
-    row-none = append-nil As
-
-    -- a supremum more
-    pub row-more : (j : ℕ) → rowOf (j + 1) ≡ rowOf j ++ supremum F (columnIn n b j) ∷ []
-    row-more j =
-        ap (λ (S : Family). As ++ productsOf onlySupremum F S) (members-snoc n b j)
-        ∙ ap (λ (l : List Column). As ++ l) (productsOf-append onlySupremum F (membersOf n b j) (columnIn n b j ∷ []) ∙ ap (λ (l : List Column). productsOf onlySupremum F (membersOf n b j) ++ l) (productsOf-one F (columnIn n b j)))
-        ∙ sym (append-assoc As (productsOf onlySupremum F (membersOf n b j)) (supremum F (columnIn n b j) ∷ []))
-
-  module _ (S : Family) where
-    -- the suprema of the first i members with those of S
-    abbrev pub rowsOf : ℕ → List Column
-    rowsOf i = products onlySupremum (membersOf n b i) S
-
-    -- no row yet
-    pub rows-none : rowsOf 0 ≡ []
-    unfolding membersOf columnsFrom products
-    rows-none = refl
-
-    -- a row more
-    pub rows-more : (i : ℕ) → rowsOf (i + 1) ≡ rowsOf i ++ productsOf onlySupremum (columnIn n b i) S
-    rows-more i =
-        ap (λ (P : Family). products onlySupremum P S) (members-snoc n b i)
-        ∙ products-append onlySupremum (membersOf n b i) (columnIn n b i ∷ []) S
-        ∙ ap (λ (l : List Column). rowsOf i ++ l) (products-one onlySupremum (columnIn n b i) S)
 
 -- ---- how many different columns there are
 
@@ -329,42 +266,6 @@ module _ (n : ℕ) (As : List Column) (store counts : List ℕ) (r : ℕ) where
   pub placing-begun : (r ≡ 33 → ⊥) → Placing n As store counts r → Begun n As store counts r
   placing-begun d (exceeded e h) = absurd (d e)
   placing-begun d (begun b) = b
-
--- ---- a column added, unless there are too many already
-
--- what is placed, and the column
-abbrev Adds : ℕ → List ℕ → List ℕ → ℕ → Column → List ℕ → List ℕ → ℕ → Type 0
-Adds n store counts size F after counts′ r = (As : List Column) → Placing n As store counts size → Placing n (As ++ F ∷ []) after counts′ r
-
-module _ (n : ℕ) (store counts : List ℕ) (size : ℕ) (g : Growing n store counts size) (F : Column) (after counts′ : List ℕ) where
-  -- there are too many already
-  pub over-added : size ≡ 33 → Adds n store counts size F after counts′ size
-  over-added e As p = exceeded e (le-trans (placing-over n As store counts size e p) (insertAll-more As (As ++ F ∷ []) (λ G m. Memᴰ·append-left _ m)))
-
-  module _ (room : length after ≡ 7680) (d : size ≡ 33 → ⊥) (p : ℕ) (w : Placed n (membersOf n store size) F p after counts′) where
-    -- there is no room
-    pub full-added : p ≡ 32 → Growing n after counts′ 33 × Adds n store counts size F after counts′ 33
-    full-added e = (
-      record { some = g .some; most = g .most; room = room; held = λ z. absurd (z refl) },
-      λ As q. exceeded refl (over-placed n store counts size (g .held d) F p after counts′ As (placing-begun n As store counts size d q) e w),
-    )
-
-    -- there is room
-    pub room-added : number F ≡ F → (p ≡ 32 → ⊥) → (r : ℕ) → r ≡ grownTo size p → Growing n after counts′ r × Adds n store counts size F after counts′ r
-    room-added i m r e = (
-      record { some = g .some; most = g .most; room = room; held = λ z. subst (λ (k : ℕ). Held n after counts′ k) (sym e) (held-placed n store counts size (g .held d) F p after counts′ m w .0) },
-      λ As q. begun (subst (λ (k : ℕ). Begun n (As ++ F ∷ []) after counts′ k) (sym e) (begun-placed n store counts size (g .held d) F p after counts′ As (placing-begun n As store counts size d q) i m w)),
-    )
-
--- the same of a column as it is lent
-pub growing-on : (n : ℕ) (store counts : List ℕ) (size : ℕ) (X F : Column) → X ≡ F → length F ≡ n → Growing n store counts size → Growing (length X) store counts size
-growing-on n store counts size X F e l g = subst (λ (k : ℕ). Growing k store counts size) (sym (ap length e ∙ l)) g
-
-pub added-on : (n : ℕ) (store counts : List ℕ) (size : ℕ) (X F : Column) (after counts′ : List ℕ) (r : ℕ) → X ≡ F → length F ≡ n
-    → Growing (length X) after counts′ r × Adds (length X) store counts size X after counts′ r → Growing n after counts′ r × Adds n store counts size F after counts′ r
-added-on n store counts size X F after counts′ r e l p =
-    subst (λ (k : ℕ). Growing k after counts′ r × Adds k store counts size F after counts′ r) l
-    (subst (λ (Y : Column). Growing (length Y) after counts′ r × Adds (length Y) store counts size Y after counts′ r) e p)
 
 -- ---- the final treatment family
 

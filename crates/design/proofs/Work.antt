@@ -19,9 +19,8 @@ use Rattle.rules.specs.Relation.{memberAt}
 use Rattle.rules.proofs.Numbering.{by-cases, number-infimum}
 use Rattle.rules.proofs.Supremum.{number-supremum}
 use Rattle.rules.proofs.Bounds.{infimum-comm, supremum-comm, infimum-self, supremum-self}
-use Rattle.rules.proofs.Tests.{orthogonal-test, orthogonal-sym}
 use Rattle.rules.proofs.Orthogonality.{byCounts}
-use Rattle.rules.proofs.Between.{between-supremum, between-test}
+use Rattle.rules.proofs.Between.{between-supremum-right, between-test-right}
 use Rattle.rules.proofs.Buffer.{member-is, length-members}
 use Rattle.rules.proofs.WorkList.{PlaceOf, place-of, member-in, Found, found-more, found-over, Combined, combined-none, combined-more, combined-step, combined-row, combined-close}
 use Rattle.design.proofs.Common.{column-length}
@@ -465,26 +464,23 @@ module _ {n : ℕ} {Gs : List Column} {store counts marks : List ℕ} {size i j 
       here-q = member-column (w .held) q hq
 
       -- the supremum of i and y
-      old : supremum Y (A w hi hj) ≡ columnIn n store q
-      old = supremum-comm n Y (A w hi hj) lY (lA w hi hj) ∙ sym (ap₂ supremum (at-i w hi hj) at-y) ∙ sym (w .joins y hy q e .1) ∙ here-q
+      old : supremum (A w hi hj) Y ≡ columnIn n store q
+      old = sym (ap₂ supremum (at-i w hi hj) at-y) ∙ sym (w .joins y hy q e .1) ∙ here-q
 
-      under : Finer n (B w hi hj) (supremum Y (A w hi hj))
+      under : Finer n (B w hi hj) (supremum (A w hi hj) Y)
       under = subst (Finer n (B w hi hj)) (sym old) below
 
       -- it is that of i and j
       high : supremum (A w hi hj) (B w hi hj) ≡ columnIn n store q
-      high = supremum-comm n (A w hi hj) (B w hi hj) (lA w hi hj) (lB w hi hj) ∙ between-supremum n Y (B w hi hj) (A w hi hj) lY (lB w hi hj) (lA w hi hj) fine under ∙ old
+      high = between-supremum-right n (A w hi hj) Y (B w hi hj) (lA w hi hj) lY (lB w hi hj) fine under ∙ old
 
       -- i and y are orthogonal
       apart : orthogonal n (A w hi hj) Y ≡ true
       apart = sym (ap₂ (orthogonal n) (at-i w hi hj) at-y) ∙ sym (w .row y hy) ∙ ap (λ (k : ℕ). not (eqb k 0)) e ∙ entry-marked q
 
-      flip : (F G : Column) → length F ≡ n → length G ≡ n → orthogonal n F G ≡ true → orthogonal n G F ≡ true
-      flip F G lF lG o = orthogonal-test n G F .1 (orthogonal-sym n F G lF lG (orthogonal-test n F G .0 o))
-
       -- so are i and j
       right : orthogonal n (A w hi hj) (B w hi hj) ≡ true
-      right = flip (B w hi hj) (A w hi hj) (lB w hi hj) (lA w hi hj) (between-test n Y (B w hi hj) (A w hi hj) lY (lB w hi hj) (lA w hi hj) fine under (flip (A w hi hj) Y (lA w hi hj) lY apart))
+      right = between-test-right n (A w hi hj) Y (B w hi hj) (lA w hi hj) lY (lB w hi hj) fine under apart
 
   -- where it follows, its entry is stored
   pub work-follows : (r : ℕ) → (r ≡ 0 → ⊥) → Follows n store marks size i j r → Work n false Gs store counts (set marks (32 * i + j) r) size i (j + 1)

@@ -3,4 +3,5 @@ pub mod Search
 pub mod Judging
 pub mod Answers
 pub mod Treatments
+pub mod Crossing
 pub mod Closings

@@ -52,13 +52,6 @@ pub data Placing (n : ℕ) (As : List Column) (store counts : List ℕ) (r : ℕ
   exceeded : r ≡ 33 → 32 < length (insertAll As []) → Placing n As store counts r
   begun : Begun n As store counts r → Placing n As store counts r
 
--- a store that columns are added to: it has room, and holds `size` members unless there were too many, which a size of 33 says
-pub record Growing (n : ℕ) (store counts : List ℕ) (size : ℕ) : Type 0 where
-  pub some : 1 ≤ n
-  pub most : n ≤ 240
-  pub room : length store ≡ 7680
-  pub held : (size ≡ 33 → ⊥) → Held n store counts size
-
 -- plot member i and treatment member j are orthogonal
 abbrev pub orthogonalAt : ℕ → List ℕ → List ℕ → ℕ → ℕ → Bool
 orthogonalAt n plot first i j = orthogonal n (columnIn n plot i) (columnIn n first j)

@@ -1,5 +1,7 @@
-// Question 13 and the suprema that make the final treatment family: one walk over each pair of a plot and a treatment member.
+// Question 13 and the suprema that make the final treatment family: each pair of a plot and a treatment member, the finest first, since
+// much follows from the suprema of finer members.
 ghost use mathlib.Core.Path.{_≡_};
+ghost use mathlib.Core.Bool.{true, false};
 ghost use mathlib.Core.List.{List, [], _∷_, _++_};
 ghost use Prim.Native.Nat.{ℕ, _≤_, _<_};
 ghost use lib.ListN.{length, getD};
@@ -7,25 +9,25 @@ ghost use Rattle.rules.specs.Factor.{Column, number, classes, supremum, orthogo
 ghost use Rattle.rules.specs.Family.{membersOf};
 ghost use Rattle.rules.specs.Closing.{onlySupremum, productsOf, products};
 ghost use Rattle.design.specs.State.{columnIn};
-ghost use Rattle.design.specs.Search.{crossPartner, crossFirst, crossSecond};
-ghost use Rattle.design.specs.Treatments.{Growing, Placing, orthogonalAt, knownFiner, Member, Numbered};
+ghost use Rattle.design.specs.Search.{crossFirst, crossSecond};
+ghost use Rattle.design.specs.Treatments.{Placing, orthogonalAt, Member, Numbered};
+ghost use Rattle.design.specs.Crossing.{Counted, Below, heldOf, Growing, Grown, Joins, Entered};
+use crate::apart::first_apart;
+use crate::closing::PAIRS;
 use crate::closing::TOO_MANY;
+use crate::following::following;
+use crate::nesting::class_counts;
+use crate::nesting::finer_words;
+use crate::nesting::known_finer;
+use crate::store::find;
 use crate::store::grown;
-use crate::store::largest;
 use crate::store::place;
 use limits::MEMBERS;
 use limits::PLOTS;
 
-// Whether a pair is orthogonal, and how many different suprema there are with its own, or TOO_MANY.
-pub struct Pair {
+// Whether pairs are orthogonal, and how many different suprema there are with theirs, or TOO_MANY.
+pub struct Step {
     pub orthogonal: bool,
-    pub size: usize,
-}
-
-// The first treatment member, from 1, that is not orthogonal to a plot member, or 0; and how many different suprema there are, or
-// TOO_MANY, which says something only where all are orthogonal.
-pub struct Row {
-    pub second: usize,
     pub size: usize,
 }
 
@@ -37,48 +39,35 @@ pub struct Crossed {
     pub size: usize,
 }
 
-// Places a column unless there are too many already; answers the size then, or TOO_MANY.
-fn add(store: &mut [u8], counts: &mut [u8; MEMBERS], size: usize, column: &[u8], count: u8) -> usize
-    requires { ⌜ Growing (length (now column)) (now store) (now counts) size × (count ≡ classes (now column)) × (number (now column) ≡ now column) ⌝ }
-    ensures kept { λ r. ⌜ Growing (length (now (column .entry))) (now (store .exit)) (now (counts .exit)) r ⌝ }
+// Places a column and notes its place in a cell of the table, unless it is new and there is no room; answers the size then, or TOO_MANY.
+fn add(
+    store: &mut [u8],
+    counts: &mut [u8; MEMBERS],
+    size: usize,
+    column: &[u8],
+    count: u8,
+    joins: &mut [u8; PAIRS],
+    at: usize,
+) -> usize
+    requires { ⌜ Growing (length (now column)) (now store) (now counts) size × (count ≡ classes (now column)) × (number (now column) ≡ now column) × (at < 1024) ⌝ }
+    ensures grown { λ r. ⌜ Grown (length (now (column .entry))) (now (store .entry)) size (now (store .exit)) (now (counts .exit)) r ⌝ }
+    ensures entered { λ r. ⌜ Entered (length (now (column .entry))) (now (column .entry)) (now (store .exit)) (heldOf r) (now (joins .entry)) at (now (joins .exit)) ⌝ }
     ensures places { λ r. ⌜ ((As : List Column) → Placing (length (now (column .entry))) As (now (store .entry)) (now (counts .entry)) size → Placing (length (now (column .entry))) (As ++ now (column .entry) ∷ []) (now (store .exit)) (now (counts .exit)) r) ⌝ }
 {
-    if size == TOO_MANY {
-        return size;
+    if size < MEMBERS {
+        let p = place(store, counts, size, column, count);
+        joins[at] = (p + 1) as u8;
+        return grown(size, p);
     }
-    let p = place(store, counts, size, column, count);
+    let p = find(store, counts, MEMBERS, column, count);
     if p == MEMBERS {
         return TOO_MANY;
     }
-    grown(size, p)
+    joins[at] = (p + 1) as u8;
+    size
 }
 
-// Numbers of classes by place.
-fn class_counts(family: &[u8], n: usize, size: usize) -> [u8; MEMBERS]
-    requires { ⌜ (n ≤ 240) × Numbered n (now family) size ⌝ }
-    ensures { λ r. ⌜ ((i : ℕ) → i < size → getD r i 0 ≡ classes (columnIn n (now (family .entry)) i)) ⌝ }
-{
-    let mut counts = [0u8; MEMBERS];
-    for i in 0..size {
-        let at = PLOTS * i;
-        let end = at + n;
-        counts[i] = largest(&family[at..end]);
-    }
-    counts
-}
-
-// Whether numbers of classes tell that a factor with `a` of them is finer than one with `b`: none is coarser than a factor with one
-// class, and none is finer than one with a class for each plot.
-fn known_finer(n: usize, a: u8, b: u8) -> bool
-    ensures { λ r. ⌜ r ≡ knownFiner n a b ⌝ }
-{
-    if b == 1 {
-        return true;
-    }
-    a as usize == n
-}
-
-// Places member `i` of a family, which has `count` classes.
+// Adds member `i` of a family, which has `count` classes.
 fn add_member(
     family: &[u8],
     i: usize,
@@ -87,14 +76,17 @@ fn add_member(
     store: &mut [u8],
     counts: &mut [u8; MEMBERS],
     size: usize,
+    joins: &mut [u8; PAIRS],
+    at: usize,
 ) -> usize
-    requires { ⌜ Growing n (now store) (now counts) size × (7680 ≤ length (now family)) × (i < 32) × (count ≡ classes (columnIn n (now family) i)) × (number (columnIn n (now family) i) ≡ columnIn n (now family) i) ⌝ }
-    ensures kept { λ r. ⌜ Growing n (now (store .exit)) (now (counts .exit)) r ⌝ }
+    requires { ⌜ Growing n (now store) (now counts) size × Member n (now family) i count × (at < 1024) ⌝ }
+    ensures grown { λ r. ⌜ Grown n (now (store .entry)) size (now (store .exit)) (now (counts .exit)) r ⌝ }
+    ensures entered { λ r. ⌜ Entered n (columnIn n (now (family .entry)) i) (now (store .exit)) (heldOf r) (now (joins .entry)) at (now (joins .exit)) ⌝ }
     ensures places { λ r. ⌜ ((As : List Column) → Placing n As (now (store .entry)) (now (counts .entry)) size → Placing n (As ++ columnIn n (now (family .entry)) i ∷ []) (now (store .exit)) (now (counts .exit)) r) ⌝ }
 {
-    let at = PLOTS * i;
-    let end = at + n;
-    add(store, counts, size, &family[at..end], count)
+    let from = PLOTS * i;
+    let end = from + n;
+    add(store, counts, size, &family[from..end], count, joins, at)
 }
 
 // Plot member `i` with treatment member `j`, by a walk over their plots.
@@ -107,11 +99,12 @@ fn walk_pair(
     store: &mut [u8],
     counts: &mut [u8; MEMBERS],
     size: usize,
-) -> Pair
-    requires { ⌜ Growing n (now store) (now counts) size × (7680 ≤ length (now plot)) × (7680 ≤ length (now first)) × (i < 32) × (j < 32) ⌝ }
+    joins: &mut [u8; PAIRS],
+) -> Step
+    requires { ⌜ Growing n (now store) (now counts) size × Joins n (now plot) (now first) (now store) (heldOf size) (now joins) × (7680 ≤ length (now plot)) × (7680 ≤ length (now first)) × (i < 32) × (j < 32) ⌝ }
     ensures test { λ r. ⌜ r .orthogonal ≡ orthogonalAt n (now (plot .entry)) (now (first .entry)) i j ⌝ }
-    ensures kept { λ r. ⌜ Growing n (now (store .exit)) (now (counts .exit)) (r .size) ⌝ }
-    ensures places { λ r. ⌜ ((As : List Column) → Placing n As (now (store .entry)) (now (counts .entry)) size → Placing n (As ++ supremum (columnIn n (now (plot .entry)) i) (columnIn n (now (first .entry)) j) ∷ []) (now (store .exit)) (now (counts .exit)) (r .size)) ⌝ }
+    ensures kept { λ r. ⌜ Growing n (now (store .exit)) (now (counts .exit)) (r .size) × Joins n (now (plot .entry)) (now (first .entry)) (now (store .exit)) (heldOf (r .size)) (now (joins .exit)) ⌝ }
+    ensures places { λ r. ⌜ (r .orthogonal ≡ true → (As : List Column) → Placing n As (now (store .entry)) (now (counts .entry)) size → Placing n (As ++ supremum (columnIn n (now (plot .entry)) i) (columnIn n (now (first .entry)) j) ∷ []) (now (store .exit)) (now (counts .exit)) (r .size)) ⌝ }
 {
     let a = PLOTS * i;
     let b = PLOTS * j;
@@ -119,84 +112,252 @@ fn walk_pair(
     let d = b + n;
     let mut column = [0u8; PLOTS];
     let crossing = standing::crossing_of(&plot[a..c], &first[b..d], &mut column);
+    if !crossing.orthogonal {
+        return Step {
+            orthogonal: false,
+            size,
+        };
+    }
     let k = crossing.supremum;
-    let held = add(store, counts, size, &column[..n], k as u8);
-    Pair {
-        orthogonal: crossing.orthogonal,
+    let at = MEMBERS * i + j;
+    let held = add(store, counts, size, &column[..n], k as u8, joins, at);
+    Step {
+        orthogonal: true,
         size: held,
     }
 }
 
-// Plot member `i`, which has `f` classes, with treatment member `j`, which has `g`: of two that are nested the supremum is the
-// coarser one, and they are orthogonal.
-fn cross_pair(
+// Plot member `i`, which has `f` classes, with treatment member `j`, which has `g`, whose numbers of classes do not tell that they are
+// nested: by what follows from finer members, or by a walk.
+fn meet_pair(
     plot: &[u8],
     i: usize,
     f: u8,
+    finer_plots: u32,
     first: &[u8],
     j: usize,
     g: u8,
+    finer_firsts: u32,
     n: usize,
     store: &mut [u8],
     counts: &mut [u8; MEMBERS],
     size: usize,
-) -> Pair
-    requires { ⌜ Growing n (now store) (now counts) size × Member n (now plot) i f × Member n (now first) j g ⌝ }
+    joins: &mut [u8; PAIRS],
+) -> Step
+    requires { ⌜ Growing n (now store) (now counts) size × Joins n (now plot) (now first) (now store) (heldOf size) (now joins) × Member n (now plot) i f × Below n (now plot) «finer_plots» i × Member n (now first) j g × Below n (now first) «finer_firsts» j ⌝ }
     ensures test { λ r. ⌜ r .orthogonal ≡ orthogonalAt n (now (plot .entry)) (now (first .entry)) i j ⌝ }
-    ensures kept { λ r. ⌜ Growing n (now (store .exit)) (now (counts .exit)) (r .size) ⌝ }
-    ensures places { λ r. ⌜ ((As : List Column) → Placing n As (now (store .entry)) (now (counts .entry)) size → Placing n (As ++ supremum (columnIn n (now (plot .entry)) i) (columnIn n (now (first .entry)) j) ∷ []) (now (store .exit)) (now (counts .exit)) (r .size)) ⌝ }
+    ensures kept { λ r. ⌜ Growing n (now (store .exit)) (now (counts .exit)) (r .size) × Joins n (now (plot .entry)) (now (first .entry)) (now (store .exit)) (heldOf (r .size)) (now (joins .exit)) ⌝ }
+    ensures places { λ r. ⌜ (r .orthogonal ≡ true → (As : List Column) → Placing n As (now (store .entry)) (now (counts .entry)) size → Placing n (As ++ supremum (columnIn n (now (plot .entry)) i) (columnIn n (now (first .entry)) j) ∷ []) (now (store .exit)) (now (counts .exit)) (r .size)) ⌝ }
 {
+    let told = following(
+        plot,
+        i,
+        f,
+        finer_plots,
+        first,
+        j,
+        g,
+        finer_firsts,
+        n,
+        store,
+        counts,
+        size,
+        joins,
+    );
+    if told == 0 {
+        return walk_pair(plot, i, first, j, n, store, counts, size, joins);
+    }
+    joins[MEMBERS * i + j] = told;
+    Step {
+        orthogonal: true,
+        size,
+    }
+}
+
+// Plot member `i`, which has `f` classes, with treatment member `j`, which has `g`: of two that are nested the supremum is the
+// coarser one, and they are orthogonal. The words have bits for the members that are finer.
+fn cross_pair(
+    plot: &[u8],
+    i: usize,
+    f: u8,
+    finer_plots: u32,
+    first: &[u8],
+    j: usize,
+    g: u8,
+    finer_firsts: u32,
+    n: usize,
+    store: &mut [u8],
+    counts: &mut [u8; MEMBERS],
+    size: usize,
+    joins: &mut [u8; PAIRS],
+) -> Step
+    requires { ⌜ Growing n (now store) (now counts) size × Joins n (now plot) (now first) (now store) (heldOf size) (now joins) × Member n (now plot) i f × Below n (now plot) «finer_plots» i × Member n (now first) j g × Below n (now first) «finer_firsts» j ⌝ }
+    ensures test { λ r. ⌜ r .orthogonal ≡ orthogonalAt n (now (plot .entry)) (now (first .entry)) i j ⌝ }
+    ensures kept { λ r. ⌜ Growing n (now (store .exit)) (now (counts .exit)) (r .size) × Joins n (now (plot .entry)) (now (first .entry)) (now (store .exit)) (heldOf (r .size)) (now (joins .exit)) ⌝ }
+    ensures places { λ r. ⌜ (r .orthogonal ≡ true → (As : List Column) → Placing n As (now (store .entry)) (now (counts .entry)) size → Placing n (As ++ supremum (columnIn n (now (plot .entry)) i) (columnIn n (now (first .entry)) j) ∷ []) (now (store .exit)) (now (counts .exit)) (r .size)) ⌝ }
+{
+    let at = MEMBERS * i + j;
     if known_finer(n, f, g) {
-        let held = add_member(first, j, g, n, store, counts, size);
-        return Pair {
+        let held = add_member(first, j, g, n, store, counts, size, joins, at);
+        return Step {
             orthogonal: true,
             size: held,
         };
     }
     if known_finer(n, g, f) {
-        let held = add_member(plot, i, f, n, store, counts, size);
-        return Pair {
+        let held = add_member(plot, i, f, n, store, counts, size, joins, at);
+        return Step {
             orthogonal: true,
             size: held,
         };
     }
-    walk_pair(plot, i, first, j, n, store, counts, size)
+    meet_pair(
+        plot,
+        i,
+        f,
+        finer_plots,
+        first,
+        j,
+        g,
+        finer_firsts,
+        n,
+        store,
+        counts,
+        size,
+        joins,
+    )
 }
 
-// Plot member `i` with each treatment member, up to the first that is not orthogonal.
+// Plot member `i` with each treatment member, from the last on, up to one that is not orthogonal.
 fn cross_row(
     plot: &[u8],
     i: usize,
     f: u8,
+    finer_plots: u32,
     first: &[u8],
     first_size: usize,
     firsts: &[u8; MEMBERS],
+    finer_firsts: &[u32; MEMBERS],
     n: usize,
     store: &mut [u8],
     counts: &mut [u8; MEMBERS],
     size: usize,
-) -> Row
-    requires { ⌜ Growing n (now store) (now counts) size × Member n (now plot) i f × («first_size» ≤ 32) × ((j : ℕ) → j < «first_size» → Member n (now first) j (getD (now firsts) j 0)) ⌝ }
-    ensures second { λ r. ⌜ r .second ≡ crossPartner (orthogonalAt n (now (plot .entry)) (now (first .entry))) «first_size» i ⌝ }
-    ensures kept { λ r. ⌜ Growing n (now (store .exit)) (now (counts .exit)) (r .size) ⌝ }
-    ensures places { λ r. ⌜ (r .second ≡ 0 → (As : List Column) → Placing n As (now (store .entry)) (now (counts .entry)) size → Placing n (As ++ productsOf onlySupremum (columnIn n (now (plot .entry)) i) (membersOf n (now (first .entry)) «first_size»)) (now (store .exit)) (now (counts .exit)) (r .size)) ⌝ }
+    joins: &mut [u8; PAIRS],
+) -> Step
+    requires { ⌜ Growing n (now store) (now counts) size × Joins n (now plot) (now first) (now store) (heldOf size) (now joins) × Member n (now plot) i f × Below n (now plot) «finer_plots» i × («first_size» ≤ 32) × Counted n (now first) (now firsts) «first_size» × ((k : ℕ) → Below n (now first) (getD (now «finer_firsts») k 0) k) ⌝ }
+    ensures all { λ r. ⌜ (r .orthogonal ≡ true → (j : ℕ) → j < «first_size» → orthogonalAt n (now (plot .entry)) (now (first .entry)) i j ≡ true) ⌝ }
+    ensures some { λ r. ⌜ (r .orthogonal ≡ false → ((j : ℕ) → j < «first_size» → orthogonalAt n (now (plot .entry)) (now (first .entry)) i j ≡ true) → ⊥) ⌝ }
+    ensures kept { λ r. ⌜ Growing n (now (store .exit)) (now (counts .exit)) (r .size) × Joins n (now (plot .entry)) (now (first .entry)) (now (store .exit)) (heldOf (r .size)) (now (joins .exit)) ⌝ }
+    ensures places { λ r. ⌜ (r .orthogonal ≡ true → (As : List Column) → Placing n As (now (store .entry)) (now (counts .entry)) size → Placing n (As ++ productsOf onlySupremum (columnIn n (now (plot .entry)) i) (membersOf n (now (first .entry)) «first_size»)) (now (store .exit)) (now (counts .exit)) (r .size)) ⌝ }
 {
     let mut now = size;
-    for j in 0..first_size {
-        let pair = cross_pair(plot, i, f, first, j, firsts[j], n, store, counts, now);
+    let mut j = first_size;
+    while 0 < j {
+        j -= 1;
+        let pair = cross_pair(
+            plot,
+            i,
+            f,
+            finer_plots,
+            first,
+            j,
+            firsts[j],
+            finer_firsts[j],
+            n,
+            store,
+            counts,
+            now,
+            joins,
+        );
         now = pair.size;
         if !pair.orthogonal {
-            let second = j + 1;
-            return Row { second, size: now };
+            return Step {
+                orthogonal: false,
+                size: now,
+            };
         }
     }
-    Row {
-        second: 0,
+    Step {
+        orthogonal: true,
         size: now,
     }
 }
 
-// Each plot member with each treatment member, up to the first pair that is not orthogonal.
+// Each plot member with each treatment member, from the last ones on, up to a pair that is not orthogonal.
+fn cross_all(
+    plot: &[u8],
+    plot_size: usize,
+    plots: &[u8; MEMBERS],
+    finer_plots: &[u32; MEMBERS],
+    first: &[u8],
+    first_size: usize,
+    firsts: &[u8; MEMBERS],
+    finer_firsts: &[u32; MEMBERS],
+    n: usize,
+    store: &mut [u8],
+    counts: &mut [u8; MEMBERS],
+    joins: &mut [u8; PAIRS],
+) -> Step
+    requires { ⌜ Growing n (now store) (now counts) 0 × Joins n (now plot) (now first) (now store) 0 (now joins) × («plot_size» ≤ 32) × Counted n (now plot) (now plots) «plot_size» × ((k : ℕ) → Below n (now plot) (getD (now «finer_plots») k 0) k) × («first_size» ≤ 32) × Counted n (now first) (now firsts) «first_size» × ((k : ℕ) → Below n (now first) (getD (now «finer_firsts») k 0) k) ⌝ }
+    ensures all { λ r. ⌜ (r .orthogonal ≡ true → (i j : ℕ) → i < «plot_size» → j < «first_size» → orthogonalAt n (now (plot .entry)) (now (first .entry)) i j ≡ true) ⌝ }
+    ensures some { λ r. ⌜ (r .orthogonal ≡ false → ((i j : ℕ) → i < «plot_size» → j < «first_size» → orthogonalAt n (now (plot .entry)) (now (first .entry)) i j ≡ true) → ⊥) ⌝ }
+    ensures kept { λ r. ⌜ (length (now (store .exit)) ≡ 7680) × Joins n (now (plot .entry)) (now (first .entry)) (now (store .exit)) (heldOf (r .size)) (now (joins .exit)) ⌝ }
+    ensures places { λ r. ⌜ (r .orthogonal ≡ true → Placing n (products onlySupremum (membersOf n (now (plot .entry)) «plot_size») (membersOf n (now (first .entry)) «first_size»)) (now (store .exit)) (now (counts .exit)) (r .size)) ⌝ }
+{
+    let mut size = 0;
+    let mut i = plot_size;
+    while 0 < i {
+        i -= 1;
+        let row = cross_row(
+            plot,
+            i,
+            plots[i],
+            finer_plots[i],
+            first,
+            first_size,
+            firsts,
+            finer_firsts,
+            n,
+            store,
+            counts,
+            size,
+            joins,
+        );
+        size = row.size;
+        if !row.orthogonal {
+            return Step {
+                orthogonal: false,
+                size,
+            };
+        }
+    }
+    Step {
+        orthogonal: true,
+        size,
+    }
+}
+
+// Fewer members than these leave so little to follow from the order of the other family's members that it is not sought.
+const SOME_MEMBERS: usize = 4;
+
+// Words with a bit for each member that is finer, by place, where the other family has members enough for them to be of use.
+fn order_words(
+    family: &[u8],
+    counts: &[u8; MEMBERS],
+    size: usize,
+    n: usize,
+    other: usize,
+) -> [u32; MEMBERS]
+    requires { ⌜ (1 ≤ n) × (n ≤ 240) × (size ≤ 32) × Counted n (now family) (now counts) size ⌝ }
+    ensures { λ r. ⌜ ((k : ℕ) → Below n (now (family .entry)) (getD r k 0) k) ⌝ }
+{
+    if other < SOME_MEMBERS {
+        return [0u32; MEMBERS];
+    }
+    finer_words(family, counts, size, n)
+}
+
+// Each plot member with each treatment member. The places of a pair that is not orthogonal are sought from the first pair on.
 pub fn cross(
     plot: &[u8],
     plot_size: usize,
@@ -213,34 +374,44 @@ pub fn cross(
 {
     let plots = class_counts(plot, n, plot_size);
     let firsts = class_counts(first, n, first_size);
-    let mut size = 0;
-    for i in 0..plot_size {
-        let row = cross_row(
-            plot,
-            i,
-            plots[i],
-            first,
-            first_size,
-            &firsts,
-            n,
-            store,
-            counts,
+    let finer_plots = order_words(plot, &plots, plot_size, n, first_size);
+    let finer_firsts = order_words(first, &firsts, first_size, n, plot_size);
+    let mut joins = [0u8; PAIRS];
+    let all = cross_all(
+        plot,
+        plot_size,
+        &plots,
+        &finer_plots,
+        first,
+        first_size,
+        &firsts,
+        &finer_firsts,
+        n,
+        store,
+        counts,
+        &mut joins,
+    );
+    let size = all.size;
+    if all.orthogonal {
+        return Crossed {
+            first: 0,
+            second: 0,
             size,
-        );
-        size = row.size;
-        let second = row.second;
-        if second != 0 {
-            let at = i + 1;
-            return Crossed {
-                first: at,
-                second,
-                size,
-            };
-        }
+        };
     }
+    let apart = first_apart(
+        plot,
+        plot_size,
+        &plots,
+        first,
+        first_size,
+        &firsts,
+        n,
+        &joins,
+    );
     Crossed {
-        first: 0,
-        second: 0,
+        first: apart.first,
+        second: apart.second,
         size,
     }
 }

@@ -8,10 +8,13 @@ ghost use Rattle.rules.specs.Design.{plotDesign, plotBuffer, fullDesign, treatm
 ghost use Rattle.rules.specs.Structure.{Lent, Demand3};
 ghost use Rattle.design.specs.Answers.{plotNumbers, plotNumbersOf, fullNumbers, fullNumbersOf};
 
+mod apart;
 mod closed;
 mod closing;
 mod columns;
 mod crossing;
+mod following;
+mod nesting;
 mod questions;
 mod sorting;
 mod steps;

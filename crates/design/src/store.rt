@@ -25,7 +25,7 @@ pub fn largest(column: &[u8]) -> u8
 }
 
 // The place, from 0, of the member equal to `column`, which has `count` classes; `size` where there is none.
-fn find(store: &[u8], counts: &[u8; MEMBERS], size: usize, column: &[u8], count: u8) -> usize
+pub fn find(store: &[u8], counts: &[u8; MEMBERS], size: usize, column: &[u8], count: u8) -> usize
     requires { ⌜ Held (length (now column)) (now store) (now counts) size × (count ≡ classes (now column)) ⌝ }
     ensures { λ r. ⌜ r ≡ indexOf alike (membersOf (length (now (column .entry))) (now (store .entry)) size) (now (column .entry)) ⌝ }
 {

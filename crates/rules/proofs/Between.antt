@@ -1,6 +1,6 @@
 -- A factor between one and the supremum of that one with another: it has the same supremum with the other, and stays orthogonal to it.
 -- Assumes nothing.
-use mathlib.Core.Path.{_≡_, refl, sym, ap, ap₂, _∙_}
+use mathlib.Core.Path.{_≡_, refl, sym, ap, ap₂, _∙_, subst}
 use mathlib.Core.Bool.{Bool, true, false, _&&_}
 use mathlib.Core.List.{[]}
 use Prim.Native.Nat.{ℕ, _*_, _<_}
@@ -12,8 +12,8 @@ use Rattle.rules.specs.Factor.{Column, at, Same, same, Finer, Equivalent
 use Rattle.rules.proofs.Numbering.{by-cases}
 use Rattle.rules.proofs.Members.{clash}
 use Rattle.rules.proofs.Supremum.{number-supremum}
-use Rattle.rules.proofs.Tests.{count-same, size-same, orthogonal-test}
-use Rattle.rules.proofs.Bounds.{numbered-equal, finer-trans, length-supremum′, supremum-left, supremum-right, supremum-least}
+use Rattle.rules.proofs.Tests.{count-same, size-same, orthogonal-test, orthogonal-sym}
+use Rattle.rules.proofs.Bounds.{numbered-equal, finer-trans, length-supremum′, supremum-left, supremum-right, supremum-least, supremum-comm}
 use Rattle.rules.proofs.Sums.{sum, sum-ext, sum-scale, Some, nowhere, somewhere, some, label-plot, count-by-class}
 
 -- a test that another one needs, or excludes
@@ -105,3 +105,14 @@ module _ (n : ℕ) (F F′ G : Column) (lF : length F ≡ n) (lF′ : length F�
 
   pub between-test : orthogonal n F G ≡ true → orthogonal n F′ G ≡ true
   between-test e = orthogonal-test n F′ G .1 (between-orthogonal (orthogonal-test n F G .0 e))
+
+-- the same of the other factor
+module _ (n : ℕ) (F G G′ : Column) (lF : length F ≡ n) (lG : length G ≡ n) (lG′ : length G′ ≡ n) (fine : Finer n G G′) (below : Finer n G′ (supremum F G)) where
+  turned : Finer n G′ (supremum G F)
+  turned = subst (Finer n G′) (supremum-comm n F G lF lG) below
+
+  pub between-supremum-right : supremum F G′ ≡ supremum F G
+  between-supremum-right = supremum-comm n F G′ lF lG′ ∙ between-supremum n G G′ F lG lG′ lF fine turned ∙ supremum-comm n G F lG lF
+
+  pub between-test-right : orthogonal n F G ≡ true → orthogonal n F G′ ≡ true
+  between-test-right e = orthogonal-test n F G′ .1 (orthogonal-sym n G′ F lG′ lF (between-orthogonal n G G′ F lG lG′ lF fine turned (orthogonal-sym n F G lF lG (orthogonal-test n F G .0 e))))

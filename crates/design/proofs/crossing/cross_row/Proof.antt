@@ -1,39 +1,36 @@
--- `cross_row` meets its contract: the first `j` treatment members are orthogonal, and their suprema are placed.
+-- `cross_row` meets its contract: the treatment members from `j` on are orthogonal, and their suprema are placed.
 -- Assumes nothing.
-use mathlib.Core.Path.{_≡_, sym, _∙_, subst}
-use mathlib.Core.Bool.{Bool, true, false}
-use mathlib.Core.List.{List}
-use Prim.Native.Nat.{ℕ, _+_, _-_, _≤_}
+use mathlib.Core.Path.{_≡_, refl, sym, _∙_, subst}
+use mathlib.Core.Bool.{true, false}
+use mathlib.Core.List.{List, [], _∷_, _++_}
+use Prim.Native.Nat.{ℕ, _+_, _-_, _≤_, _<_}
 use native.Mathlib.Omega.{arith}
-use borrow.Author.Needs.{needs}
-use borrow.Author.Tests.{not-true, not-false}
+use lib.Dec.{eqb}
+use borrow.Author.Tests.{eqb-true, eqb-false, not-true, not-false}
 use denote.Ref.{now}
-use Rattle.rules.specs.Factor.{Column}
+use lib.ListN.{drop}
+use Rattle.rules.specs.Factor.{Column, supremum}
+use Rattle.rules.specs.Family.{membersOf}
+use Rattle.rules.specs.Closing.{onlySupremum, productsOf}
+use Rattle.rules.proofs.Numbering.{by-cases}
+use Rattle.rules.proofs.Members.{clash}
 use Rattle.design.specs.State.{columnIn}
-use Rattle.design.specs.Search.{firstFrom, crossPartner}
-use Rattle.design.specs.Treatments.{Growing, Placing, orthogonalAt}
-use Rattle.design.proofs.Search.{from-on, from-here, from-end, cross-partner-start}
-use Rattle.design.proofs.Suprema.{rowOf, row-none, row-more}
+use Rattle.design.specs.Treatments.{Placing, orthogonalAt}
+use Rattle.design.specs.Crossing.{heldOf, Growing, Joins}
+use Rattle.design.proofs.Joins.{row-none, row-more}
 use Rattle.design.proofs.crossing.cross_row.Statement.{statement}
 use Rattle.design.proofs.crossing.cross_row.Tie as tie
 
 abbrev Inv-loop : tie.InvT-loop
-Inv-loop plot i f first first-size firsts n store₀ counts₀ size now₀ j₀ store counts now j =
+Inv-loop plot i f finer-plots first first-size firsts finer-firsts n store₀ counts₀ size joins₀ now₀ j₀ store counts joins now j =
     (j ≤ first-size)
     × Growing n store counts now
-    × (crossPartner (orthogonalAt n plot first) first-size i ≡ firstFrom (orthogonalAt n plot first i) j (first-size - j))
-    × ((As : List Column) → Placing n As store₀ counts₀ size → Placing n (rowOf n first As (columnIn n plot i) j) store counts now)
+    × Joins n plot first store (heldOf now) joins
+    × ((k : ℕ) → j ≤ k → k < first-size → orthogonalAt n plot first i k ≡ true)
+    × ((As : List Column) → Placing n As store₀ counts₀ size → Placing n (As ++ productsOf onlySupremum (columnIn n plot i) (drop j (membersOf n first first-size))) store counts now)
 
 abbrev μ-loop : tie.MeasureT-loop
-μ-loop plot i f first first-size firsts n store₀ counts₀ size now₀ j₀ store counts now j = first-size - j
-
--- the suprema of plot member i with the first j treatment members, after the columns As
-abbrev row : tie.Start Inv-loop μ-loop → List Column → ℕ → List Column
-row start As = let s = start .args in rowOf (s .n) (now (s .first)) As (columnIn (s .n) (now (s .plot)) (s .i))
-
--- whether it is orthogonal to treatment member j
-abbrev test : tie.Start Inv-loop μ-loop → ℕ → Bool
-test start = let s = start .args in orthogonalAt (s .n) (now (s .plot)) (now (s .first)) (s .i)
+μ-loop plot i f finer-plots first first-size firsts finer-firsts n store₀ counts₀ size joins₀ now₀ j₀ store counts joins now j = j
 
 loop-holds : tie.Need-loop-holds Inv-loop μ-loop
 loop-holds c =
@@ -41,41 +38,41 @@ loop-holds c =
     let s = start .args in (
       omega arith,
       start .pre .0,
-      cross-partner-start (orthogonalAt (s .n) (now (s .plot)) (now (s .first))) (s .first-size) (s .i),
-      λ As p. subst (λ (l : List Column). Placing (s .n) l (now (s .store)) (now (s .counts)) (s .size)) (sym (row-none (s .n) (now (s .first)) As (columnIn (s .n) (now (s .plot)) (s .i)))) p,
+      start .pre .1,
+      λ k a b. absurd (omega arith),
+      λ As p. subst (λ (l : List Column). Placing (s .n) l (now (s .store)) (now (s .counts)) (s .size)) (sym (row-none (s .n) (start .pre .0 .held .most) (now (s .first)) (s .first-size) As (columnIn (s .n) (now (s .plot)) (s .i)))) p,
     )
+
+sub-j : tie.Need-sub-j Inv-loop μ-loop
+sub-j c = omega arith
 
 element-copy-out-cross-pair : tie.Need-element-copy-out-cross-pair Inv-loop μ-loop
 element-copy-out-cross-pair c = omega arith
 
+mul-cross-pair : tie.Need-mul-cross-pair Inv-loop μ-loop
+mul-cross-pair c = omega arith
+
+element-copy-out-cross-pair-2 : tie.Need-element-copy-out-cross-pair-2 Inv-loop μ-loop
+element-copy-out-cross-pair-2 c = omega arith
+
 cross-pair-requires : tie.Need-cross-pair-requires Inv-loop μ-loop
 cross-pair-requires c κs =
-    let b = c .before .before .before .before in
+    let b = c .before .before .before .before .before .before in
     let start = b .before .before .before .before in
-    (b .loop .inv .1, start .pre .1, start .pre .3 (b .loop .j) (omega arith))
-
-add-second : tie.Need-add-second Inv-loop μ-loop
-add-second c = omega arith
+    let j = b .loop .j - 1 in
+    (b .loop .inv .1, b .loop .inv .2, start .pre .2, start .pre .3, start .pre .5 j (omega arith), start .pre .6 j)
 
 same-length : tie.Need-same-length Inv-loop μ-loop
 same-length c =
     let q = c .before .before .before .before in
-    let start = q .before .before .before .before .before .before .before .before .before in
-    q .cross-pair .ensures .1 .0 .room ∙ sym (start .pre .0 .room)
+    let start = q .before .before .before .before .before .before .before .before .before .before .before in
+    q .cross-pair .ensures .1 .0 .0 .held .room ∙ sym (start .pre .0 .held .room)
 
 returns : tie.Need-returns Inv-loop μ-loop
 returns c =
     let q = c .before .before .before .before in
-    let b = q .before .before .before .before .before in
-    let start = b .before .before .before .before in
-    let j = b .loop .j in
-    let e : test start j ≡ false = sym (q .cross-pair .ensures .0) ∙ not-true _ (c .if1 .taken) in (
-      sym (b .loop .inv .2 ∙ from-here (test start) j (start .args .first-size) (omega arith) e),
-      (q .cross-pair .ensures .1 .0, λ z. absurd (omega arith)),
-    )
-
-add-j : tie.Need-add-j Inv-loop μ-loop
-add-j c = omega arith
+    let b = q .before .before .before .before .before .before .before in
+    (λ e. clash e refl, (λ _ h. clash (h (b .loop .j - 1) (omega arith)) (sym (q .cross-pair .ensures .0) ∙ not-true _ (c .if1 .taken)), (q .cross-pair .ensures .1 .0, λ e. clash e refl)))
 
 loop-less : tie.Need-loop-less Inv-loop μ-loop
 loop-less c = omega arith
@@ -83,30 +80,46 @@ loop-less c = omega arith
 loop-again : tie.Need-loop-again Inv-loop μ-loop
 loop-again c =
     let q = c .before .before .before .before in
-    let b = q .before .before .before .before .before in
+    let b = q .before .before .before .before .before .before .before in
     let start = b .before .before .before .before in
     let s = start .args in
-    let j = b .loop .j in
-    let e : test start j ≡ true = sym (q .cross-pair .ensures .0) ∙ not-false _ (c .if1 .left) in (
+    let F = columnIn (s .n) (now (s .plot)) (s .i) in
+    let T = membersOf (s .n) (now (s .first)) (s .first-size) in
+    let j = b .loop .j - 1 in
+    let next : b .loop .j ≡ j + 1 = omega (arith, q .before .before .before .before .before .before .loop-test .taken) in
+    let o = not-false _ (c .if1 .left) in
+    let e : orthogonalAt (s .n) (now (s .plot)) (now (s .first)) (s .i) j ≡ true = sym (q .cross-pair .ensures .0) ∙ o in
+    let store = q .cross-pair .last .1 .1 .1 .1 .1 .1 .1 .1 .1 .0 in
+    let counts = q .cross-pair .last .1 .1 .1 .1 .1 .1 .1 .1 .1 .1 .0 in (
       omega arith,
-      q .cross-pair .ensures .1 .0,
-      b .loop .inv .2 ∙ from-on (test start) j (s .first-size) (omega arith) e,
+      q .cross-pair .ensures .1 .0 .0,
+      q .cross-pair .ensures .1 .0 .1,
+      λ k a h. by-cases (eqb k j) (λ z. rw (eqb-true k j z) e) (λ z. b .loop .inv .3 k (omega (arith, eqb-false k j z)) h),
       λ As p.
-          subst (λ (l : List Column). Placing (s .n) l (q .cross-pair .last .1 .1 .1 .1 .1 .1 .1 .0) (q .cross-pair .last .1 .1 .1 .1 .1 .1 .1 .1 .0) (q .cross-pair .result .size)) (sym (row-more (s .n) (now (s .first)) As (columnIn (s .n) (now (s .plot)) (s .i)) j))
-          (q .cross-pair .ensures .1 .1 (row start As j) (b .loop .inv .3 As p)),
+          row-more (s .n) (start .pre .0 .held .most) (now (s .first)) (s .first-size) As F j (omega arith)
+          (subst (λ (x : ℕ). Placing (s .n) ((As ++ productsOf onlySupremum F (drop x T)) ++ supremum F (columnIn (s .n) (now (s .first)) j) ∷ []) store counts (q .cross-pair .result .size)) next
+          (q .cross-pair .ensures .1 .1 o (As ++ productsOf onlySupremum F (drop (b .loop .j) T)) (b .loop .inv .4 As p))),
     )
 
 same-length-2 : tie.Need-same-length-2 Inv-loop μ-loop
-same-length-2 c = c .before .loop .inv .1 .room ∙ sym (c .before .before .before .before .before .pre .0 .room)
+same-length-2 c = c .before .loop .inv .1 .held .room ∙ sym (c .before .before .before .before .before .pre .0 .held .room)
 
 returns-2 : tie.Need-returns-2 Inv-loop μ-loop
 returns-2 c =
     let b = c .before in
     let start = b .before .before .before .before in
     let s = start .args in
-    let e : b .loop .j ≡ s .first-size = omega arith in (
-      sym (b .loop .inv .2 ∙ from-end (test start) (b .loop .j) (s .first-size) (omega arith)),
-      (b .loop .inv .1, λ z As p. subst (λ (k : ℕ). Placing (s .n) (row start As k) (b .loop .store) (b .loop .counts) (b .loop .now)) e (b .loop .inv .3 As p)),
+    let F = columnIn (s .n) (now (s .plot)) (s .i) in
+    let T = membersOf (s .n) (now (s .first)) (s .first-size) in
+    let e : b .loop .j ≡ 0 = omega arith in (
+      λ _ k h. b .loop .inv .3 k (omega arith) h,
+      (
+        λ z. clash refl z,
+        (
+          (b .loop .inv .1, b .loop .inv .2),
+          λ _ As p. subst (λ (x : ℕ). Placing (s .n) (As ++ productsOf onlySupremum F (drop x T)) (b .loop .store) (b .loop .counts) (b .loop .now)) e (b .loop .inv .4 As p),
+        ),
+      ),
     )
 
 pub cross-row-spec : {M : Type 1} → statement M
@@ -116,12 +129,13 @@ cross-row-spec =
     Inv-loop
     μ-loop
     loop-holds
+    sub-j
     element-copy-out-cross-pair
+    mul-cross-pair
+    element-copy-out-cross-pair-2
     cross-pair-requires
-    add-second
     same-length
     returns
-    add-j
     loop-less
     loop-again
     same-length-2

@@ -1,16 +1,20 @@
 -- `walk_pair` meets its contract: the column that is added is the supremum.
 -- Assumes nothing.
-use mathlib.Core.Path.{_≡_, sym, ap, ap₂, _∙_}
+use mathlib.Core.Path.{_≡_, refl, sym, ap, ap₂, _∙_}
+use mathlib.Core.Bool.{true}
 use mathlib.Core.List.{List}
 use Prim.Native.Nat.{ℕ, _+_, _*_, _≤_}
 use native.Mathlib.Omega.{arith}
+use borrow.Author.Tests.{not-true, not-false}
 use denote.Ref.{now}
 use lib.ListN.{length, take, replicate}
 use Rattle.rules.specs.Factor.{Column, number, classes, supremum, orthogonal}
+use Rattle.rules.proofs.Members.{clash}
 use Rattle.standing.specs.Standing.{testCommon}
 use Rattle.design.specs.State.{columnIn}
 use Rattle.design.proofs.Asked.{part-is, length-column}
-use Rattle.design.proofs.Suprema.{lent-test, length-made, number-made, classes-made, take-made, long-made, growing-on, added-on}
+use Rattle.design.proofs.Suprema.{lent-test, length-made, number-made, classes-made, take-made, long-made}
+use Rattle.design.proofs.Joins.{growing-on, grown-on, entered-on, adds-on, joins-entered}
 use borrow.Author.Needs.{needs}
 use Rattle.design.proofs.crossing.walk_pair.Statement.{statement}
 use Rattle.design.proofs.crossing.walk_pair.Tie as tie
@@ -28,10 +32,10 @@ G w = columnIn (start w .args .n) (now (start w .args .first)) (start w .args .j
 
 -- they lie in their buffers
 in-plot : (w : tie.After-crossing-of) → 240 * start w .args .i + start w .args .n ≤ length (now (start w .args .plot))
-in-plot w = let s = start w in omega (arith, s .pre .0 .most)
+in-plot w = let s = start w in omega (arith, s .pre .0 .held .most)
 
 in-first : (w : tie.After-crossing-of) → 240 * start w .args .j + start w .args .n ≤ length (now (start w .args .first))
-in-first w = let s = start w in omega (arith, s .pre .0 .most)
+in-first w = let s = start w in omega (arith, s .pre .0 .held .most)
 
 -- the array once the supremum is made
 abbrev array : tie.After-crossing-of → List ℕ
@@ -42,26 +46,26 @@ taken : (w : tie.After-crossing-of) → take (start w .args .n) (array w) ≡ su
 taken w =
     let s = start w in
     let zeros : List ℕ = replicate 240 0 in
-    take-made (s .args .n) (s .args .i) (s .args .j) (now (s .args .plot)) (now (s .args .first)) (s .pre .0 .most) (in-plot w) (in-first w) zeros (array w) (w .crossing-of .ensures .1 .1)
+    take-made (s .args .n) (s .args .i) (s .args .j) (now (s .args .plot)) (now (s .args .first)) (s .pre .0 .held .most) (in-plot w) (in-first w) zeros (array w) (w .crossing-of .ensures .1 .1)
 
 -- the array is long enough
 long : (w : tie.After-crossing-of) → start w .args .n ≤ length (array w)
 long w =
     let s = start w in
     let zeros : List ℕ = replicate 240 0 in
-    long-made (s .args .n) (s .args .i) (s .args .j) (now (s .args .plot)) (now (s .args .first)) (s .pre .0 .most) (in-plot w) (in-first w) zeros (array w) (w .crossing-of .ensures .1 .1)
+    long-made (s .args .n) (s .args .i) (s .args .j) (now (s .args .plot)) (now (s .args .first)) (s .pre .0 .held .most) (in-plot w) (in-first w) zeros (array w) (w .crossing-of .ensures .1 .1)
 
 -- the supremum is on n plots
 length-is : (w : tie.After-crossing-of) → length (supremum (F w) (G w)) ≡ start w .args .n
 length-is w =
     let s = start w in
-    length-made (s .args .n) (s .args .i) (s .args .j) (now (s .args .plot)) (now (s .args .first)) (s .pre .0 .most) (in-plot w) (in-first w)
+    length-made (s .args .n) (s .args .i) (s .args .j) (now (s .args .plot)) (now (s .args .first)) (s .pre .0 .held .most) (in-plot w) (in-first w)
 
 -- the answer is its number of classes
 counted : (w : tie.After-crossing-of) → (w .crossing-of .result .supremum ≡ classes (supremum (F w) (G w))) × (w .crossing-of .result .supremum ≤ 240)
 counted w =
     let s = start w in
-    classes-made (s .args .n) (s .args .i) (s .args .j) (now (s .args .plot)) (now (s .args .first)) (s .pre .0 .most) (in-plot w) (in-first w) (w .crossing-of .result .supremum) (w .crossing-of .ensures .0)
+    classes-made (s .args .n) (s .args .i) (s .args .j) (now (s .args .plot)) (now (s .args .first)) (s .pre .0 .held .most) (in-plot w) (in-first w) (w .crossing-of .result .supremum) (w .crossing-of .ensures .0)
 
 -- the test is that of the members
 tested : (w : tie.After-crossing-of) → w .crossing-of .result .orthogonal ≡ orthogonal (start w .args .n) (F w) (G w)
@@ -69,7 +73,7 @@ tested w =
     let s = start w .args in
     w .crossing-of .ensures .1 .0
     ∙ ap₂ (testCommon orthogonal) (part-is (s .n) (240 * s .i) (now (s .plot))) (part-is (s .n) (240 * s .j) (now (s .first)))
-    ∙ lent-test orthogonal (s .n) (F w) (G w) (length-column (s .n) (s .i) (now (s .plot)) (in-plot w)) (length-column (s .n) (s .j) (now (s .first)) (in-first w)) (start w .pre .0 .most)
+    ∙ lent-test orthogonal (s .n) (F w) (G w) (length-column (s .n) (s .i) (now (s .plot)) (in-plot w)) (length-column (s .n) (s .j) (now (s .first)) (in-first w)) (start w .pre .0 .held .most)
 
 mul-a : tie.Need-mul-a
 mul-a c = search needs
@@ -104,34 +108,56 @@ part-crossing-of-end-2 c = search needs
 crossing-of-requires : tie.Need-crossing-of-requires
 crossing-of-requires c κs = search needs
 
+returns : tie.Need-returns
+returns c = let w = c .before .before in
+    let s = start w in
+    (sym (not-true _ (c .if1 .taken)) ∙ tested w, ((s .pre .0, s .pre .1), λ e. clash e refl))
+
+mul-at : tie.Need-mul-at
+mul-at c = search needs
+
+add-at : tie.Need-add-at
+add-at c = search needs
+
 array-share-prefix-column : tie.Need-array-share-prefix-column
-array-share-prefix-column c = long (c .before .before)
+array-share-prefix-column c = long (c .before .before .before .before)
 
 slice-aggregate-add : tie.Need-slice-aggregate-add
-slice-aggregate-add c = sym (ap length (taken (c .before .before .before)) ∙ length-is (c .before .before .before))
+slice-aggregate-add c = let w = c .before .before .before .before .before in sym (ap length (taken w) ∙ length-is w)
 
 cast-add : tie.Need-cast-add
-cast-add c = omega (arith, counted (c .before .before .before) .1)
+cast-add c = omega (arith, counted (c .before .before .before .before .before) .1)
 
 add-requires : tie.Need-add-requires
-add-requires c κs =
-    let w = c .before .before .before in
+add-requires c κs = let w = c .before .before .before .before .before .before in
     let s = start w in (
       growing-on (s .args .n) (now (s .args .store)) (now (s .args .counts)) (s .args .size) (take (s .args .n) (array w)) (supremum (F w) (G w)) (taken w) (length-is w) (s .pre .0),
       counted w .0 ∙ ap classes (sym (taken w)),
-      ap number (taken w) ∙ number-made (s .args .n) (s .args .i) (s .args .j) (now (s .args .plot)) (now (s .args .first)) (s .pre .0 .most) (in-plot w) (in-first w) ∙ sym (taken w),
+      ap number (taken w) ∙ number-made (s .args .n) (s .args .i) (s .args .j) (now (s .args .plot)) (now (s .args .first)) (s .pre .0 .held .most) (in-plot w) (in-first w) ∙ sym (taken w),
+      omega arith,
     )
 
 same-length : tie.Need-same-length
 same-length c = search needs
 
-returns : tie.Need-returns
-returns c =
-    let q = c .before .before in
-    let w = q .before .before .before .before in
+returns-2 : tie.Need-returns-2
+returns-2 c = let q = c .before .before in
+    let t = q .before .before .before .before .before in
+    let w = t .before .before in
     let s = start w in
-    let a = added-on (s .args .n) (now (s .args .store)) (now (s .args .counts)) (s .args .size) (take (s .args .n) (array w)) (supremum (F w) (G w)) (q .add .last .0) (q .add .last .1 .0) (q .add .result) (taken w) (length-is w) (q .add .ensures) in
-    (tested w, a)
+    let a = s .args in
+    let X = take (a .n) (array w) in
+    let H = supremum (F w) (G w) in
+    let e = q .add .ensures in
+    let o = sym (not-false _ (t .if1 .left)) ∙ tested w in
+    let g = grown-on (a .n) (now (a .store)) (a .size) X H (q .add .last .0) (q .add .last .1 .0) (q .add .result) (taken w) (length-is w) (e .0) in
+    let k = entered-on (a .n) (now (a .store)) (a .size) X H (q .add .last .0) (q .add .last .1 .0) (q .add .result) (taken w) (length-is w) (now (a .joins)) (32 * a .i + a .j) (q .add .last .1 .1 .1 .1 .1 .0) (e .1 .0) in (
+      o,
+      (
+        (g .growing, joins-entered (a .i) (a .j) (s .pre .4) (s .pre .5) g k (sym o) (s .pre .1)),
+        λ _. adds-on (a .n) (now (a .store)) (a .size) X H (q .add .last .0) (q .add .last .1 .0) (q .add .result) (taken w) (length-is w) (now (a .counts)) (e .1 .1),
+      ),
+    )
 
 pub walk-pair-spec : {M : Type 1} → statement M
 walk-pair-spec =
@@ -148,9 +174,12 @@ walk-pair-spec =
     part-crossing-of-start-2
     part-crossing-of-end-2
     crossing-of-requires
+    returns
+    mul-at
+    add-at
     array-share-prefix-column
     slice-aggregate-add
     cast-add
     add-requires
     same-length
-    returns)
+    returns-2)

@@ -14,8 +14,8 @@ use lib.Seq.{getD-set-same, getD-set-other}
 use Rattle.rules.specs.Factor.{number, classes}
 use Rattle.design.specs.State.{columnIn}
 use Rattle.design.proofs.Asked.{part-is}
-use Rattle.design.proofs.crossing.class_counts.Statement.{statement}
-use Rattle.design.proofs.crossing.class_counts.Tie as tie
+use Rattle.design.proofs.nesting.class_counts.Statement.{statement}
+use Rattle.design.proofs.nesting.class_counts.Tie as tie
 
 abbrev Inv-loop : tie.InvT-loop
 Inv-loop family n size counts₀ i₀ counts i =

@@ -1,8 +1,8 @@
 -- `known_finer` meets its contract.
 -- Assumes nothing.
 use borrow.Author.Tests.{eq-eqb, ne-eqb}
-use Rattle.design.proofs.crossing.known_finer.Statement.{statement}
-use Rattle.design.proofs.crossing.known_finer.Tie as tie
+use Rattle.design.proofs.nesting.known_finer.Statement.{statement}
+use Rattle.design.proofs.nesting.known_finer.Tie as tie
 
 returns : tie.Need-returns
 returns c = simp (eq-eqb _ _ (c .if1 .taken))

@@ -1,0 +1,101 @@
+// The places of the first pair of a plot and a treatment member that are not orthogonal.
+ghost use mathlib.Core.Path.{_≡_};
+ghost use Prim.Native.Nat.{ℕ, _+_, _*_, _≤_, _<_};
+ghost use lib.ListN.{length, getD};
+ghost use Rattle.design.specs.Search.{crossPartner, crossFirst, crossSecond};
+ghost use Rattle.design.specs.Treatments.{orthogonalAt, Member};
+ghost use Rattle.design.specs.Crossing.{Counted, Tested};
+use crate::closing::PAIRS;
+use crate::nesting::known_finer;
+use crate::questions::Places;
+use limits::MEMBERS;
+use limits::PLOTS;
+
+// Whether plot member `i` and treatment member `j` are orthogonal, by a walk over their plots.
+fn walk_orthogonal(plot: &[u8], i: usize, first: &[u8], j: usize, n: usize) -> bool
+    requires { ⌜ (n ≤ 240) × (7680 ≤ length (now plot)) × (7680 ≤ length (now first)) × (i < 32) × (j < 32) ⌝ }
+    ensures { λ r. ⌜ r ≡ orthogonalAt n (now (plot .entry)) (now (first .entry)) i j ⌝ }
+{
+    let a = PLOTS * i;
+    let b = PLOTS * j;
+    let c = a + n;
+    let d = b + n;
+    let mut column = [0u8; PLOTS];
+    standing::crossing_of(&plot[a..c], &first[b..d], &mut column).orthogonal
+}
+
+// The same, of a pair that the table may have, with `f` and `g` classes: of two that are nested it is known.
+fn pair_orthogonal(
+    plot: &[u8],
+    i: usize,
+    f: u8,
+    first: &[u8],
+    j: usize,
+    g: u8,
+    n: usize,
+    joins: &[u8; PAIRS],
+) -> bool
+    requires { ⌜ (1 ≤ n) × (n ≤ 240) × Member n (now plot) i f × Member n (now first) j g × Tested n (now plot) (now first) (now joins) i j ⌝ }
+    ensures { λ r. ⌜ r ≡ orthogonalAt n (now (plot .entry)) (now (first .entry)) i j ⌝ }
+{
+    if joins[MEMBERS * i + j] != 0 {
+        return true;
+    }
+    if known_finer(n, f, g) {
+        return true;
+    }
+    if known_finer(n, g, f) {
+        return true;
+    }
+    walk_orthogonal(plot, i, first, j, n)
+}
+
+// The first treatment member, from 1, that is not orthogonal to plot member `i`, or 0.
+fn apart_row(
+    plot: &[u8],
+    i: usize,
+    f: u8,
+    first: &[u8],
+    first_size: usize,
+    firsts: &[u8; MEMBERS],
+    n: usize,
+    joins: &[u8; PAIRS],
+) -> usize
+    requires { ⌜ (1 ≤ n) × (n ≤ 240) × Member n (now plot) i f × («first_size» ≤ 32) × Counted n (now first) (now firsts) «first_size» × ((j : ℕ) → j < 32 → Tested n (now plot) (now first) (now joins) i j) ⌝ }
+    ensures { λ r. ⌜ r ≡ crossPartner (orthogonalAt n (now (plot .entry)) (now (first .entry))) «first_size» i ⌝ }
+{
+    for j in 0..first_size {
+        if !pair_orthogonal(plot, i, f, first, j, firsts[j], n, joins) {
+            return j + 1;
+        }
+    }
+    0
+}
+
+// The first pair that is not orthogonal.
+pub fn first_apart(
+    plot: &[u8],
+    plot_size: usize,
+    plots: &[u8; MEMBERS],
+    first: &[u8],
+    first_size: usize,
+    firsts: &[u8; MEMBERS],
+    n: usize,
+    joins: &[u8; PAIRS],
+) -> Places
+    requires { ⌜ (1 ≤ n) × (n ≤ 240) × («plot_size» ≤ 32) × Counted n (now plot) (now plots) «plot_size» × («first_size» ≤ 32) × Counted n (now first) (now firsts) «first_size» × ((i j : ℕ) → i < 32 → j < 32 → Tested n (now plot) (now first) (now joins) i j) ⌝ }
+    ensures first { λ r. ⌜ r .first ≡ crossFirst (orthogonalAt n (now (plot .entry)) (now (first .entry))) «plot_size» «first_size» ⌝ }
+    ensures second { λ r. ⌜ r .second ≡ crossSecond (orthogonalAt n (now (plot .entry)) (now (first .entry))) «first_size» (r .first) ⌝ }
+{
+    for i in 0..plot_size {
+        let second = apart_row(plot, i, plots[i], first, first_size, firsts, n, joins);
+        if second != 0 {
+            let at = i + 1;
+            return Places { first: at, second };
+        }
+    }
+    Places {
+        first: 0,
+        second: 0,
+    }
+}

@@ -1,0 +1,119 @@
+// The order of members, as numbers of classes or a walk over the plots tell it.
+ghost use mathlib.Core.Path.{_≡_};
+ghost use mathlib.Core.Bool.{true};
+ghost use Prim.Native.Nat.{ℕ, _≤_, _<_};
+ghost use lib.ListN.{length, getD};
+ghost use Rattle.rules.specs.Factor.{classes, finer};
+ghost use Rattle.design.specs.State.{columnIn};
+ghost use Rattle.design.specs.Treatments.{knownFiner, Member, Numbered};
+ghost use Rattle.design.specs.Crossing.{Counted, Below};
+use crate::store::largest;
+use limits::MEMBERS;
+use limits::PLOTS;
+
+// Numbers of classes by place.
+pub fn class_counts(family: &[u8], n: usize, size: usize) -> [u8; MEMBERS]
+    requires { ⌜ (n ≤ 240) × Numbered n (now family) size ⌝ }
+    ensures { λ r. ⌜ ((i : ℕ) → i < size → getD r i 0 ≡ classes (columnIn n (now (family .entry)) i)) ⌝ }
+{
+    let mut counts = [0u8; MEMBERS];
+    for i in 0..size {
+        let at = PLOTS * i;
+        let end = at + n;
+        counts[i] = largest(&family[at..end]);
+    }
+    counts
+}
+
+// Whether numbers of classes tell that a factor with `a` of them is finer than one with `b`: none is coarser than a factor with one
+// class, and none is finer than one with a class for each plot.
+pub fn known_finer(n: usize, a: u8, b: u8) -> bool
+    ensures { λ r. ⌜ r ≡ knownFiner n a b ⌝ }
+{
+    if b == 1 {
+        return true;
+    }
+    a as usize == n
+}
+
+// Whether member `i` of one buffer is finer than member `j` of another, by a walk.
+fn walk_finer(a: &[u8], i: usize, b: &[u8], j: usize, n: usize) -> bool
+    requires { ⌜ (n ≤ 240) × (7680 ≤ length (now a)) × (i < 32) × (7680 ≤ length (now b)) × (j < 32) ⌝ }
+    ensures { λ r. ⌜ r ≡ finer n (columnIn n (now (a .entry)) i) (columnIn n (now (b .entry)) j) ⌝ }
+{
+    let p = PLOTS * i;
+    let q = PLOTS * j;
+    let r = p + n;
+    let s = q + n;
+    standing::finer(&a[p..r], &b[q..s])
+}
+
+// Whether member `i` of one buffer, which has `f` classes, is found to be finer than member `j` of another, which has `g`. None is
+// walked that has fewer.
+pub fn found_finer(a: &[u8], i: usize, f: u8, b: &[u8], j: usize, g: u8, n: usize) -> bool
+    requires { ⌜ (1 ≤ n) × (n ≤ 240) × (7680 ≤ length (now a)) × (i < 32) × (f ≡ classes (columnIn n (now a) i)) × (7680 ≤ length (now b)) × (j < 32) × (g ≡ classes (columnIn n (now b) j)) ⌝ }
+    ensures { λ r. ⌜ (r ≡ true → finer n (columnIn n (now (a .entry)) i) (columnIn n (now (b .entry)) j) ≡ true) ⌝ }
+{
+    if known_finer(n, f, g) {
+        return true;
+    }
+    if f < g {
+        return false;
+    }
+    walk_finer(a, i, b, j, n)
+}
+
+// The word of member `i`, with bits for member `k` and those of its word where it is found to be finer.
+fn noted_word(
+    family: &[u8],
+    counts: &[u8; MEMBERS],
+    words: &[u32; MEMBERS],
+    n: usize,
+    i: usize,
+    k: usize,
+    word: u32,
+) -> u32
+    requires { ⌜ (1 ≤ n) × (n ≤ 240) × Member n (now family) i (getD (now counts) i 0) × Member n (now family) k (getD (now counts) k 0) × Below n (now family) (getD (now words) k 0) k × Below n (now family) word i ⌝ }
+    ensures { λ r. ⌜ Below n (now (family .entry)) r i ⌝ }
+{
+    if (word >> k) & 1 == 1 {
+        return word;
+    }
+    if found_finer(family, k, counts[k], family, i, counts[i], n) {
+        return word | (words[k] | (1u32 << k));
+    }
+    word
+}
+
+// A word with a bit for each member after `i` that is finer than it, where `words` has those of the members after it.
+fn finer_word(
+    family: &[u8],
+    counts: &[u8; MEMBERS],
+    words: &[u32; MEMBERS],
+    size: usize,
+    n: usize,
+    i: usize,
+) -> u32
+    requires { ⌜ (1 ≤ n) × (n ≤ 240) × (size ≤ 32) × (i < size) × Counted n (now family) (now counts) size × ((k : ℕ) → Below n (now family) (getD (now words) k 0) k) ⌝ }
+    ensures { λ r. ⌜ Below n (now (family .entry)) r i ⌝ }
+{
+    let mut word: u32 = 0;
+    for k in (i + 1)..size {
+        word = noted_word(family, counts, words, n, i, k, word);
+    }
+    word
+}
+
+// Words with a bit for each member that is finer, by place.
+pub fn finer_words(family: &[u8], counts: &[u8; MEMBERS], size: usize, n: usize) -> [u32; MEMBERS]
+    requires { ⌜ (1 ≤ n) × (n ≤ 240) × (size ≤ 32) × Counted n (now family) (now counts) size ⌝ }
+    ensures { λ r. ⌜ ((k : ℕ) → Below n (now (family .entry)) (getD r k 0) k) ⌝ }
+{
+    let mut words = [0u32; MEMBERS];
+    let mut i = size;
+    while 0 < i {
+        i -= 1;
+        words[i] = finer_word(family, counts, &words, size, n, i);
+    }
+    words
+}
