@@ -1,0 +1,158 @@
+-- `sheet::field::level_then` meets its contract. The loop's invariant: the digits passed write v, and the rest of the field is left.
+-- Assumes nothing.
+use Prim.Native.Nat.{ℕ, _-_}
+use mathlib.Core.Path.{_≡_, sym, _∙_}
+use mathlib.Core.Bool.{true, false, _||_}
+use mathlib.Core.List.{List}
+use native.Mathlib.Omega.{arith}
+use borrow.Author.Needs.{needs}
+use denote.Ref.{now}
+use lib.Dec.{eqb}
+use lib.ListN.{length, getD, drop}
+use Rattle.sheet.specs.Walk.{noLevel, levelThere, levelThen}
+use Rattle.sheet.proofs.LevelLaws.{Digits, digits-start, digits-out, digits-low, digits-high, digits-none, digits-end, digits-zero, digits-large, digits-on, then-off}
+use Rattle.sheet.proofs.field.level_then.Statement.{statement}
+use Rattle.sheet.proofs.field.level_then.Tie as tie
+
+abbrev Inv-loop : tie.InvT-loop
+Inv-loop text start stop at₀ v₀ at v = Digits text start at v
+
+abbrev μ-loop : tie.MeasureT-loop
+μ-loop text start stop at₀ v₀ at v = length text - at
+
+-- the byte that ends the digits is the one asked for
+ends : (x stop : ℕ) → x ≡ stop → (eqb stop 9 || eqb stop 10) ≡ true → (eqb x 9 || eqb x 10) ≡ true
+ends x stop e h = rw e h
+
+loop-holds : tie.Need-loop-holds Inv-loop μ-loop
+loop-holds c = digits-start (now (c .before .args .text)) (c .before .args .start)
+
+shared-slice-read-x : tie.Need-shared-slice-read-x Inv-loop μ-loop
+shared-slice-read-x c = omega arith
+
+no-level-requires : tie.Need-no-level-requires Inv-loop μ-loop
+no-level-requires c κs = search needs
+
+returns : tie.Need-returns Inv-loop μ-loop
+returns c =
+    let b = c .before .before .before .before .before in
+    let s = b .before .before .args in
+    let bad = digits-low (now (s .text)) (s .start) (b .loop .at) (b .loop .v) (s .stop) (b .loop .inv) (omega arith) (omega arith) (c .before .if2 .taken) in
+    c .no-level .ensures ∙ sym (then-off (s .stop) (s .start) (drop (s .start) (now (s .text))) bad)
+
+no-level-requires-2 : tie.Need-no-level-requires-2 Inv-loop μ-loop
+no-level-requires-2 c κs = search needs
+
+returns-2 : tie.Need-returns-2 Inv-loop μ-loop
+returns-2 c =
+    let e = c .before .before in
+    let b = e .before .before .before .before in
+    let s = b .before .before .args in
+    let x = getD (now (s .text)) (b .loop .at) 0 in
+    let bad = digits-none (now (s .text)) (s .start) (b .loop .at) (b .loop .v) (s .stop) (b .loop .inv) (omega arith) (ends x (s .stop) (e .if2 .left) (b .before .before .pre)) (omega arith) in
+    c .no-level2 .ensures ∙ sym (then-off (s .stop) (s .start) (drop (s .start) (now (s .text))) bad)
+
+add-t12 : tie.Need-add-t12 Inv-loop μ-loop
+add-t12 c = omega arith
+
+cast-t13 : tie.Need-cast-t13 Inv-loop μ-loop
+cast-t13 c = omega (arith, c .before .before .before .before .before .loop .inv .small)
+
+returns-3 : tie.Need-returns-3 Inv-loop μ-loop
+returns-3 c =
+    let e = c .before in
+    let b = e .before .before .before .before in
+    let s = b .before .before .args in
+    let x = getD (now (s .text)) (b .loop .at) 0 in
+    digits-end (now (s .text)) (s .start) (b .loop .at) (b .loop .v) (s .stop) (b .loop .inv) (omega arith) (ends x (s .stop) (e .if2 .left) (b .before .before .pre)) (e .if2 .left) (omega arith)
+
+no-level-requires-3 : tie.Need-no-level-requires-3 Inv-loop μ-loop
+no-level-requires-3 c κs = search needs
+
+returns-4 : tie.Need-returns-4 Inv-loop μ-loop
+returns-4 c =
+    let b = c .before .before .before .before .before in
+    let s = b .before .before .args in
+    let bad = digits-high (now (s .text)) (s .start) (b .loop .at) (b .loop .v) (s .stop) (b .loop .inv) (omega arith) (omega arith) in
+    c .no-level3 .ensures ∙ sym (then-off (s .stop) (s .start) (drop (s .start) (now (s .text))) bad)
+
+mul-v : tie.Need-mul-v Inv-loop μ-loop
+mul-v c = omega (arith, c .before .before .before .before .loop .inv .small)
+
+cast-v : tie.Need-cast-v Inv-loop μ-loop
+cast-v c = omega arith
+
+add-v : tie.Need-add-v Inv-loop μ-loop
+add-v c = omega (arith, c .before .before .before .before .loop .inv .small)
+
+no-level-requires-4 : tie.Need-no-level-requires-4 Inv-loop μ-loop
+no-level-requires-4 c κs = search needs
+
+returns-5 : tie.Need-returns-5 Inv-loop μ-loop
+returns-5 c =
+    let b = c .before .before .before .before .before .before in
+    let s = b .before .before .args in
+    let bad = digits-zero (now (s .text)) (s .start) (b .loop .at) (b .loop .v) (s .stop) (b .loop .inv) (omega arith) (omega arith) (omega arith) (omega arith) in
+    c .no-level4 .ensures ∙ sym (then-off (s .stop) (s .start) (drop (s .start) (now (s .text))) bad)
+
+no-level-requires-5 : tie.Need-no-level-requires-5 Inv-loop μ-loop
+no-level-requires-5 c κs = search needs
+
+returns-6 : tie.Need-returns-6 Inv-loop μ-loop
+returns-6 c =
+    let b = c .before .before .before .before .before .before .before in
+    let s = b .before .before .args in
+    let bad = digits-large (now (s .text)) (s .start) (b .loop .at) (b .loop .v) (s .stop) (b .loop .inv) (omega arith) (omega arith) (omega arith) (omega arith) in
+    c .no-level5 .ensures ∙ sym (then-off (s .stop) (s .start) (drop (s .start) (now (s .text))) bad)
+
+add-at : tie.Need-add-at Inv-loop μ-loop
+add-at c = omega arith
+
+loop-less : tie.Need-loop-less Inv-loop μ-loop
+loop-less c = omega arith
+
+loop-again : tie.Need-loop-again Inv-loop μ-loop
+loop-again c =
+    let b = c .before .before .before .before .before .before in
+    let s = b .before .before .args in
+    digits-on (now (s .text)) (s .start) (b .loop .at) (b .loop .v) (s .stop) (b .loop .inv) (omega arith) (omega arith) (omega arith) (omega arith) (omega arith)
+
+no-level-requires-6 : tie.Need-no-level-requires-6 Inv-loop μ-loop
+no-level-requires-6 c κs = search needs
+
+returns-7 : tie.Need-returns-7 Inv-loop μ-loop
+returns-7 c =
+    let b = c .before .before in
+    let s = b .before .before .args in
+    let bad = digits-out (now (s .text)) (s .start) (b .loop .at) (b .loop .v) (s .stop) (b .loop .inv) (omega arith) in
+    c .no-level6 .ensures ∙ sym (then-off (s .stop) (s .start) (drop (s .start) (now (s .text))) bad)
+
+pub level-then-spec : {M : Type 1} → statement M
+level-then-spec =
+    tie.close
+    (tie.spec
+    Inv-loop
+    μ-loop
+    loop-holds
+    shared-slice-read-x
+    no-level-requires
+    returns
+    no-level-requires-2
+    returns-2
+    add-t12
+    cast-t13
+    returns-3
+    no-level-requires-3
+    returns-4
+    mul-v
+    cast-v
+    add-v
+    no-level-requires-4
+    returns-5
+    no-level-requires-5
+    returns-6
+    add-at
+    loop-less
+    loop-again
+    no-level-requires-6
+    returns-7)
