@@ -142,15 +142,15 @@ pub record FamilyFits (n size tableLength familyLength nameLength lengths : ℕ)
   pub few : size ≤ 32
   pub table : 2880 ≤ tableLength
   pub long : 7680 ≤ familyLength
-  pub room : 3072 ≤ nameLength
-  pub counted : 32 ≤ lengths
+  pub room : 96 * size ≤ nameLength
+  pub counted : size ≤ lengths
 
 pub family-fits : (n size t f r l : ℕ) → membersFit n size t f r l ≡ true → FamilyFits n size t f r l
 unfolding membersFit plotsWithin
 family-fits n size t f r l e =
     let p : Bool = ltb 0 n && leb n 240 in
-    let e1 = and-left (p && leb size 32 && leb 2880 t && leb 7680 f && leb 3072 r) (leb 32 l) e in
-    let e2 = and-left (p && leb size 32 && leb 2880 t && leb 7680 f) (leb 3072 r) e1 in
+    let e1 = and-left (p && leb size 32 && leb 2880 t && leb 7680 f && leb (96 * size) r) (leb size l) e in
+    let e2 = and-left (p && leb size 32 && leb 2880 t && leb 7680 f) (leb (96 * size) r) e1 in
     let e3 = and-left (p && leb size 32 && leb 2880 t) (leb 7680 f) e2 in
     let e4 = and-left (p && leb size 32) (leb 2880 t) e3 in
     let e5 = and-left p (leb size 32) e4 in
@@ -159,8 +159,8 @@ family-fits n size t f r l e =
       few = leb-true size 32 (and-right p (leb size 32) e4);
       table = leb-true 2880 t (and-right (p && leb size 32) (leb 2880 t) e3);
       long = leb-true 7680 f (and-right (p && leb size 32 && leb 2880 t) (leb 7680 f) e2);
-      room = leb-true 3072 r (and-right (p && leb size 32 && leb 2880 t && leb 7680 f) (leb 3072 r) e1);
-      counted = leb-true 32 l (and-right (p && leb size 32 && leb 2880 t && leb 7680 f && leb 3072 r) (leb 32 l) e);
+      room = leb-true (96 * size) r (and-right (p && leb size 32 && leb 2880 t && leb 7680 f) (leb (96 * size) r) e1);
+      counted = leb-true size l (and-right (p && leb size 32 && leb 2880 t && leb 7680 f && leb (96 * size) r) (leb size l) e);
     }
 
 module _ (text : List ℕ) (n size t f r l : ℕ) where

@@ -28,7 +28,7 @@ lengthsWritten f lengths (suc m) = set (lengthsWritten f lengths m) m (length (f
 unfoldable pub membersFit : ℕ → ℕ → ℕ → ℕ → ℕ → ℕ → Bool
 unfolding plotsWithin
 membersFit n size tableLength familyLength nameLength lengths =
-    plotsWithin n && leb size mostMembers && leb tableCells tableLength && leb familyBytes familyLength && leb (nameBytes * mostMembers) nameLength && leb mostMembers lengths
+    plotsWithin n && leb size mostMembers && leb tableCells tableLength && leb familyBytes familyLength && leb (nameBytes * size) nameLength && leb size lengths
 
 -- what the members of a family are named by: a first line of the form, and what fits it
 unfoldable pub familyNameable : List ℕ → ℕ → ℕ → ℕ → ℕ → ℕ → ℕ → Bool
@@ -49,8 +49,8 @@ nameBy names Cs n buffer i = bytesOf names (nameOf n Cs (suc i) (columnAt n buff
 pub record Slots (columns : List (List ℕ)) (buffer : List ℕ) (size : ℕ) (names lengths : List ℕ) : Type 0 where
   pub few : size ≤ 32
   pub long : 7680 ≤ length buffer
-  pub room : 3072 ≤ length names
-  pub counted : 32 ≤ length lengths
+  pub room : 96 * size ≤ length names
+  pub counted : size ≤ length lengths
   pub short : (c : ℕ) → length (getD columns c []) ≤ 12
 
 -- what is written where the members can be named, and what was there where they cannot

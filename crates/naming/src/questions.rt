@@ -14,9 +14,6 @@ use limits::MEMBERS;
 use limits::NAME;
 use limits::PLOTS;
 
-// Bytes for the names of a family's members.
-const NAMES: usize = NAME * MEMBERS;
-
 // Whether one member can be named: the plots and the lengths are in range, and it is on these plots.
 pub fn member_fits(plots: usize, levels: usize, name: usize, member: usize) -> bool
     ensures { λ r. ⌜ r ≡ memberFits plots levels name member ⌝ }
@@ -62,10 +59,10 @@ pub fn members_fit(
     if family < FAMILY {
         return false;
     }
-    if names < NAMES {
+    if names < NAME * size {
         return false;
     }
-    MEMBERS <= lengths
+    size <= lengths
 }
 
 // 6: are the plots, the place and the lengths in range?

@@ -1,180 +1,214 @@
 -- Laws of a walk over one level.
 -- Assumes nothing.
 use mathlib.Core.Path.{_≡_, refl, sym, ap, _∙_}
-use mathlib.Core.Bool.{true, false}
+use mathlib.Core.Bool.{true, false, _||_}
 use mathlib.Core.List.{List, [], _∷_}
-use Prim.Native.Nat.{ℕ, _+_, _-_, _*_, _≤_, _<_}
+use Prim.Native.Nat.{ℕ, zero, suc, _+_, _-_, _*_, _≤_, _<_}
 use native.Mathlib.Omega.{arith}
-use lib.Dec.{eqb}
-use lib.ListN.{length, getD, drop, length-drop}
-use borrow.Author.Tests.{ne-eqb, eqb-true, eqb-false, lt-leb}
+use native.Mathlib.Numerals.{add-one}
+use lib.Dec.{eqb, leb, ltb}
+use lib.ListN.{length, getD, drop}
+use borrow.Author.Tests.{ne-eqb, eqb-true, eqb-false, le-leb, leb-true, ltb-true, ltb-false}
 use Rattle.rules.specs.Sheet.{all, digit, decimal, decimalFrom, noLeadingZero, isLevel}
 use Rattle.rules.specs.Limits.{mostLevel}
 use Rattle.rules.proofs.Numbering.{by-cases}
 use Rattle.rules.proofs.Members.{clash}
-use Rattle.rules.proofs.Sheet.{and-left, decimal-grows, level-leading, level-digit, level-large, level-none, level-is, level-least, level-most}
-use Rattle.sheet.specs.Walk.{fieldOf, noLevel, levelAt}
+use Rattle.rules.proofs.Sheet.{and-left, and-right, decimal-grows, level-leading, level-digit, level-large, level-none, level-is}
+use Rattle.sheet.specs.Walk.{fieldOf, noLevel, levelThere, levelEnd, levelThen}
 use Rattle.sheet.specs.declared.field.FieldLevel.{FieldLevel}
-use Rattle.sheet.proofs.Walk.{field-none, field-tab, field-newline, field-on}
+use Rattle.sheet.proofs.Walk.{field-none, field-tab, field-newline, field-stop, field-on}
+use Rattle.sheet.proofs.RowLaws.{level-end-at, level-end-off, level-bad, level-far, level-other, level-good}
 
 -- ---- what is answered
 
-module _ (at : ℕ) (xs : List ℕ) where
-  pub level-off : isLevel (fieldOf xs) ≡ false → levelAt at xs ≡ noLevel
-  unfolding levelAt
-  level-off e = rw (e, levelAt)
+module _ (s at : ℕ) (xs : List ℕ) where
+  pub then-off : levelThere s xs ≡ false → levelThen s at xs ≡ noLevel
+  unfolding levelThen
+  then-off e = rw (e, levelThen)
 
-  pub level-on : isLevel (fieldOf xs) ≡ true → levelAt at xs ≡ record { end = at + length (fieldOf xs); level = decimal (fieldOf xs) }
-  unfolding levelAt
-  level-on e = rw (e, levelAt)
+  then-on : levelThere s xs ≡ true → levelThen s at xs ≡ record { end = at + suc (length (fieldOf xs)); level = decimal (fieldOf xs) }
+  unfolding levelThen
+  then-on e = rw (e, levelThen)
 
-  -- the number answered tells whether there is a level
-  module _ (r : FieldLevel) (e : r ≡ levelAt at xs) where
-    pub level-not : r .level ≡ 0 → isLevel (fieldOf xs) ≡ false
-    level-not z = by-cases (isLevel (fieldOf xs)) (λ l. absurd (no (level-least (fieldOf xs) l) (sym (ap (λ (r : FieldLevel). r .level) (e ∙ level-on l)) ∙ z))) (λ l. l)
-      where
-        no : 1 ≤ decimal (fieldOf xs) → decimal (fieldOf xs) ≡ 0 → ⊥
-        no h z = omega arith
+  module _ (r : FieldLevel) (e : r ≡ levelThen s at xs) where
+    pub then-end : r .end ≡ levelEnd s at xs
+    then-end =
+        by-cases (levelThere s xs)
+        (λ l. ap (λ (r : FieldLevel). r .end) (e ∙ then-on l) ∙ sym (level-end-at s at xs l))
+        (λ l. ap (λ (r : FieldLevel). r .end) (e ∙ then-off l) ∙ sym (level-end-off s at xs l))
 
-    pub level-yes : (r .level ≡ 0 → ⊥) → isLevel (fieldOf xs) ≡ true
-    level-yes n = by-cases (isLevel (fieldOf xs)) (λ l. l) (λ l. absurd (n (ap (λ (r : FieldLevel). r .level) (e ∙ level-off l))))
+    pub then-number : levelThere s xs ≡ true → r .level ≡ decimal (fieldOf xs)
+    then-number l = ap (λ (r : FieldLevel). r .level) (e ∙ then-on l)
 
-    pub level-ends : isLevel (fieldOf xs) ≡ true → r .end ≡ at + length (fieldOf xs)
-    level-ends l = ap (λ (r : FieldLevel). r .end) (e ∙ level-on l)
+-- ---- the least and the largest number that k digits write, the first of which is not 0
 
-    pub level-number : isLevel (fieldOf xs) ≡ true → r .level ≡ decimal (fieldOf xs)
-    level-number l = ap (λ (r : FieldLevel). r .level) (e ∙ level-on l)
+unfoldable pub least : ℕ → ℕ
+least zero = 0
+least (suc zero) = 1
+least (suc (suc k)) = 10 * least (suc k)
 
--- ---- the first byte of a level is a digit from 1 on
+unfoldable pub most : ℕ → ℕ
+most zero = 0
+most (suc k) = 10 * most k + 9
 
-module _ (text : List ℕ) (at : ℕ) where
-  pub none-left : length text ≤ at → levelAt at (drop at text) ≡ noLevel
-  unfolding decimalFrom
-  none-left h = level-off at (drop at text) (level-none (fieldOf (drop at text)) (rw (field-none text at h)))
+least-more : (k v d : ℕ) → least k ≤ v → (k ≡ 0 → 1 ≤ d) → least (suc k) ≤ 10 * v + d
+unfolding least
+least-more zero v d h f = omega (arith, f refl)
+least-more (suc k) v d h f = omega arith
 
-  pub first-low : at < length text → getD text at 0 < 49 → levelAt at (drop at text) ≡ noLevel
-  unfolding decimalFrom all noLeadingZero
-  first-low h l =
-      level-off at (drop at text)
-      (by-cases (eqb (getD text at 0) 9)
-      (λ e. level-none (fieldOf (drop at text)) (rw (field-tab text at h (eqb-true _ _ e))))
-      (λ e. by-cases (eqb (getD text at 0) 10)
-      (λ k. level-none (fieldOf (drop at text)) (rw (field-newline text at h (eqb-true _ _ k))))
-      (λ k. by-cases (eqb (getD text at 0) 48)
-      (λ z. level-leading (fieldOf (drop at text)) (rw (field-on text at h (eqb-false _ _ e) (eqb-false _ _ k), z)))
-      (λ z. let y = eqb-false (getD text at 0) 48 z in
-      level-digit (fieldOf (drop at text)) (rw (field-on text at h (eqb-false _ _ e) (eqb-false _ _ k), lt-leb 48 (getD text at 0) (omega arith)))))))
+most-four : (k : ℕ) → k < 5 → most k ≤ 9999
+unfolding most
+most-four zero h = omega arith
+most-four (suc zero) h = omega arith
+most-four (suc (suc zero)) h = omega arith
+most-four (suc (suc (suc zero))) h = omega arith
+most-four (suc (suc (suc (suc zero)))) h = omega arith
+most-four (suc (suc (suc (suc (suc k))))) h = absurd (no h)
+  where
+    no : suc (suc (suc (suc (suc k)))) < 5 → ⊥
+    no h = omega arith
 
--- ---- a walk over the field from `start` on, which starts as a level does: v is read, and the field from `at` on is left
+-- ---- the first byte
 
-pub record Digits (text : List ℕ) (start at v : ℕ) : Type 0 where
-  pub leading : noLeadingZero (fieldOf (drop start text)) ≡ true
-  pub least : 1 ≤ decimal (fieldOf (drop start text))
-  pub small : v ≤ mostLevel
-  pub size : at + length (fieldOf (drop at text)) ≡ start + length (fieldOf (drop start text))
-  pub digits : all digit (fieldOf (drop at text)) ≡ all digit (fieldOf (drop start text))
-  pub number : decimalFrom v (fieldOf (drop at text)) ≡ decimal (fieldOf (drop start text))
+pub none-left : (s : ℕ) (text : List ℕ) (start : ℕ) → length text ≤ start → levelThere s (drop start text) ≡ false
+none-left s text start h = level-far text start start s (let e = ap length (field-none text start h) in omega arith) h
 
-pub digits-start : (text : List ℕ) (start : ℕ) → start < length text → 49 ≤ getD text start 0 → Digits text start start 0
-unfolding noLeadingZero decimalFrom
-digits-start text start h l =
-    let x = getD text start 0 in
-    let f = field-on text start h (λ e. omega arith) (λ e. omega arith) in
-    let G = fieldOf (drop (start + 1) text) in
-    let g : 10 * 0 + (x - 48) ≤ decimalFrom 0 (x ∷ G) = decimal-grows (10 * 0 + (x - 48)) G in
+module _ (text : List ℕ) (start : ℕ) (h : start < length text) where
+  pub leading : getD text start 0 ≡ 48 → isLevel (fieldOf (drop start text)) ≡ false
+  unfolding noLeadingZero
+  leading e = level-leading (fieldOf (drop start text)) (rw (field-on text start h (λ z. omega arith) (λ z. omega arith), e))
+
+  not-leading : (getD text start 0 ≡ 48 → ⊥) → noLeadingZero (fieldOf (drop start text)) ≡ true
+  unfolding noLeadingZero
+  not-leading n =
+      by-cases (eqb (getD text start 0) 9)
+      (λ e. rw (field-tab text start h (eqb-true _ _ e)))
+      (λ e. by-cases (eqb (getD text start 0) 10)
+      (λ q. rw (field-newline text start h (eqb-true _ _ q)))
+      (λ q. rw (field-on text start h (eqb-false _ _ e) (eqb-false _ _ q), ne-eqb (getD text start 0) 48 n)))
+
+-- ---- a walk over the field from `start` on: k digits write v, and the field after them is left
+
+pub record Digits (text : List ℕ) (start k v : ℕ) : Type 0 where
+  pub low : (getD text start 0 ≡ 48 → ⊥) → least k ≤ v
+  pub high : v ≤ most k
+  pub size : start + k + length (fieldOf (drop (start + k) text)) ≡ start + length (fieldOf (drop start text))
+  pub digits : all digit (fieldOf (drop (start + k) text)) ≡ all digit (fieldOf (drop start text))
+  pub number : decimalFrom v (fieldOf (drop (start + k) text)) ≡ decimal (fieldOf (drop start text))
+
+pub digits-start : (text : List ℕ) (start : ℕ) → Digits text start 0 0
+unfolding least most
+digits-start text start =
+    let z : start + 0 ≡ start = omega arith in
     record {
-      leading = rw (f, ne-eqb x 48 (λ e. omega arith));
-      least = rw f (omega arith);
-      small = omega arith;
-      size = refl;
-      digits = refl;
-      number = refl;
+      low = λ n. omega arith;
+      high = omega arith;
+      size = rw z (omega arith);
+      digits = rw z;
+      number = rw z;
     }
 
-module _ (text : List ℕ) (start at v : ℕ) (d : Digits text start at v) where
-  -- the field is read
-  pub digits-end : fieldOf (drop at text) ≡ [] → record { end = at; level = v } ≡ levelAt start (drop start text)
-  unfolding all decimalFrom
-  digits-end e =
-      let a : all digit (fieldOf (drop start text)) ≡ true = sym (d .digits) ∙ rw e in
-      let n : v ≡ decimal (fieldOf (drop start text)) = rw e at (d .number) in
-      let s : at ≡ start + length (fieldOf (drop start text)) = omega (arith, d .size, ap length e) in
-      let l = level-is (fieldOf (drop start text)) (d .leading) a (d .least) (omega (arith, d .small)) in
-      rw (n, s) (sym (level-on start (drop start text) l))
+module _ (text : List ℕ) (start k v : ℕ) (d : Digits text start k v) where
+  -- up to four digits are small
+  pub digits-small : k < 5 → v ≤ 9999
+  digits-small h = omega (arith, most-four k h, d .high)
 
-  -- one byte more of it
-  module _ (h : at < length text) (p : getD text at 0 ≡ 9 → ⊥) (q : getD text at 0 ≡ 10 → ⊥) where
-    pub digits-stray : digit (getD text at 0) ≡ false → levelAt start (drop start text) ≡ noLevel
-    unfolding all
-    digits-stray b = level-off start (drop start text) (level-digit (fieldOf (drop start text)) (sym (d .digits) ∙ rw (field-on text at h p q, b)))
+  -- the field ends here
+  ended : fieldOf (drop (start + k) text) ≡ [] → start + k ≡ start + length (fieldOf (drop start text))
+  ended e = omega (arith, d .size, ap length e)
 
-    more : decimalFrom (10 * v + (getD text at 0 - 48)) (fieldOf (drop (at + 1) text)) ≡ decimal (fieldOf (drop start text))
+  read : fieldOf (drop (start + k) text) ≡ [] → v ≡ decimal (fieldOf (drop start text))
+  unfolding decimalFrom
+  read e = rw e at (d .number)
+
+  -- a byte more that is a digit
+  module _ (h : start + k < length text) (low : 48 ≤ getD text (start + k) 0) (high : getD text (start + k) 0 ≤ 57) where
+    on : fieldOf (drop (start + k) text) ≡ getD text (start + k) 0 ∷ fieldOf (drop (start + k + 1) text)
+    on = field-on text (start + k) h (λ e. omega arith) (λ e. omega arith)
+
+    more : decimalFrom (10 * v + (getD text (start + k) 0 - 48)) (fieldOf (drop (start + k + 1) text)) ≡ decimal (fieldOf (drop start text))
     unfolding decimalFrom
-    more = rw (field-on text at h p q) at (d .number)
+    more = rw on at (d .number)
 
-    pub digits-large : mostLevel < 10 * v + (getD text at 0 - 48) → levelAt start (drop start text) ≡ noLevel
-    digits-large l =
-        let g = decimal-grows (10 * v + (getD text at 0 - 48)) (fieldOf (drop (at + 1) text)) in
-        level-off start (drop start text) (level-large (fieldOf (drop start text)) (omega (arith, more)))
-
-    pub digits-on : digit (getD text at 0) ≡ true → 10 * v + (getD text at 0 - 48) ≤ mostLevel → Digits text start (at + 1) (10 * v + (getD text at 0 - 48))
-    unfolding all
-    digits-on b k =
-        let f = field-on text at h p q in
+    pub digits-on : Digits text start (k + 1) (10 * v + (getD text (start + k) 0 - 48))
+    unfolding all most
+    digits-on =
+        let z : start + (k + 1) ≡ start + k + 1 = omega arith in
         record {
-          leading = d .leading;
-          least = d .least;
-          small = k;
-          size = omega (arith, d .size, ap length f);
-          digits = sym (rw (f, b)) ∙ d .digits;
-          number = more;
+          low = λ n. rw add-one (least-more k v (getD text (start + k) 0 - 48) (d .low n) (λ e. first n e));
+          high = rw add-one (omega (arith, d .high));
+          size = rw z (omega (arith, d .size, ap length on));
+          digits = rw z (sym (rw (on, le-leb 48 (getD text (start + k) 0) low, le-leb (getD text (start + k) 0) 57 high)) ∙ d .digits);
+          number = rw z more;
         }
+      where
+        first : (getD text start 0 ≡ 48 → ⊥) → k ≡ 0 → 1 ≤ getD text (start + k) 0 - 48
+        first n e =
+            let z : start + k ≡ start = omega arith in
+            let x : getD text (start + k) 0 ≡ getD text start 0 = ap (λ (i : ℕ). getD text i 0) z in
+            by-cases (eqb (getD text (start + k) 0) 48)
+            (λ q. absurd (n (sym x ∙ eqb-true _ _ q)))
+            (λ q. let y = eqb-false (getD text (start + k) 0) 48 q in omega arith)
 
--- ---- the same walk over a level that is there, with a byte after it
+  -- what comes after the digits
+  module _ (s : ℕ) where
+    -- the text's end
+    pub digits-out : length text ≤ start + k → levelThere s (drop start text) ≡ false
+    digits-out h = level-far text start (start + k) s (ended (field-none text (start + k) h)) h
 
-module _ (text : List ℕ) (start : ℕ) (l : isLevel (fieldOf (drop start text)) ≡ true) (i : length (fieldOf (drop start text)) < length (drop start text)) where
-  all-digits : all digit (fieldOf (drop start text)) ≡ true
-  all-digits = by-cases (all digit (fieldOf (drop start text))) (λ e. e) (λ e. clash l (level-digit (fieldOf (drop start text)) e))
-
-  pub known-start : Digits text start start 0
-  known-start = record {
-    leading = by-cases (noLeadingZero (fieldOf (drop start text))) (λ e. e) (λ e. clash l (level-leading (fieldOf (drop start text)) e));
-    least = level-least (fieldOf (drop start text)) l;
-    small = omega arith;
-    size = refl;
-    digits = refl;
-    number = refl;
-  }
-
-  module _ (at v : ℕ) (d : Digits text start at v) where
-    pub known-inside : at < length text
-    known-inside = omega (arith, d .size, length-drop start text)
-
-    -- the level is read
-    pub known-end : getD text at 0 < 48 → record { end = at; level = v } ≡ levelAt start (drop start text)
-    unfolding all
-    known-end h =
-        digits-end text start at v d
-        (by-cases (eqb (getD text at 0) 9)
-        (λ e. field-tab text at known-inside (eqb-true _ _ e))
-        (λ e. by-cases (eqb (getD text at 0) 10)
-        (λ k. field-newline text at known-inside (eqb-true _ _ k))
-        (λ k. clash (d .digits ∙ all-digits) (rw (field-on text at known-inside (eqb-false _ _ e) (eqb-false _ _ k), lt-leb 48 (getD text at 0) h)))))
-
-    -- one digit more of it
-    module _ (h : 48 ≤ getD text at 0) where
-      here : fieldOf (drop at text) ≡ getD text at 0 ∷ fieldOf (drop (at + 1) text)
-      here = field-on text at known-inside (λ e. omega arith) (λ e. omega arith)
-
-      is-digit : digit (getD text at 0) ≡ true
+    module _ (h : start + k < length text) where
+      -- a byte of the field that is no digit
+      stray : (getD text (start + k) 0 ≡ 9 → ⊥) → (getD text (start + k) 0 ≡ 10 → ⊥) → digit (getD text (start + k) 0) ≡ false → levelThere s (drop start text) ≡ false
       unfolding all
-      is-digit = and-left (digit (getD text at 0)) (all digit (fieldOf (drop (at + 1) text))) (rw here at (d .digits) ∙ all-digits)
+      stray p q b = level-bad s start (drop start text) (level-digit (fieldOf (drop start text)) (sym (d .digits) ∙ rw (field-on text (start + k) h p q, b)))
 
-      pub known-small : 10 * v + (getD text at 0 - 48) ≤ mostLevel
-      unfolding decimalFrom
-      known-small =
-          let m : decimalFrom (10 * v + (getD text at 0 - 48)) (fieldOf (drop (at + 1) text)) ≡ decimal (fieldOf (drop start text)) = rw here at (d .number) in
-          omega (arith, m, decimal-grows (10 * v + (getD text at 0 - 48)) (fieldOf (drop (at + 1) text)), level-most (fieldOf (drop start text)) l)
+      -- a sixth digit
+      sixth : k ≡ 5 → digit (getD text (start + k) 0) ≡ true → levelThere s (drop start text) ≡ false
+      unfolding least
+      sixth e b =
+          let lo = leb-true 48 (getD text (start + k) 0) (and-left (leb 48 (getD text (start + k) 0)) (leb (getD text (start + k) 0) 57) b) in
+          let hi = leb-true (getD text (start + k) 0) 57 (and-right (leb 48 (getD text (start + k) 0)) (leb (getD text (start + k) 0) 57) b) in
+          level-bad s start (drop start text)
+          (by-cases (eqb (getD text start 0) 48)
+          (λ q. zero-first (eqb-true _ _ q))
+          (λ q. let big : 10000 ≤ v = rw e at (d .low (eqb-false _ _ q)) in
+          level-large (fieldOf (drop start text)) (omega (arith, more h lo hi, decimal-grows (10 * v + (getD text (start + k) 0 - 48)) (fieldOf (drop (start + k + 1) text))))))
+        where
+          zero-first : getD text start 0 ≡ 48 → isLevel (fieldOf (drop start text)) ≡ false
+          zero-first q = leading text start (omega arith) q
 
-      pub known-on : Digits text start (at + 1) (10 * v + (getD text at 0 - 48))
-      known-on = digits-on text start at v d known-inside (λ e. omega arith) (λ e. omega arith) is-digit known-small
+      -- not the byte asked for
+      pub digits-other : (k < 5 → digit (getD text (start + k) 0) ≡ false) → k ≤ 5 → (getD text (start + k) 0 ≡ s → ⊥) → levelThere s (drop start text) ≡ false
+      digits-other f l n =
+          by-cases (eqb (getD text (start + k) 0) 9)
+          (λ e. level-other text start (start + k) s (ended (field-tab text (start + k) h (eqb-true _ _ e))) n)
+          (λ e. by-cases (eqb (getD text (start + k) 0) 10)
+          (λ q. level-other text start (start + k) s (ended (field-newline text (start + k) h (eqb-true _ _ q))) n)
+          (λ q. by-cases (digit (getD text (start + k) 0))
+          (λ b. sixth (five b) b)
+          (λ b. stray (eqb-false _ _ e) (eqb-false _ _ q) b)))
+        where
+          five : digit (getD text (start + k) 0) ≡ true → k ≡ 5
+          five b = by-cases (ltb k 5) (λ t. clash b (f (ltb-true k 5 t))) (λ t. let y = ltb-false k 5 t in omega arith)
+
+      -- the byte asked for
+      module _ (b : (eqb (getD text (start + k) 0) 9 || eqb (getD text (start + k) 0) 10) ≡ true) where
+        pub digits-none : v < 1 → levelThere s (drop start text) ≡ false
+        digits-none l =
+            let n = read (field-stop text (start + k) h b) in
+            level-bad s start (drop start text) (level-none (fieldOf (drop start text)) (omega arith))
+
+        pub digits-large : mostLevel < v → levelThere s (drop start text) ≡ false
+        digits-large l =
+            let n = read (field-stop text (start + k) h b) in
+            level-bad s start (drop start text) (level-large (fieldOf (drop start text)) (omega arith))
+
+        pub digits-end : getD text (start + k) 0 ≡ s → (getD text start 0 ≡ 48 → ⊥) → 1 ≤ v → v ≤ mostLevel → record { end = start + k + 1; level = v } ≡ levelThen s start (drop start text)
+        unfolding all
+        digits-end e z l m =
+            let f = field-stop text (start + k) h b in
+            let n = read f in
+            let a : all digit (fieldOf (drop start text)) ≡ true = sym (d .digits) ∙ rw f in
+            let good = level-is (fieldOf (drop start text)) (not-leading text start (omega arith) z) a (omega arith) (omega arith) in
+            let q : start + k + 1 ≡ start + suc (length (fieldOf (drop start text))) = omega (arith, ended f) in
+            rw (n, q) (sym (then-on s start (drop start text) (level-good text start (start + k) s (ended f) h e good)))

@@ -1,8 +1,7 @@
 pub mod Walk
 pub mod Stops
-pub mod LevelLaws
-pub mod DigitLaws
 pub mod RowLaws
+pub mod LevelLaws
 pub mod StoreLaws
 pub mod HeaderLaws
 pub mod NameLaws

@@ -1,11 +1,11 @@
 -- Laws of a walk over the later lines.
 -- Assumes nothing.
 use mathlib.Core.Path.{_≡_, refl, sym, ap, _∙_}
-use mathlib.Core.Bool.{Bool, true, false, _&&_}
+use mathlib.Core.Bool.{Bool, true, false, _&&_, _||_}
 use mathlib.Core.List.{List, [], _∷_}
-use Prim.Native.Nat.{ℕ, suc, _+_, _≤_, _<_}
+use Prim.Native.Nat.{ℕ, zero, suc, _+_, _≤_, _<_}
 use native.Mathlib.Omega.{arith}
-use native.Mathlib.Nat.{add-zero}
+use native.Mathlib.Nat.{add-zero, not-suc-le-zero}
 use lib.Dec.{eqb, ltb}
 use lib.ListN.{length, getD, drop, drop-of-length-le, length-drop}
 use lib.Seq.{drop-cons, drop-drop}
@@ -14,7 +14,7 @@ use Rattle.rules.specs.Sheet.{Field, Line, upTo, past, has, fields, lines, all,
 use Rattle.rules.proofs.Numbering.{by-cases}
 use Rattle.rules.proofs.Members.{clash}
 use Rattle.rules.proofs.Sheet.{and-false, fields-some}
-use Rattle.sheet.specs.Walk.{fieldOf, levelThere, levelEnd, rowThere, rowEnd}
+use Rattle.sheet.specs.Walk.{fieldOf, levelThere, levelEnd, stopBefore, rowThere, rowEnd}
 use Rattle.sheet.specs.Answers.{judged}
 use Rattle.sheet.proofs.Stops.{AtTab, AtNewline, Stop, at-tab, at-newline, at-end, stop, field-byte, past-drop, lines-cons}
 
@@ -115,7 +115,7 @@ row-last xs = go (stop xs)
     go (at-end r) = rw (r .ends, le-ltb _ _ (r .all-of-it))
 
 -- where it ends
-row-end-is : (n at : ℕ) (xs : List ℕ) → rowThere n xs ≡ true → rowEnd n at xs ≡ at + suc (length (upTo 10 xs))
+pub row-end-is : (n at : ℕ) (xs : List ℕ) → rowThere n xs ≡ true → rowEnd n at xs ≡ at + suc (length (upTo 10 xs))
 unfolding rowEnd
 row-end-is n at xs e = rw (e, rowEnd)
 
@@ -183,6 +183,29 @@ module _ (m at : ℕ) (text : List ℕ) where
       go (at-tab s) = by-cases (rowThere (suc m) (drop r text)) (same s) (λ d. row-end-no (suc (suc m)) at xs (turn ∙ d) ∙ sym (row-end-no (suc m) r (drop r text) d))
       go (at-newline s) = clash there (not-there 9 at xs (λ h e. omega (arith, s .byte)))
       go (at-end s) = clash there (not-there 9 at xs (λ h e. omega (arith, s .all-of-it)))
+
+-- ---- what is left of a line: m levels from `at` on, after which it ends at E
+
+pub stop-known : (m : ℕ) → (eqb (stopBefore m) 9 || eqb (stopBefore m) 10) ≡ true
+stop-known zero = refl
+stop-known (suc m) = refl
+
+abbrev pub Rest : ℕ → List ℕ → ℕ → ℕ → Type 0
+Rest zero text at E = at ≡ E
+Rest (suc m) text at E = rowEnd (suc m) at (drop at text) ≡ E
+
+pub rest-start : (n : ℕ) (text : List ℕ) (start : ℕ) → 1 ≤ n → Rest n text start (rowEnd n start (drop start text))
+rest-start zero text start h = absurd (not-suc-le-zero h)
+rest-start (suc n) text start h = refl
+
+module _ (text : List ℕ) (at E r : ℕ) where
+  pub rest-off : (m : ℕ) → r ≡ levelEnd (stopBefore m) at (drop at text) → r ≡ 0 → Rest (suc m) text at E → 0 ≡ E
+  rest-off zero e z l = sym z ∙ e ∙ sym (row-end-last at (drop at text)) ∙ l
+  rest-off (suc m) e z l = sym (row-off m at text (sym e ∙ z)) ∙ l
+
+  pub rest-on : (m : ℕ) → r ≡ levelEnd (stopBefore m) at (drop at text) → (r ≡ 0 → ⊥) → Rest (suc m) text at E → Rest m text r E
+  rest-on zero e n l = e ∙ sym (row-end-last at (drop at text)) ∙ l
+  rest-on (suc m) e n l = sym (row-on m at text r e n) ∙ l
 
 -- ---- all lines
 

@@ -7,29 +7,19 @@ use Prim.Native.Nat.{ℕ, zero, suc, _+_, _*_, _≤_, _<_}
 use native.Mathlib.Omega.{arith}
 use native.Mathlib.Nat.{not-suc-le-zero, le-of-suc-le-suc}
 use native.Mathlib.Numerals.{add-one}
-use lib.Dec.{eqb, ltb}
+use lib.Dec.{ltb}
 use lib.ListN.{length, getD, drop, set}
-use borrow.Author.Tests.{ltb-true, ltb-false}
+use lib.Seq.{drop-drop}
+use borrow.Author.Tests.{ltb-true}
 use Rattle.rules.specs.Sheet.{Field, Line, upTo, has, fields, lines, all, isLevel, decimal, withPlot, withPlots, isPlotLine}
 use Rattle.rules.proofs.Sheet.{and-left, and-right}
 use Rattle.rules.proofs.Members.{clash}
 use Rattle.rules.proofs.Numbering.{by-cases}
 use Rattle.sheet.specs.Walk.{fieldOf, levelThere, rowThere, isPlace}
-use Rattle.sheet.proofs.Stops.{AtTab, AtNewline, Stop, at-tab, at-newline, at-end, stop, field-next}
+use Rattle.sheet.proofs.Stops.{AtTab, AtNewline, Stop, at-tab, at-newline, at-end, stop}
 use Rattle.sheet.proofs.RowLaws.{row-turn, row-last, not-there, lines-turn, lines-none}
 
 -- ---- a level that is there
-
-module _ (s : ℕ) (xs : List ℕ) (e : levelThere s xs ≡ true) where
-  there-less : length (fieldOf xs) < length xs
-  unfolding levelThere
-  there-less = ltb-true (length (fieldOf xs)) (length xs)
-      (and-left (ltb (length (fieldOf xs)) (length xs)) (eqb (getD xs (length (fieldOf xs)) 0) s)
-      (and-left (ltb (length (fieldOf xs)) (length xs) && eqb (getD xs (length (fieldOf xs)) 0) s) (isLevel (fieldOf xs)) e))
-
-  there-level : isLevel (fieldOf xs) ≡ true
-  unfolding levelThere
-  there-level = and-right (ltb (length (fieldOf xs)) (length xs) && eqb (getD xs (length (fieldOf xs)) 0) s) (isLevel (fieldOf xs)) e
 
 there-tab : (xs : List ℕ) → levelThere 9 xs ≡ true → AtTab xs
 there-tab xs e = go (stop xs)
@@ -47,27 +37,16 @@ there-newline xs e = go (stop xs)
     go (at-newline r) = r
     go (at-end r) = clash e (not-there 10 0 xs (λ h b. omega (arith, r .all-of-it)))
 
--- ---- what is left of a line: m fields, to be stored in the columns cs, whole work W, end E
+-- ---- what is left of a line: m fields, to be stored in the columns cs, whole work W
 
-abbrev pub Left : ℕ → List ℕ → ℕ → List ℕ → ℕ → List ℕ → List ℕ → ℕ → Type 0
-Left zero cs u xs at levels W E = (levels ≡ W) × (at ≡ E)
-Left (suc m) cs u xs at levels W E =
-    (rowThere (suc m) xs ≡ true) × (withPlot cs u (fields (upTo 10 xs)) levels ≡ W) × (at + suc (length (upTo 10 xs)) ≡ E)
+abbrev pub Left : ℕ → List ℕ → ℕ → List ℕ → List ℕ → List ℕ → Type 0
+Left zero cs u xs levels W = levels ≡ W
+Left (suc m) cs u xs levels W = (rowThere (suc m) xs ≡ true) × (withPlot cs u (fields (upTo 10 xs)) levels ≡ W)
 
-pub left-start : (n : ℕ) (cs : List ℕ) (u : ℕ) (xs : List ℕ) (at : ℕ) (levels : List ℕ) → 1 ≤ n → rowThere n xs ≡ true
-    → Left n cs u xs at levels (withPlot cs u (fields (upTo 10 xs)) levels) (at + suc (length (upTo 10 xs)))
-left-start zero cs u xs at levels h e = absurd (not-suc-le-zero h)
-left-start (suc n) cs u xs at levels h e = (e, refl, refl)
-
--- the field at hand is inside the text
-pub left-inside : (m : ℕ) (xs : List ℕ) → rowThere (suc m) xs ≡ true → length (fieldOf xs) < length xs
-left-inside zero xs e = there-less 10 xs (sym (row-last xs) ∙ e)
-left-inside (suc m) xs e = there-less 9 xs (and-left (levelThere 9 xs) _ (sym (row-turn m xs) ∙ e))
-
--- it is a level
-pub left-level : (m : ℕ) (xs : List ℕ) → rowThere (suc m) xs ≡ true → isLevel (fieldOf xs) ≡ true
-left-level zero xs e = there-level 10 xs (sym (row-last xs) ∙ e)
-left-level (suc m) xs e = there-level 9 xs (and-left (levelThere 9 xs) _ (sym (row-turn m xs) ∙ e))
+pub left-start : (n : ℕ) (cs : List ℕ) (u : ℕ) (xs : List ℕ) (levels : List ℕ) → 1 ≤ n → rowThere n xs ≡ true
+    → Left n cs u xs levels (withPlot cs u (fields (upTo 10 xs)) levels)
+left-start zero cs u xs levels h e = absurd (not-suc-le-zero h)
+left-start (suc n) cs u xs levels h e = (e, refl)
 
 no-fields : (cs : List ℕ) (u : ℕ) (levels : List ℕ) → withPlot cs u [] levels ≡ levels
 unfolding withPlot
@@ -78,28 +57,24 @@ one-field : (c : ℕ) (cs : List ℕ) (u : ℕ) (f : Field) (fs : List Field) (l
 unfolding withPlot
 one-field c cs u f fs levels = refl
 
-module _ (c : ℕ) (cs : List ℕ) (u : ℕ) (text : List ℕ) (at e : ℕ) (levels W : List ℕ) (E : ℕ) (d : e ≡ at + length (fieldOf (drop at text))) where
+module _ (c : ℕ) (cs : List ℕ) (u : ℕ) (text : List ℕ) (at r : ℕ) (levels W : List ℕ) (d : r ≡ at + suc (length (fieldOf (drop at text)))) where
+  next : drop (suc (length (fieldOf (drop at text)))) (drop at text) ≡ drop r text
+  next = drop-drop (suc (length (fieldOf (drop at text)))) at text ∙ ap (λ (k : ℕ). drop k text) (sym d)
+
   -- a turn: one field is stored
-  pub left-turn : (m : ℕ) → Left (suc m) (c ∷ cs) u (drop at text) at levels W E
-      → Left m cs u (drop (e + 1) text) (e + 1) (set levels (240 * c + u) (decimal (fieldOf (drop at text)))) W E
+  pub left-turn : (m : ℕ) → Left (suc m) (c ∷ cs) u (drop at text) levels W
+      → Left m cs u (drop r text) (set levels (240 * c + u) (decimal (fieldOf (drop at text)))) W
   left-turn zero l =
       let h : levelThere 10 (drop at text) ≡ true = sym (row-last (drop at text)) ∙ l .0 in
-      let r = there-newline (drop at text) h in
-      let w = rw (r .parts) at (l .1) in (
-        sym (no-fields cs u (set levels (240 * c + u) (decimal (fieldOf (drop at text)))))
-            ∙ sym (one-field c cs u (fieldOf (drop at text)) [] levels) ∙ w,
-        omega (arith, l .2, r .size),
-      )
+      let w = rw (there-newline (drop at text) h .parts) at (l .1) in
+      sym (no-fields cs u (set levels (240 * c + u) (decimal (fieldOf (drop at text)))))
+      ∙ sym (one-field c cs u (fieldOf (drop at text)) [] levels) ∙ w
   left-turn (suc m) l =
       let both : levelThere 9 (drop at text) && rowThere (suc m) (drop (suc (length (fieldOf (drop at text)))) (drop at text)) ≡ true = sym (row-turn m (drop at text)) ∙ l .0 in
       let h : levelThere 9 (drop at text) ≡ true = and-left (levelThere 9 (drop at text)) _ both in
-      let r = there-tab (drop at text) h in
       let there = and-right (levelThere 9 (drop at text)) (rowThere (suc m) (drop (suc (length (fieldOf (drop at text)))) (drop at text))) both in
-      let w = rw (r .parts, field-next text at e d) at (l .1) in (
-        rw (field-next text at e d) at there,
-        sym (one-field c cs u (fieldOf (drop at text)) (fields (upTo 10 (drop (e + 1) text))) levels) ∙ w,
-        omega (arith, l .2, rw (field-next text at e d) at (r .size)),
-      )
+      let w = rw (there-tab (drop at text) h .parts, next) at (l .1) in
+      (rw next at there, sym (one-field c cs u (fieldOf (drop at text)) (fields (upTo 10 (drop r text))) levels) ∙ w)
 
 -- a column of the level table
 pub place-at : (cs : List ℕ) (i : ℕ) → all isPlace cs ≡ true → i < length cs → getD cs i 0 < 12
@@ -121,37 +96,28 @@ pub record More (cs : List ℕ) (n u plots : ℕ) (text : List ℕ) (at : ℕ) (
   pub work : withPlots cs u (lines (drop at text)) levels ≡ W
 
 module _ (cs : List ℕ) (n u plots : ℕ) (text : List ℕ) (at : ℕ) (levels W : List ℕ) (m : More cs n u plots text at levels W) where
-  pub more-none : plots ≤ u → levels ≡ W
-  more-none h = none (lines (drop at text)) refl
-    where
-      none : (ls : List Line) → lines (drop at text) ≡ ls → levels ≡ W
-      none [] e = sym (no-lines cs u levels) ∙ (rw e at (m .work))
-      none (l ∷ ls) e = absurd (no (ap length e))
-        where
-          no : length (lines (drop at text)) ≡ suc (length ls) → ⊥
-          no k = omega (arith, m .counted)
+  pub more-none : length text ≤ at → levels ≡ W
+  more-none h = sym (no-lines cs u levels) ∙ (rw (lines-none text at h) at (m .work))
 
-  more-inside : u < plots → at < length text
-  more-inside h = by-cases (ltb at (length text)) (λ e. ltb-true at (length text) e) (λ e. absurd (no (ap length (lines-none text at (ltb-false at (length text) e)))))
-    where
-      no : length (lines (drop at text)) ≡ 0 → ⊥
-      no k = omega (arith, m .counted)
+  module _ (inside : at < length text) where
+    abbrev first : Line
+    first = record { bytes = upTo 10 (drop at text); ended = has 10 (drop at text) }
 
-  abbrev first : Line
-  first = record { bytes = upTo 10 (drop at text); ended = has 10 (drop at text) }
+    pub more-plot : u < plots
+    more-plot = let k = ap length (lines-turn text at inside) in omega (arith, m .counted)
 
-  pub more-form : u < plots → rowThere n (drop at text) ≡ true
-  unfolding isPlotLine rowThere all
-  more-form h = and-left (isPlotLine n first) _ (rw (lines-turn text at (more-inside h)) at (m .form))
+    pub more-form : rowThere n (drop at text) ≡ true
+    unfolding isPlotLine rowThere all
+    more-form = and-left (isPlotLine n first) _ (rw (lines-turn text at inside) at (m .form))
 
-  pub more-turn : u < plots → (r : ℕ) (next : List ℕ) → r ≡ at + suc (length (upTo 10 (drop at text))) → next ≡ withPlot cs u (fields (upTo 10 (drop at text))) levels
-      → More cs n (u + 1) plots text r next W
-  unfolding all withPlots
-  more-turn h r next e w = record {
-    counted = let k = ap length turn in omega (arith, m .counted);
-    form = and-right (isPlotLine n first) (all (isPlotLine n) (lines (drop r text))) (rw turn at (m .form));
-    work = rw (w, add-one) (rw turn at (m .work));
-  }
-    where
-      turn : lines (drop at text) ≡ first ∷ lines (drop r text)
-      turn = rw e (lines-turn text at (more-inside h))
+    pub more-turn : (r : ℕ) (next : List ℕ) → r ≡ at + suc (length (upTo 10 (drop at text))) → next ≡ withPlot cs u (fields (upTo 10 (drop at text))) levels
+        → More cs n (u + 1) plots text r next W
+    unfolding all withPlots
+    more-turn r next e w = record {
+      counted = let k = ap length turn in omega (arith, m .counted);
+      form = and-right (isPlotLine n first) (all (isPlotLine n) (lines (drop r text))) (rw turn at (m .form));
+      work = rw (w, add-one) (rw turn at (m .work));
+    }
+      where
+        turn : lines (drop at text) ≡ first ∷ lines (drop r text)
+        turn = rw e (lines-turn text at inside)

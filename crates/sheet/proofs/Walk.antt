@@ -1,7 +1,7 @@
 -- Laws of the steps of a walk over a text.
 -- Assumes nothing.
 use mathlib.Core.Path.{_≡_, ap}
-use mathlib.Core.Bool.{_&&_}
+use mathlib.Core.Bool.{true, _&&_, _||_}
 use mathlib.Core.List.{List, [], _∷_}
 use Prim.Native.Nat.{ℕ, _+_, _≤_, _<_}
 use native.Mathlib.Omega.{arith}
@@ -27,6 +27,10 @@ module _ (xs : List ℕ) (at : ℕ) where
   pub field-newline : at < length xs → getD xs at 0 ≡ 10 → fieldOf (drop at xs) ≡ []
   unfolding fieldOf
   field-newline h e = rw (drop-cons xs at 0 h, e)
+
+  pub field-stop : at < length xs → (eqb (getD xs at 0) 9 || eqb (getD xs at 0) 10) ≡ true → fieldOf (drop at xs) ≡ []
+  unfolding fieldOf
+  field-stop h e = rw (drop-cons xs at 0 h, e, fieldOf)
 
   pub field-on : at < length xs → (getD xs at 0 ≡ 9 → ⊥) → (getD xs at 0 ≡ 10 → ⊥) → fieldOf (drop at xs) ≡ getD xs at 0 ∷ fieldOf (drop (at + 1) xs)
   unfolding fieldOf

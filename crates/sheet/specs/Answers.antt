@@ -1,7 +1,7 @@
 -- The structs and enums that the functions answer, by the rules' definitions.
 -- Assumes nothing.
 use mathlib.Core.Bool.{true, false, _&&_}
-use mathlib.Core.List.{List}
+use mathlib.Core.List.{List, []}
 use Prim.Native.Nat.{ℕ, suc, _+_}
 use lib.ListN.{length}
 use Rattle.rules.specs.Sheet.{Line, newline, plotMark, treatmentMark, all, has, upTo, isColumn, countKind, header, isPlotLine, question3, Outcome, read, refused}
@@ -38,3 +38,8 @@ headed text = elim (question3 text) [
 abbrev pub outcomeOf : Reading → Outcome
 outcomeOf (Read c) = read (c .plots) (c .«plot_columns») (c .«treatment_columns»)
 outcomeOf (Refused q) = refused q
+
+-- the table after a reading into a table of one's own: nothing is said of it after a refusal
+abbrev pub whenRead : Outcome → List ℕ → List ℕ
+whenRead (read n p t) levels = levels
+whenRead (refused q) levels = []

@@ -1,12 +1,16 @@
 // Fields: where one ends, and whether it is a level, a name or a column.
 ghost use mathlib.Core.Path.{_≡_};
-ghost use mathlib.Core.Bool.{true};
-ghost use Prim.Native.Nat.{_+_, _≤_, _<_};
+ghost use mathlib.Core.Bool.{true, _||_};
+ghost use Prim.Native.Nat.{_+_, _≤_, min};
+ghost use lib.Dec.{eqb};
 ghost use lib.ListN.{length, drop};
 ghost use lib.Seq.{slice};
-ghost use Rattle.rules.specs.Sheet.{all, digit, decimal, isLevel, letter as isLetter, letterOrDigit, isName, isColumn, sameBytes};
-ghost use Rattle.sheet.specs.Walk.{fieldOf, digitsOf, FiveDigits, levelAt, noLevel, isMark};
+ghost use Rattle.rules.specs.Sheet.{tab, newline, letter as isLetter, letterOrDigit, isName, isColumn, sameBytes};
+ghost use Rattle.sheet.specs.Walk.{fieldOf, levelThen, noLevel, isMark};
 use limits::LEVEL;
+
+// Digits of the largest level.
+const DIGITS: usize = 5;
 
 // The end of the field that starts at `at`: the place of the next byte 9 or 10, or the text's length.
 pub fn end_of(text: &[u8], start: usize) -> usize
@@ -26,127 +30,72 @@ pub fn end_of(text: &[u8], start: usize) -> usize
     at
 }
 
-// The end of the digits that start at `start`: the place of the next byte that is no digit, or the text's length.
-pub fn digits_end(text: &[u8], start: usize) -> usize
-    ensures { λ r. ⌜ r ≡ start + length (digitsOf (drop start (now (text .entry)))) ⌝ }
-{
-    let mut at = start;
-    while at < text.len() {
-        let x = text[at];
-        if x < b'0' {
-            break;
-        }
-        if b'9' < x {
-            break;
-        }
-        at += 1;
-    }
-    at
-}
-
-// The level of a field, and the field's end; 0 and 0 for a field that is no level.
+// A level and the place after the byte that follows it; 0 and 0 where these are not there.
 pub struct FieldLevel {
     pub end: usize,
     pub level: u16,
 }
 
-// Reads the field that starts at `start`, up to the first byte that tells that it is no level.
-pub fn read_level(text: &[u8], start: usize) -> FieldLevel
-    ensures { λ r. ⌜ r ≡ levelAt start (drop start (now (text .entry))) ⌝ }
+// Reads the level that starts at `start` and the byte `stop` after it. No level has more digits than the largest, so that no number
+// read is checked before the last digit.
+pub fn level_then(text: &[u8], start: usize, stop: u8) -> FieldLevel
+    requires { ⌜ (eqb stop tab || eqb stop newline) ≡ true ⌝ }
+    ensures { λ r. ⌜ r ≡ levelThen stop start (drop start (now (text .entry))) ⌝ }
 {
     if text.len() <= start {
         return no_level();
     }
-    if text[start] < b'1' {
-        return no_level();
-    }
-    let mut at = start;
+    let room = at_most(text.len() - start, DIGITS);
+    let mut digits = 0;
     let mut v: u32 = 0;
-    while at < text.len() {
-        let x = text[at];
-        if x == b'\t' {
-            break;
-        }
-        if x == b'\n' {
-            break;
-        }
+    while digits < room {
+        let x = text[start + digits];
         if x < b'0' {
-            return no_level();
+            break;
         }
         if b'9' < x {
-            return no_level();
+            break;
         }
         v = 10 * v + (x - b'0') as u32;
-        if LEVEL < v {
-            return no_level();
-        }
-        at += 1;
+        digits += 1;
+    }
+    let at = start + digits;
+    if text.len() <= at {
+        return no_level();
+    }
+    if text[at] != stop {
+        return no_level();
+    }
+    if text[start] == b'0' {
+        return no_level();
+    }
+    if v < 1 {
+        return no_level();
+    }
+    if LEVEL < v {
+        return no_level();
     }
     FieldLevel {
-        end: at,
+        end: at + 1,
         level: v as u16,
     }
 }
 
-// The answer for a field that is no level.
+// The smaller of two numbers.
+fn at_most(a: usize, b: usize) -> usize
+    ensures { λ r. ⌜ r ≡ min a b ⌝ }
+{
+    if a < b {
+        return a;
+    }
+    b
+}
+
+// The answer where there is no level.
 fn no_level() -> FieldLevel
     ensures { λ r. ⌜ r ≡ noLevel ⌝ }
 {
     FieldLevel { end: 0, level: 0 }
-}
-
-// The number that a field of five digits writes.
-fn five_digits(text: &[u8], start: usize) -> u32
-    requires { ⌜ FiveDigits (now text) start ⌝ }
-    ensures { λ r. ⌜ r ≡ decimal (fieldOf (drop start (now (text .entry)))) ⌝ }
-{
-    let a = (text[start] - b'0') as u32;
-    let b = (text[start + 1] - b'0') as u32;
-    let c = (text[start + 2] - b'0') as u32;
-    let d = (text[start + 3] - b'0') as u32;
-    let e = (text[start + 4] - b'0') as u32;
-    10000 * a + 1000 * b + 100 * c + 10 * d + e
-}
-
-// Whether the field from `start` to `stop`, which is digits alone, is a level. The number is read only where it has digits enough to
-// be too large.
-pub fn is_level(text: &[u8], start: usize, stop: usize) -> bool
-    requires { ⌜ (stop ≤ length (now text)) × (stop ≡ start + length (fieldOf (drop start (now text)))) × (all digit (fieldOf (drop start (now text))) ≡ true) ⌝ }
-    ensures { λ r. ⌜ r ≡ isLevel (fieldOf (drop start (now (text .entry)))) ⌝ }
-{
-    if stop <= start {
-        return false;
-    }
-    if text[start] == b'0' {
-        return false;
-    }
-    let digits = stop - start;
-    if digits < 5 {
-        return true;
-    }
-    if digits == 5 {
-        return five_digits(text, start) <= LEVEL;
-    }
-    let found = read_level(text, start);
-    found.level != 0
-}
-
-// Reads the level that starts at `start`, where there is one and a byte after it: the first byte below the digits ends it.
-pub fn known_level(text: &[u8], start: usize) -> FieldLevel
-    requires { ⌜ (isLevel (fieldOf (drop start (now text))) ≡ true) × (length (fieldOf (drop start (now text))) < length (drop start (now text))) ⌝ }
-    ensures { λ r. ⌜ r ≡ levelAt start (drop start (now (text .entry))) ⌝ }
-{
-    let mut at = start;
-    let mut v: u32 = 0;
-    loop {
-        let x = text[at];
-        if x < b'0' {
-            let level = v as u16;
-            return FieldLevel { end: at, level };
-        }
-        v = 10 * v + (x - b'0') as u32;
-        at += 1;
-    }
 }
 
 // Whether a byte is a letter.

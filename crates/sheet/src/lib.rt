@@ -1,7 +1,7 @@
 // The sheet reader: the only way from text to a level table.
 ghost use mathlib.Core.Path.{_≡_};
 ghost use Rattle.rules.specs.Sheet.{reading, levelsAfter};
-ghost use Rattle.sheet.specs.Answers.{outcomeOf};
+ghost use Rattle.sheet.specs.Answers.{outcomeOf, whenRead};
 
 mod field;
 mod header;
@@ -43,4 +43,21 @@ pub fn read_sheet(text: &[u8], levels: &mut [u16]) -> Reading
         return Reading::Refused(2);
     }
     questions::from_3(text, levels)
+}
+
+// The same for a table of the caller's own, which is of no use after a refusal: the lines are walked once.
+pub fn read_own(text: &[u8], levels: &mut [u16]) -> Reading
+    ensures answer { λ r. ⌜ outcomeOf r ≡ reading (now (text .entry)) (now (levels .entry)) ⌝ }
+    ensures table { λ _. ⌜ whenRead (reading (now (text .entry)) (now (levels .entry))) (now (levels .exit)) ≡ whenRead (reading (now (text .entry)) (now (levels .entry))) (levelsAfter (reading (now (text .entry)) (now (levels .entry))) (now (text .entry)) (now (levels .entry))) ⌝ }
+{
+    if levels.len() < LEVELS {
+        return Reading::Refused(1);
+    }
+    if text.len() < 1 {
+        return Reading::Refused(2);
+    }
+    if TEXT < text.len() {
+        return Reading::Refused(2);
+    }
+    questions::from_3_at_once(text, levels)
 }

@@ -1,12 +1,12 @@
 // The later lines.
 use crate::field;
 ghost use mathlib.Core.Path.{_≡_};
-ghost use mathlib.Core.Bool.{true, _||_};
-ghost use Prim.Native.Nat.{suc, _+_, _≤_};
-ghost use lib.Dec.{eqb};
+ghost use mathlib.Core.Bool.{true};
+ghost use Prim.Native.Nat.{_+_, _-_, _≤_, _<_};
 ghost use lib.ListN.{length, take, drop};
-ghost use Rattle.rules.specs.Sheet.{tab, newline, upTo, fields, lines, withPlot, withPlots};
-ghost use Rattle.sheet.specs.Walk.{levelEnd, rowEnd, StoreAll, StoreRow};
+ghost use Rattle.rules.specs.Limits.{mostPlots};
+ghost use Rattle.rules.specs.Sheet.{newline, upTo, fields, lines, all, isPlotLine, withPlot, withPlots};
+ghost use Rattle.sheet.specs.Walk.{stopBefore, rowThere, rowEnd, Store};
 ghost use Rattle.sheet.specs.Answers.{judged};
 use limits::PLOTS;
 
@@ -36,58 +36,34 @@ pub fn judge(text: &[u8], start: usize, n: usize) -> Rows
     Rows { good: true, count }
 }
 
+// The byte after field `i`, from 0, of a line of `n`.
+fn stop_after(i: usize, n: usize) -> u8
+    requires { ⌜ i < n ⌝ }
+    ensures { λ r. ⌜ r ≡ stopBefore (n - (i + 1)) ⌝ }
+{
+    if i + 1 < n {
+        return b'\t';
+    }
+    b'\n'
+}
+
 // The place after the line of `n` levels that starts at `start`; 0 where it has not the form.
 fn row_end(text: &[u8], start: usize, n: usize) -> usize
     requires { ⌜ 1 ≤ n ⌝ }
     ensures { λ r. ⌜ r ≡ rowEnd n start (drop start (now (text .entry))) ⌝ }
 {
     let mut at = start;
-    for i in 1..n {
-        at = level_end(text, at, b'\t');
+    for i in 0..n {
+        let found = field::level_then(text, at, stop_after(i, n));
+        at = found.end;
         if at == 0 {
             return 0;
         }
     }
-    level_end(text, at, b'\n')
+    at
 }
 
-// The place after the level that starts at `start` and the byte `stop` after it; 0 where these are not there.
-fn level_end(text: &[u8], start: usize, stop: u8) -> usize
-    requires { ⌜ (eqb stop tab || eqb stop newline) ≡ true ⌝ }
-    ensures { λ r. ⌜ r ≡ levelEnd stop start (drop start (now (text .entry))) ⌝ }
-{
-    let e = field::digits_end(text, start);
-    if text.len() <= e {
-        return 0;
-    }
-    if text[e] != stop {
-        return 0;
-    }
-    if !field::is_level(text, start, e) {
-        return 0;
-    }
-    e + 1
-}
-
-// Writes the levels of all lines from `start` on, which have the form: `plots` lines of `n` levels.
-pub fn store(
-    text: &[u8],
-    start: usize,
-    columns: &[usize],
-    n: usize,
-    plots: usize,
-    levels: &mut [u16],
-)
-    requires { ⌜ StoreAll (now text) start (take n (now columns)) n plots (length (now levels)) ⌝ }
-    ensures { λ _. ⌜ now (levels .exit) ≡ withPlots (take n (now (columns .entry))) 0 (lines (drop start (now (text .entry)))) (now (levels .entry)) ⌝ }
-{
-    let mut at = start;
-    for u in 0..plots {
-        at = store_row(text, at, columns, n, u, levels);
-    }
-}
-
-// Writes the levels of plot `u`, whose line starts at `start`; answers where the next line starts.
+// The same, and writes the levels of the line as those of plot `u`: all of them where the line has the form.
 fn store_row(
     text: &[u8],
     start: usize,
@@ -96,17 +72,60 @@ fn store_row(
     u: usize,
     levels: &mut [u16],
 ) -> usize
-    requires { ⌜ StoreRow (now text) start (take n (now columns)) n u (length (now levels)) ⌝ }
-    ensures { λ r. ⌜ r ≡ start + suc (length (upTo newline (drop start (now (text .entry))))) ⌝ }
-    ensures { λ _. ⌜ now (levels .exit) ≡ withPlot (take n (now (columns .entry))) u (fields (upTo newline (drop start (now (text .entry))))) (now (levels .entry)) ⌝ }
+    requires { ⌜ Store (take n (now columns)) n (length (now levels)) × (u < mostPlots) ⌝ }
+    ensures { λ r. ⌜ r ≡ rowEnd n start (drop start (now (text .entry))) ⌝ }
+    ensures { λ _. ⌜ (rowThere n (drop start (now (text .entry))) ≡ true → now (levels .exit) ≡ withPlot (take n (now (columns .entry))) u (fields (upTo newline (drop start (now (text .entry))))) (now (levels .entry))) ⌝ }
 {
     let mut at = start;
     for i in 0..n {
-        let found = field::known_level(text, at);
-        let level = found.level;
+        let found = field::level_then(text, at, stop_after(i, n));
+        at = found.end;
+        if at == 0 {
+            return 0;
+        }
         let column = columns[i];
-        levels[PLOTS * column + u] = level;
-        at = found.end + 1;
+        levels[PLOTS * column + u] = found.level;
     }
     at
+}
+
+// The same; a line past the last plot is only judged.
+fn next_row(
+    text: &[u8],
+    start: usize,
+    columns: &[usize],
+    n: usize,
+    u: usize,
+    levels: &mut [u16],
+) -> usize
+    requires { ⌜ Store (take n (now columns)) n (length (now levels)) ⌝ }
+    ensures { λ r. ⌜ r ≡ rowEnd n start (drop start (now (text .entry))) ⌝ }
+    ensures { λ _. ⌜ (u < mostPlots → rowThere n (drop start (now (text .entry))) ≡ true → now (levels .exit) ≡ withPlot (take n (now (columns .entry))) u (fields (upTo newline (drop start (now (text .entry))))) (now (levels .entry))) ⌝ }
+{
+    if u < PLOTS {
+        return store_row(text, start, columns, n, u, levels);
+    }
+    row_end(text, start, n)
+}
+
+// Question 4, asked of every line from `start` on, and the levels of the lines written: all of them where every line has the form and
+// there are not too many.
+pub fn store(text: &[u8], start: usize, columns: &[usize], n: usize, levels: &mut [u16]) -> Rows
+    requires { ⌜ Store (take n (now columns)) n (length (now levels)) ⌝ }
+    ensures { λ r. ⌜ r ≡ judged 0 n (lines (drop start (now (text .entry)))) ⌝ }
+    ensures { λ _. ⌜ (all (isPlotLine n) (lines (drop start (now (text .entry)))) ≡ true → length (lines (drop start (now (text .entry)))) ≤ mostPlots → now (levels .exit) ≡ withPlots (take n (now (columns .entry))) 0 (lines (drop start (now (text .entry)))) (now (levels .entry))) ⌝ }
+{
+    let mut at = start;
+    let mut count = 0;
+    while at < text.len() {
+        at = next_row(text, at, columns, n, count, levels);
+        if at == 0 {
+            return Rows {
+                good: false,
+                count: 0,
+            };
+        }
+        count += 1;
+    }
+    Rows { good: true, count }
 }

@@ -27,9 +27,9 @@ pub fn refused(q: u8) -> DegreesReport
 }
 
 // `start` less the numbers at those of the first `m` places whose bit in `word` is set.
-pub fn less(start: i64, word: u32, numbers: [i64; MEMBERS], m: usize) -> i64
-    requires { ⌜ (m ≤ 32) × Small start × AllSmall numbers ⌝ }
-    ensures { λ r. ⌜ r ≡ start -ℤ sumPassing (bitAt word) (λ j. getD numbers j (pos 0)) m ⌝ }
+pub fn less(start: i64, word: u32, numbers: &[i64; MEMBERS], m: usize) -> i64
+    requires { ⌜ (m ≤ 32) × Small start × AllSmall (now numbers) ⌝ }
+    ensures { λ r. ⌜ r ≡ start -ℤ sumPassing (bitAt word) (λ j. getD (now (numbers .entry)) j (pos 0)) m ⌝ }
 {
     let mut left = start;
     for j in 0..m {
@@ -50,7 +50,7 @@ pub fn degrees(family: &[u8], n: usize, size: usize, words: [u32; MEMBERS]) -> [
     for i in 0..size {
         let own = member_classes(family, i, n) as i64;
         let word = words[i];
-        let number = less(own, word, numbers, i);
+        let number = less(own, word, &numbers, i);
         numbers[i] = number;
     }
     numbers

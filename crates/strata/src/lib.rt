@@ -45,8 +45,6 @@ pub struct StrataReport {
 
 // Strata, and the degrees of freedom that their residuals are found by. All 0 past the sizes and after a refusal.
 pub struct AnalysisReport {
-    // the question that failed, or 0
-    pub refusal: u8,
     // for each plot member its degrees of freedom
     pub totals: [i64; MEMBERS],
     // for each treatment member its degrees of freedom
@@ -55,6 +53,8 @@ pub struct AnalysisReport {
     pub places: [usize; MEMBERS],
     // for each plot member its residual degrees of freedom
     pub residuals: [i64; MEMBERS],
+    // the question that failed, or 0
+    pub refusal: u8,
 }
 
 // The relation of a family.

@@ -31,11 +31,11 @@ pub fn refused(q: u8) -> AnalysisReport
     ensures { λ r. ⌜ analysisIn r ≡ analysisRefused q ⌝ }
 {
     AnalysisReport {
-        refusal: q,
         totals: [0i64; MEMBERS],
         degrees: [0i64; MEMBERS],
         places: [0usize; MEMBERS],
         residuals: [0i64; MEMBERS],
+        refusal: q,
     }
 }
 
@@ -185,9 +185,9 @@ fn all_placed(places: [usize; MEMBERS], size: usize) -> bool
 }
 
 // The treatment members whose stratum has the place `place`.
-fn stratum_word(places: [usize; MEMBERS], size: usize, place: usize) -> u32
+fn stratum_word(places: &[usize; MEMBERS], size: usize, place: usize) -> u32
     requires { ⌜ size ≤ 32 ⌝ }
-    ensures { λ r. ⌜ r ≡ wordOf (λ t. eqb (getD places t 0) place) size ⌝ }
+    ensures { λ r. ⌜ r ≡ wordOf (λ t. eqb (getD (now (places .entry)) t 0) place) size ⌝ }
 {
     let mut word: u32 = 0;
     for t in 0..size {
@@ -200,14 +200,14 @@ fn stratum_word(places: [usize; MEMBERS], size: usize, place: usize) -> u32
 
 // What is left to each plot member when the numbers of the treatment members in its stratum are taken from its own.
 fn residuals(
-    own: [i64; MEMBERS],
+    own: &[i64; MEMBERS],
     plot_size: usize,
-    numbers: [i64; MEMBERS],
-    places: [usize; MEMBERS],
+    numbers: &[i64; MEMBERS],
+    places: &[usize; MEMBERS],
     treatment_size: usize,
 ) -> [i64; MEMBERS]
-    requires { ⌜ («plot_size» ≤ 32) × («treatment_size» ≤ 32) × AllSmall own × AllSmall numbers ⌝ }
-    ensures { λ r. ⌜ r ≡ forPlaces (pos 0) (tabulate (residualAt own numbers places «treatment_size») «plot_size») ⌝ }
+    requires { ⌜ («plot_size» ≤ 32) × («treatment_size» ≤ 32) × AllSmall (now own) × AllSmall (now numbers) ⌝ }
+    ensures { λ r. ⌜ r ≡ forPlaces (pos 0) (tabulate (residualAt (now (own .entry)) (now (numbers .entry)) (now (places .entry)) «treatment_size») «plot_size») ⌝ }
 {
     let mut left = [0i64; MEMBERS];
     for p in 0..plot_size {
@@ -245,13 +245,13 @@ fn from_16(
     let own = degrees(plot_family, n, plot_size, plot_words);
     let treatment_words = coarser_words(treatment_family, n, treatment_size);
     let numbers = degrees(treatment_family, n, treatment_size, treatment_words);
-    let left = residuals(own, plot_size, numbers, places, treatment_size);
+    let left = residuals(&own, plot_size, &numbers, &places, treatment_size);
     AnalysisReport {
-        refusal: 0,
         totals: own,
         degrees: numbers,
         places,
         residuals: left,
+        refusal: 0,
     }
 }
 

@@ -21,12 +21,14 @@ use Rattle.rules.specs.Degrees.{degrees}
 use Rattle.rules.specs.Strata.{stratum, residuals, strata}
 use Rattle.rules.proofs.Buffer.{member-is, length-members}
 use Rattle.rules.proofs.Places.{length-places, at-places}
-use Rattle.rules.proofs.Sheet.{too-short, too-long, length-after}
+use Rattle.rules.proofs.Sheet.{too-short, too-long, text-fits, length-after}
 use Rattle.rules.proofs.DegreesLaws.{length-degrees}
 use Rattle.rules.proofs.Printing.{strata-answered}
 use Rattle.rules.proofs.Made.{Tells, Placed, plot-back, plot-buffer-length, treatment-back, treatment-buffer-length}
 use Rattle.design.specs.Answers.{FullNumbers, fullNumbersOf}
 use Rattle.naming.specs.Answers.{startingWith}
+use Rattle.sheet.specs.Answers.{whenRead}
+use Rattle.sheet.proofs.QuestionLaws.{refused-3}
 use Rattle.strata.proofs.StratumLaws.{length-residuals}
 use Rattle.strata.specs.Answers.{Analysis, withDegrees}
 use Rattle.table.specs.Names.{Nameable, placedName, tableOf}
@@ -240,7 +242,16 @@ module _ (text : List ℕ) where
   pub long-text : 32768 < length text → rowsBytes (refusedRow 2 dash dash ∷ []) ≡ tableText text
   long-text h = refused-text 2 (sym (too-long text emptyTable table-room h))
 
+  -- of one whose first line has not the form
+  pub headless-text : 1 ≤ length text → length text ≤ 32768 → question3 text ≡ false → rowsBytes (refusedRow 3 dash dash ∷ []) ≡ tableText text
+  headless-text h k q = refused-text 3 (sym (text-fits text emptyTable table-room h k ∙ refused-3 text q))
+
   -- the level table of the reading
+  pub own-table : (n p t : ℕ) (levels : List ℕ) → read n p t ≡ reading text emptyTable
+      → whenRead (reading text emptyTable) levels ≡ whenRead (reading text emptyTable) (levelsAfter (reading text emptyTable) text emptyTable) → levels ≡ levelsAfter (reading text emptyTable) text emptyTable
+  own-table n p t levels e w =
+      ap (λ (o : Outcome). whenRead o levels) e ∙ w ∙ sym (ap (λ (o : Outcome). whenRead o (levelsAfter (reading text emptyTable) text emptyTable)) e)
+
   pub levels-long : (levels : List ℕ) → levels ≡ levelsAfter (reading text emptyTable) text emptyTable → 2880 ≤ length levels
   unfolding emptyTable
   levels-long levels e = let l : length levels ≡ 2880 = ap length e ∙ length-after (reading text emptyTable) text emptyTable ∙ length-replicate {A = ℕ} 2880 0 in omega arith

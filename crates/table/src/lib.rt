@@ -2,7 +2,7 @@
 ghost use mathlib.Core.Path.{_≡_};
 ghost use mathlib.Core.Bool.{true};
 ghost use mathlib.Core.List.{[], _∷_};
-ghost use Prim.Native.Nat.{_≤_};
+ghost use Prim.Native.Nat.{_*_, _≤_};
 ghost use lib.ListN.{length};
 ghost use Rattle.rules.specs.Design.{fullDesign};
 ghost use Rattle.rules.specs.Family.{membersOf};
@@ -39,6 +39,11 @@ const TABLE: usize = 32768;
 // Bytes for the names of a family's members.
 const NAMES: usize = NAME * MEMBERS;
 
+// A family of so few members takes less room for names.
+const FEW: usize = 8;
+
+const FEW_NAMES: usize = NAME * FEW;
+
 // What printing answers: how many bytes the text has, or the number of the question that failed.
 pub enum Printed {
     Text(usize),
@@ -57,7 +62,7 @@ pub fn skeleton_table(text: &[u8], out: &mut [u8]) -> Printed
     Printed::Text(print(text, out))
 }
 
-// Writes the whole text: question 2 first, which needs no level table.
+// Writes the whole text: questions 2 and 3 first, which need no level table.
 fn print(text: &[u8], out: &mut [u8]) -> usize
     ensures answer { λ r. ⌜ r ≡ placeAfter (now (out .entry)) 0 (tableText (now (text .entry))) ⌝ }
     ensures bytes { λ _. ⌜ now (out .exit) ≡ written (now (out .entry)) 0 (tableText (now (text .entry))) ⌝ }
@@ -68,6 +73,11 @@ fn print(text: &[u8], out: &mut [u8]) -> usize
     if TEXT < text.len() {
         return rows::put_refused(2, b"-", b"-", out);
     }
+    let header = sheet::read_header(text);
+    let lines = header.end;
+    if lines == 0 {
+        return rows::put_refused(3, b"-", b"-", out);
+    }
     print_sheet(text, out)
 }
 
@@ -77,7 +87,7 @@ fn print_sheet(text: &[u8], out: &mut [u8]) -> usize
     ensures bytes { λ _. ⌜ now (out .exit) ≡ written (now (out .entry)) 0 (tableText (now (text .entry))) ⌝ }
 {
     let mut levels = [0u16; LEVELS];
-    let reading = sheet::read_sheet(text, &mut levels);
+    let reading = sheet::read_own(text, &mut levels);
     let Reading::Read(counts) = reading else {
         return rows::put_refused(reading_refusal(reading), b"-", b"-", out);
     };
@@ -238,7 +248,7 @@ fn second_name(
     names::name_at(text, levels, plots, kind, treatment_family, place, name)
 }
 
-// Writes the table of an accepted design: names its plot members first.
+// Writes the table of an accepted design.
 fn print_accepted(
     text: &[u8],
     levels: &[Level],
@@ -253,8 +263,55 @@ fn print_accepted(
     ensures answer { λ r. ⌜ r ≡ placeAfter (now (out .entry)) 0 (rowsBytes (acceptedRows (now (text .entry)) plots (now (levels .entry)) (membersOf plots (now («plot_family» .entry)) «plot_size») (membersOf plots (now («treatment_family» .entry)) «treatment_size»))) ⌝ }
     ensures bytes { λ _. ⌜ now (out .exit) ≡ written (now (out .entry)) 0 (rowsBytes (acceptedRows (now (text .entry)) plots (now (levels .entry)) (membersOf plots (now («plot_family» .entry)) «plot_size») (membersOf plots (now («treatment_family» .entry)) «treatment_size»))) ⌝ }
 {
+    if plot_size <= FEW {
+        let mut strata = [0u8; FEW_NAMES];
+        let mut lengths = [0usize; FEW];
+        return print_strata(
+            text,
+            levels,
+            plots,
+            plot_family,
+            plot_size,
+            treatment_family,
+            treatment_size,
+            &mut strata,
+            &mut lengths,
+            out,
+        );
+    }
     let mut strata = [0u8; NAMES];
-    let mut strata_lengths = [0usize; MEMBERS];
+    let mut lengths = [0usize; MEMBERS];
+    print_strata(
+        text,
+        levels,
+        plots,
+        plot_family,
+        plot_size,
+        treatment_family,
+        treatment_size,
+        &mut strata,
+        &mut lengths,
+        out,
+    )
+}
+
+// Names the plot members, then writes the table.
+fn print_strata(
+    text: &[u8],
+    levels: &[Level],
+    plots: usize,
+    plot_family: &[u8],
+    plot_size: usize,
+    treatment_family: &[u8],
+    treatment_size: usize,
+    strata: &mut [u8],
+    strata_lengths: &mut [usize],
+    out: &mut [u8],
+) -> usize
+    requires { ⌜ (question3 (now text) ≡ true) × (2880 ≤ length (now levels)) × Accepted plots (now «plot_family») «plot_size» (now «treatment_family») «treatment_size» × (96 * «plot_size» ≤ length (now strata)) × («plot_size» ≤ length (now «strata_lengths»)) ⌝ }
+    ensures answer { λ r. ⌜ r ≡ placeAfter (now (out .entry)) 0 (rowsBytes (acceptedRows (now (text .entry)) plots (now (levels .entry)) (membersOf plots (now («plot_family» .entry)) «plot_size») (membersOf plots (now («treatment_family» .entry)) «treatment_size»))) ⌝ }
+    ensures bytes { λ _. ⌜ now (out .exit) ≡ written (now (out .entry)) 0 (rowsBytes (acceptedRows (now (text .entry)) plots (now (levels .entry)) (membersOf plots (now («plot_family» .entry)) «plot_size») (membersOf plots (now («treatment_family» .entry)) «treatment_size»))) ⌝ }
+{
     names::fill_names(
         text,
         levels,
@@ -262,15 +319,15 @@ fn print_accepted(
         Kind::Plot,
         plot_family,
         plot_size,
-        &mut strata,
-        &mut strata_lengths,
+        strata,
+        strata_lengths,
     );
     print_sources(
         text,
         levels,
         plots,
-        &strata,
-        &strata_lengths,
+        strata,
+        strata_lengths,
         plot_family,
         plot_size,
         treatment_family,
@@ -279,7 +336,7 @@ fn print_accepted(
     )
 }
 
-// Names the treatment members, then writes the table.
+// Writes the table, once the plot members are named.
 fn print_sources(
     text: &[u8],
     levels: &[Level],
@@ -296,8 +353,61 @@ fn print_sources(
     ensures answer { λ r. ⌜ r ≡ placeAfter (now (out .entry)) 0 (rowsBytes (namedRows plots (membersOf plots (now («plot_family» .entry)) «plot_size») (membersOf plots (now (family .entry)) size) (namesIn (now (strata .entry)) (now («strata_lengths» .entry)) «plot_size») (namesFrom treatment (now (text .entry)) plots (now (levels .entry)) (membersOf plots (now (family .entry)) size) 1 size))) ⌝ }
     ensures bytes { λ _. ⌜ now (out .exit) ≡ written (now (out .entry)) 0 (rowsBytes (namedRows plots (membersOf plots (now («plot_family» .entry)) «plot_size») (membersOf plots (now (family .entry)) size) (namesIn (now (strata .entry)) (now («strata_lengths» .entry)) «plot_size») (namesFrom treatment (now (text .entry)) plots (now (levels .entry)) (membersOf plots (now (family .entry)) size) 1 size))) ⌝ }
 {
+    if size <= FEW {
+        let mut names = [0u8; FEW_NAMES];
+        let mut lengths = [0usize; FEW];
+        return print_named(
+            text,
+            levels,
+            plots,
+            strata,
+            strata_lengths,
+            plot_family,
+            plot_size,
+            family,
+            size,
+            &mut names,
+            &mut lengths,
+            out,
+        );
+    }
     let mut names = [0u8; NAMES];
     let mut lengths = [0usize; MEMBERS];
+    print_named(
+        text,
+        levels,
+        plots,
+        strata,
+        strata_lengths,
+        plot_family,
+        plot_size,
+        family,
+        size,
+        &mut names,
+        &mut lengths,
+        out,
+    )
+}
+
+// Names the treatment members, then writes the table.
+fn print_named(
+    text: &[u8],
+    levels: &[Level],
+    plots: usize,
+    strata: &[u8],
+    strata_lengths: &[usize],
+    plot_family: &[u8],
+    plot_size: usize,
+    family: &[u8],
+    size: usize,
+    names: &mut [u8],
+    lengths: &mut [usize],
+    out: &mut [u8],
+) -> usize
+    requires { ⌜ (question3 (now text) ≡ true) × (2880 ≤ length (now levels)) × Accepted plots (now «plot_family») «plot_size» (now family) size × Named (now strata) (now «strata_lengths») «plot_size» × (96 * size ≤ length (now names)) × (size ≤ length (now lengths)) ⌝ }
+    ensures answer { λ r. ⌜ r ≡ placeAfter (now (out .entry)) 0 (rowsBytes (namedRows plots (membersOf plots (now («plot_family» .entry)) «plot_size») (membersOf plots (now (family .entry)) size) (namesIn (now (strata .entry)) (now («strata_lengths» .entry)) «plot_size») (namesFrom treatment (now (text .entry)) plots (now (levels .entry)) (membersOf plots (now (family .entry)) size) 1 size))) ⌝ }
+    ensures bytes { λ _. ⌜ now (out .exit) ≡ written (now (out .entry)) 0 (rowsBytes (namedRows plots (membersOf plots (now («plot_family» .entry)) «plot_size») (membersOf plots (now (family .entry)) size) (namesIn (now (strata .entry)) (now («strata_lengths» .entry)) «plot_size») (namesFrom treatment (now (text .entry)) plots (now (levels .entry)) (membersOf plots (now (family .entry)) size) 1 size))) ⌝ }
+{
     names::fill_names(
         text,
         levels,
@@ -305,8 +415,8 @@ fn print_sources(
         Kind::Treatment,
         family,
         size,
-        &mut names,
-        &mut lengths,
+        names,
+        lengths,
     );
     print_degrees(
         plots,
@@ -314,8 +424,8 @@ fn print_sources(
         strata_lengths,
         plot_family,
         plot_size,
-        &names,
-        &lengths,
+        names,
+        lengths,
         family,
         size,
         out,
@@ -349,13 +459,13 @@ fn print_degrees(
         strata,
         strata_lengths,
         plot_size,
-        totals,
-        residuals,
+        &totals,
+        &residuals,
         names,
         lengths,
         size,
-        places,
-        degrees,
+        &places,
+        &degrees,
         out,
     )
 }

@@ -1,6 +1,6 @@
 // The names of members, worked out once.
 ghost use mathlib.Core.Path.{_≡_};
-ghost use Prim.Native.Nat.{_≤_};
+ghost use Prim.Native.Nat.{_*_, _≤_};
 ghost use lib.ListN.{length};
 ghost use Rattle.rules.specs.Family.{membersOf};
 ghost use Rattle.rules.specs.Table.{namesFrom};
@@ -21,7 +21,7 @@ pub fn fill_names(
     names: &mut [u8],
     lengths: &mut [usize],
 )
-    requires { ⌜ Nameable (now text) (now levels) (now family) plots × (size ≤ 32) × (length (now names) ≡ 3072) × (length (now lengths) ≡ 32) ⌝ }
+    requires { ⌜ Nameable (now text) (now levels) (now family) plots × (size ≤ 32) × (96 * size ≤ length (now names)) × (size ≤ length (now lengths)) ⌝ }
     ensures names { λ _. ⌜ namesIn (now (names .exit)) (now (lengths .exit)) size ≡ namesFrom (kindOf kind) (now (text .entry)) plots (now (levels .entry)) (membersOf plots (now (family .entry)) size) 1 size ⌝ }
     ensures named { λ _. ⌜ Named (now (names .exit)) (now (lengths .exit)) size ⌝ }
 {

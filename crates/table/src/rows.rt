@@ -68,14 +68,14 @@ fn put_sources(
     names: &[u8],
     lengths: &[usize],
     size: usize,
-    places: [usize; MEMBERS],
-    degrees: [i64; MEMBERS],
+    places: &[usize; MEMBERS],
+    degrees: &[i64; MEMBERS],
     out: &mut [u8],
     at: usize,
 ) -> usize
-    requires { ⌜ (size ≤ 32) × Named (now names) (now lengths) size ⌝ }
-    ensures answer { λ r. ⌜ r ≡ placeAfter (now (out .entry)) at (rowsBytes (sourceRows (now (stratum .entry)) i (namesIn (now (names .entry)) (now (lengths .entry)) size) (take size places) (take size degrees))) ⌝ }
-    ensures bytes { λ _. ⌜ now (out .exit) ≡ written (now (out .entry)) at (rowsBytes (sourceRows (now (stratum .entry)) i (namesIn (now (names .entry)) (now (lengths .entry)) size) (take size places) (take size degrees))) ⌝ }
+    requires { ⌜ (size ≤ 32) × Named (now names) (now lengths) size × (length (now places) ≡ 32) × (length (now degrees) ≡ 32) ⌝ }
+    ensures answer { λ r. ⌜ r ≡ placeAfter (now (out .entry)) at (rowsBytes (sourceRows (now (stratum .entry)) i (namesIn (now (names .entry)) (now (lengths .entry)) size) (take size (now (places .entry))) (take size (now (degrees .entry))))) ⌝ }
+    ensures bytes { λ _. ⌜ now (out .exit) ≡ written (now (out .entry)) at (rowsBytes (sourceRows (now (stratum .entry)) i (namesIn (now (names .entry)) (now (lengths .entry)) size) (take size (now (places .entry))) (take size (now (degrees .entry))))) ⌝ }
 {
     let mut next = at;
     for j in 0..size {
@@ -88,9 +88,9 @@ fn put_sources(
 }
 
 // Whether a treatment member has the stratum at place `i`.
-fn has_source(i: usize, size: usize, places: [usize; MEMBERS]) -> bool
-    requires { ⌜ size ≤ 32 ⌝ }
-    ensures { λ r. ⌜ r ≡ among i (take size places) ⌝ }
+fn has_source(i: usize, size: usize, places: &[usize; MEMBERS]) -> bool
+    requires { ⌜ (size ≤ 32) × (length (now places) ≡ 32) ⌝ }
+    ensures { λ r. ⌜ r ≡ among i (take size (now (places .entry))) ⌝ }
 {
     for j in 0..size {
         if places[j] == i {
@@ -123,14 +123,14 @@ fn put_stratum(
     names: &[u8],
     lengths: &[usize],
     size: usize,
-    places: [usize; MEMBERS],
-    degrees: [i64; MEMBERS],
+    places: &[usize; MEMBERS],
+    degrees: &[i64; MEMBERS],
     out: &mut [u8],
     at: usize,
 ) -> usize
-    requires { ⌜ (size ≤ 32) × Named (now names) (now lengths) size ⌝ }
-    ensures answer { λ r. ⌜ r ≡ placeAfter (now (out .entry)) at (rowsBytes (stratumRows (now (stratum .entry)) i (namesIn (now (names .entry)) (now (lengths .entry)) size) (take size places) (take size degrees) total residual)) ⌝ }
-    ensures bytes { λ _. ⌜ now (out .exit) ≡ written (now (out .entry)) at (rowsBytes (stratumRows (now (stratum .entry)) i (namesIn (now (names .entry)) (now (lengths .entry)) size) (take size places) (take size degrees) total residual)) ⌝ }
+    requires { ⌜ (size ≤ 32) × Named (now names) (now lengths) size × (length (now places) ≡ 32) × (length (now degrees) ≡ 32) ⌝ }
+    ensures answer { λ r. ⌜ r ≡ placeAfter (now (out .entry)) at (rowsBytes (stratumRows (now (stratum .entry)) i (namesIn (now (names .entry)) (now (lengths .entry)) size) (take size (now (places .entry))) (take size (now (degrees .entry))) total residual)) ⌝ }
+    ensures bytes { λ _. ⌜ now (out .exit) ≡ written (now (out .entry)) at (rowsBytes (stratumRows (now (stratum .entry)) i (namesIn (now (names .entry)) (now (lengths .entry)) size) (take size (now (places .entry))) (take size (now (degrees .entry))) total residual)) ⌝ }
 {
     let second = put_sources(stratum, i, names, lengths, size, places, degrees, out, at);
     let found = has_source(i, size, places);
@@ -143,19 +143,19 @@ pub fn put_strata(
     strata: &[u8],
     strata_lengths: &[usize],
     count: usize,
-    totals: [i64; MEMBERS],
-    residuals: [i64; MEMBERS],
+    totals: &[i64; MEMBERS],
+    residuals: &[i64; MEMBERS],
     names: &[u8],
     lengths: &[usize],
     size: usize,
-    places: [usize; MEMBERS],
-    degrees: [i64; MEMBERS],
+    places: &[usize; MEMBERS],
+    degrees: &[i64; MEMBERS],
     out: &mut [u8],
     at: usize,
 ) -> usize
-    requires { ⌜ (size ≤ 32) × Named (now names) (now lengths) size × (count ≤ 32) × Named (now strata) (now «strata_lengths») count ⌝ }
-    ensures answer { λ r. ⌜ r ≡ placeAfter (now (out .entry)) at (rowsBytes (strataRows 1 (namesIn (now (strata .entry)) (now («strata_lengths» .entry)) count) (take count totals) (take count residuals) (namesIn (now (names .entry)) (now (lengths .entry)) size) (take size places) (take size degrees))) ⌝ }
-    ensures bytes { λ _. ⌜ now (out .exit) ≡ written (now (out .entry)) at (rowsBytes (strataRows 1 (namesIn (now (strata .entry)) (now («strata_lengths» .entry)) count) (take count totals) (take count residuals) (namesIn (now (names .entry)) (now (lengths .entry)) size) (take size places) (take size degrees))) ⌝ }
+    requires { ⌜ (size ≤ 32) × Named (now names) (now lengths) size × (count ≤ 32) × Named (now strata) (now «strata_lengths») count × (length (now places) ≡ 32) × (length (now degrees) ≡ 32) × (length (now totals) ≡ 32) × (length (now residuals) ≡ 32) ⌝ }
+    ensures answer { λ r. ⌜ r ≡ placeAfter (now (out .entry)) at (rowsBytes (strataRows 1 (namesIn (now (strata .entry)) (now («strata_lengths» .entry)) count) (take count (now (totals .entry))) (take count (now (residuals .entry))) (namesIn (now (names .entry)) (now (lengths .entry)) size) (take size (now (places .entry))) (take size (now (degrees .entry))))) ⌝ }
+    ensures bytes { λ _. ⌜ now (out .exit) ≡ written (now (out .entry)) at (rowsBytes (strataRows 1 (namesIn (now (strata .entry)) (now («strata_lengths» .entry)) count) (take count (now (totals .entry))) (take count (now (residuals .entry))) (namesIn (now (names .entry)) (now (lengths .entry)) size) (take size (now (places .entry))) (take size (now (degrees .entry))))) ⌝ }
 {
     let mut next = at;
     for i in 0..count {
@@ -186,18 +186,18 @@ pub fn put_table(
     strata: &[u8],
     strata_lengths: &[usize],
     count: usize,
-    totals: [i64; MEMBERS],
-    residuals: [i64; MEMBERS],
+    totals: &[i64; MEMBERS],
+    residuals: &[i64; MEMBERS],
     names: &[u8],
     lengths: &[usize],
     size: usize,
-    places: [usize; MEMBERS],
-    degrees: [i64; MEMBERS],
+    places: &[usize; MEMBERS],
+    degrees: &[i64; MEMBERS],
     out: &mut [u8],
 ) -> usize
-    requires { ⌜ (size ≤ 32) × Named (now names) (now lengths) size × (count ≤ 32) × Named (now strata) (now «strata_lengths») count ⌝ }
-    ensures answer { λ r. ⌜ r ≡ placeAfter (now (out .entry)) 0 (rowsBytes (tableOf plots (strataRows 1 (namesIn (now (strata .entry)) (now («strata_lengths» .entry)) count) (take count totals) (take count residuals) (namesIn (now (names .entry)) (now (lengths .entry)) size) (take size places) (take size degrees)))) ⌝ }
-    ensures bytes { λ _. ⌜ now (out .exit) ≡ written (now (out .entry)) 0 (rowsBytes (tableOf plots (strataRows 1 (namesIn (now (strata .entry)) (now («strata_lengths» .entry)) count) (take count totals) (take count residuals) (namesIn (now (names .entry)) (now (lengths .entry)) size) (take size places) (take size degrees)))) ⌝ }
+    requires { ⌜ (size ≤ 32) × Named (now names) (now lengths) size × (count ≤ 32) × Named (now strata) (now «strata_lengths») count × (length (now places) ≡ 32) × (length (now degrees) ≡ 32) × (length (now totals) ≡ 32) × (length (now residuals) ≡ 32) ⌝ }
+    ensures answer { λ r. ⌜ r ≡ placeAfter (now (out .entry)) 0 (rowsBytes (tableOf plots (strataRows 1 (namesIn (now (strata .entry)) (now («strata_lengths» .entry)) count) (take count (now (totals .entry))) (take count (now (residuals .entry))) (namesIn (now (names .entry)) (now (lengths .entry)) size) (take size (now (places .entry))) (take size (now (degrees .entry)))))) ⌝ }
+    ensures bytes { λ _. ⌜ now (out .exit) ≡ written (now (out .entry)) 0 (rowsBytes (tableOf plots (strataRows 1 (namesIn (now (strata .entry)) (now («strata_lengths» .entry)) count) (take count (now (totals .entry))) (take count (now (residuals .entry))) (namesIn (now (names .entry)) (now (lengths .entry)) size) (take size (now (places .entry))) (take size (now (degrees .entry)))))) ⌝ }
 {
     let second = write_bytes(b"stratum\tsource\tdf\n", out, 0);
     let last = put_strata(

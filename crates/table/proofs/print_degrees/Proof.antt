@@ -22,9 +22,9 @@ same-length c = search needs
 
 returns : tie.Need-returns
 returns c =
-    let s = c .before .before .before .before .before .before .before .before .before .before .before .before .before .before .before .before in
+    let s = c .before .before .before .before .before .before .before .before .before .before .before .before .before .before .before .before .before .before .before .before in
     let a = s .args in
-    let z = c .before .before .before .before .before .before .before .before .analysis in
+    let z = c .before .before .before .before .before .before .before .before .before .before .before .before .analysis in
     wrote-as (now (a .out)) 0
     (ap rowsBytes
     (answered-rows (a .plots) (now (a .plot-family)) (a .plot-size) (now (a .family)) (a .size) (s .pre .0) (analysisIn (z .result)) (z .ensures)

@@ -13,15 +13,15 @@ use Rattle.decimal.proofs.Writing.{wrote-as}
 use Rattle.sheet.specs.Answers.{outcomeOf}
 use Rattle.sheet.specs.declared.Reading.{Reading}
 use Rattle.table.specs.Answers.{numberOf}
-use Rattle.table.proofs.TableLaws.{refused-text, read-text, levels-long}
+use Rattle.table.proofs.TableLaws.{refused-text, read-text, own-table, levels-long}
 use Rattle.table.proofs.print_sheet.Statement.{statement}
 use Rattle.table.proofs.print_sheet.Tie as tie
 
-slice-aggregate-read-sheet : tie.Need-slice-aggregate-read-sheet
-slice-aggregate-read-sheet c = search needs
+slice-aggregate-read-own : tie.Need-slice-aggregate-read-own
+slice-aggregate-read-own c = search needs
 
-read-sheet-requires : tie.Need-read-sheet-requires
-read-sheet-requires c κs = search needs
+read-own-requires : tie.Need-read-own-requires
+read-own-requires c κs = search needs
 
 enum-known-reading : tie.Need-enum-known-reading
 enum-known-reading c = search needs
@@ -48,7 +48,7 @@ returns : tie.Need-returns
 unfolding emptyTable
 returns c =
     let a = c .before .before .before .before .before .before .before .before .before .before .before .before .before .before .args in
-    let sheet = c .before .before .before .before .before .before .before .before .before .before .read-sheet in
+    let sheet = c .before .before .before .before .before .before .before .before .before .before .read-own in
     let told = c .before .before .before .before .before .before .before .enum-told .given in
     let q = told .0 .0 in
     let is = c .before .before .before .before .before .before .reading-refusal .ensures ∙ ap (λ (x : Reading). numberOf (outcomeOf x)) (told .1) in
@@ -63,7 +63,7 @@ print-design-requires : tie.Need-print-design-requires
 unfolding emptyTable
 print-design-requires c κs =
     let text = now (c .before .before .before .before .before .before .before .before .before .before .args .text) in
-    let sheet = c .before .before .before .before .before .before .read-sheet in
+    let sheet = c .before .before .before .before .before .before .read-own in
     let given = c .before .before .before .reading .given in
     let k = given .0 .0 in
     let e : reading text emptyTable ≡ read (k .plots) (k .«plot_columns») (k .«treatment_columns») = sym (sheet .ensures .0) ∙ ap outcomeOf (given .1) in
@@ -71,7 +71,7 @@ print-design-requires c κs =
       read-questions text emptyTable (k .plots) (k .«plot_columns») (k .«treatment_columns») e .1,
       w .plots-some,
       w .plots-few,
-      levels-long text (sheet .last .1 .0) (sheet .ensures .1),
+      levels-long text (sheet .last .1 .0) (own-table text (k .plots) (k .«plot_columns») (k .«treatment_columns») (sheet .last .1 .0) (sym e) (sheet .ensures .1)),
     )
 
 same-length-2 : tie.Need-same-length-2
@@ -81,19 +81,21 @@ returns-2 : tie.Need-returns-2
 unfolding emptyTable
 returns-2 c =
     let a = c .before .before .before .before .before .before .before .before .before .before .before .before .before .args in
-    let sheet = c .before .before .before .before .before .before .before .before .before .read-sheet in
+    let sheet = c .before .before .before .before .before .before .before .before .before .read-own in
     let given = c .before .before .before .before .before .before .reading .given in
     let k = given .0 .0 in
+    let e : read (k .plots) (k .«plot_columns») (k .«treatment_columns») ≡ reading (now (a .text)) emptyTable = sym (ap outcomeOf (given .1)) ∙ sheet .ensures .0 in
+    let w = own-table (now (a .text)) (k .plots) (k .«plot_columns») (k .«treatment_columns») (sheet .last .1 .0) e (sheet .ensures .1) in
     wrote-as (now (a .out)) 0
-    (read-text (now (a .text)) (k .plots) (k .«plot_columns») (k .«treatment_columns») (sheet .last .1 .0) (sym (ap outcomeOf (given .1)) ∙ sheet .ensures .0) (sheet .ensures .1))
+    (read-text (now (a .text)) (k .plots) (k .«plot_columns») (k .«treatment_columns») (sheet .last .1 .0) e w)
     (c .before .before .print-design .ensures)
 
 pub print-sheet-spec : {M : Type 1} → statement M
 print-sheet-spec =
     tie.close
     (tie.spec
-    slice-aggregate-read-sheet
-    read-sheet-requires
+    slice-aggregate-read-own
+    read-own-requires
     enum-known-reading
     enum-told
     reading-refusal-requires

@@ -24,7 +24,7 @@ use Rattle.naming.proofs.compose.put_each.Tie as tie
 
 abbrev Inv-loop : tie.InvT-loop
 Inv-loop text mark columns n count family size names₀ lengths₀ i₀ names lengths i =
-    (i ≤ size) × (size ≤ 32) × (n ≤ 240) × (7680 ≤ length family) × (length names ≡ length names₀) × (3072 ≤ length names₀) × (length lengths ≡ length lengths₀) × (32 ≤ length lengths₀) × (names ≡ namesWritten (nameBy (columnNames mark (header text)) (membersOf n columns count) n family) names₀ i) × (lengths ≡ lengthsWritten (nameBy (columnNames mark (header text)) (membersOf n columns count) n family) lengths₀ i)
+    (i ≤ size) × (size ≤ 32) × (n ≤ 240) × (7680 ≤ length family) × (length names ≡ length names₀) × (96 * size ≤ length names₀) × (length lengths ≡ length lengths₀) × (size ≤ length lengths₀) × (names ≡ namesWritten (nameBy (columnNames mark (header text)) (membersOf n columns count) n family) names₀ i) × (lengths ≡ lengthsWritten (nameBy (columnNames mark (header text)) (membersOf n columns count) n family) lengths₀ i)
 
 abbrev μ-loop : tie.MeasureT-loop
 μ-loop text mark columns n count family size names₀ lengths₀ i₀ names lengths i = size - i

@@ -25,33 +25,30 @@ slice-aggregate-store : tie.Need-slice-aggregate-store
 slice-aggregate-store c = search needs
 
 store-requires : tie.Need-store-requires
-unfolding question4
 store-requires c κs =
     let s = c .before .before .before .before .before in
     let t = now (s .args .text) in
     let k = c .before .before .columns .ensures in
-    let l = later-at t (s .args .at) (s .pre .place) in
     let f = form s in
     record {
       some = omega (arith, s .pre .size, f .some);
       size = ap length k ∙ length-columns 0 0 (header t) ∙ sym (s .pre .size);
       places = ap (all isPlace) k ∙ columns-fit 0 0 (header t) (f .columns) (omega (arith, f .plots)) (omega (arith, f .treatments));
-      plots-are = s .pre .plots-are ∙ sym (ap length l);
-      few = s .pre .few;
       room = s .pre .room;
-      form = rw (l, s .pre .size) (s .pre .lines-form);
     }
 
 same-length : tie.Need-same-length
 same-length c = search needs
 
 returns : tie.Need-returns
+unfolding question4
 returns c =
     let s = c .before .before .before .before .before .before .before .before in
     let t = now (s .args .text) in
     let k = c .before .before .before .before .before .columns .ensures in
     let l = later-at t (s .args .at) (s .pre .place) in
-    rw (← k, ← l) (c .before .before .store .ensures)
+    let w = c .before .before .store .ensures in
+    (w .0, λ yes few. rw (← k, ← l) (w .1 (rw (l, s .pre .size) yes) (rw l few)))
 
 pub write-spec : {M : Type 1} → statement M
 write-spec =

@@ -1,70 +1,103 @@
--- `sheet::rows::store` meets its contract. The loop's invariant: the lines from `at` on, stored from plot u on, complete the work.
+-- `sheet::rows::store` meets its contract. The loop's invariant: the lines from `at` on, after those counted, give the whole answer, and
+-- where all have the form, these lines, stored from plot `count` on, complete the work.
 -- Assumes nothing.
-use Prim.Native.Nat.{_-_, _≤_}
-use mathlib.Core.Path.{_≡_, refl, sym, ap, _∙_}
+use Prim.Native.Nat.{ℕ, suc, _+_, _-_, _≤_}
+use mathlib.Core.Path.{_≡_, refl, sym, _∙_}
+use mathlib.Core.Bool.{true}
 use native.Mathlib.Omega.{arith}
 use native.Mathlib.Nat.{zero-add}
+use borrow.Author.Needs.{needs}
 use denote.Ref.{now}
 use lib.ListN.{length, take, drop}
-use Rattle.rules.specs.Sheet.{upTo, fields, lines, withPlots}
-use Rattle.rules.proofs.Sheet.{length-withPlot}
-use Rattle.sheet.proofs.StoreLaws.{More, more-none, more-form, more-turn}
+use Rattle.rules.specs.Sheet.{upTo, lines, all, isPlotLine, withPlots}
+use Rattle.rules.proofs.Members.{clash}
+use Rattle.sheet.specs.Walk.{rowEnd, rowThere}
+use Rattle.sheet.specs.Answers.{judged}
+use Rattle.sheet.proofs.RowLaws.{judge-end, judge-off, judge-on, row-end-none, row-end-some, row-end-is}
+use Rattle.sheet.proofs.StoreLaws.{More, more-none, more-plot, more-form, more-turn}
 use Rattle.sheet.proofs.rows.store.Statement.{statement}
 use Rattle.sheet.proofs.rows.store.Tie as tie
 
 abbrev Inv-loop : tie.InvT-loop
-Inv-loop text start columns n plots levels₀ at₀ u₀ levels at u =
-    (u ≤ plots) × (length levels ≡ length levels₀) × More (take n columns) n u plots text at levels (withPlots (take n columns) 0 (lines (drop start text)) levels₀)
+Inv-loop text start columns n levels₀ at₀ count₀ levels at count =
+    (count ≤ at) × (length levels ≡ length levels₀) × (judged count n (lines (drop at text)) ≡ judged 0 n (lines (drop start text)))
+    × (all (isPlotLine n) (lines (drop start text)) ≡ true → length (lines (drop start text)) ≤ 240 → More (take n columns) n count (length (lines (drop start text))) text at levels (withPlots (take n columns) 0 (lines (drop start text)) levels₀))
 
 abbrev μ-loop : tie.MeasureT-loop
-μ-loop text start columns n plots levels₀ at₀ u₀ levels at u = plots - u
+μ-loop text start columns n levels₀ at₀ count₀ levels at count = length text - at
 
 loop-holds : tie.Need-loop-holds Inv-loop μ-loop
-loop-holds c =
-    let s = c .before .before .before in
-    (omega arith, refl, record { counted = rw zero-add (sym (s .pre .plots-are)); form = s .pre .form; work = refl })
+loop-holds c = (omega arith, refl, refl, λ e k. record { counted = zero-add _; form = e; work = refl })
 
-store-row-requires : tie.Need-store-row-requires Inv-loop μ-loop
-store-row-requires c κs =
+next-row-requires : tie.Need-next-row-requires Inv-loop μ-loop
+next-row-requires c κs =
     let b = c .before .before in
     let s = b .before .before .before .before in
-    let a = s .args in
-    let m = b .loop .inv .2 in
     record {
       some = s .pre .some;
       size = s .pre .size;
       places = s .pre .places;
-      plot = omega (arith, s .pre .few);
       room = omega (arith, s .pre .room);
-      form = more-form (take (a .n) (now (a .columns))) (a .n) (b .loop .u) (a .plots) (now (a .text)) (b .loop .at) (b .loop .levels) _ m (omega arith);
     }
 
-add-u : tie.Need-add-u Inv-loop μ-loop
-add-u c = omega arith
-
-loop-less : tie.Need-loop-less Inv-loop μ-loop
-loop-less c = omega arith
-
-loop-again : tie.Need-loop-again Inv-loop μ-loop
-loop-again c =
-    let b = c .before .before .before .before .before in
-    let s = b .before .before .before .before in
-    let a = s .args in
-    let m = b .loop .inv .2 in
-    let w = c .before .before .store-row .ensures in (
-      omega arith,
-      ap length (w .1) ∙ length-withPlot (take (a .n) (now (a .columns))) (b .loop .u) (fields (upTo 10 (drop (b .loop .at) (now (a .text))))) (b .loop .levels) ∙ b .loop .inv .1,
-      more-turn (take (a .n) (now (a .columns))) (a .n) (b .loop .u) (a .plots) (now (a .text)) (b .loop .at) (b .loop .levels) _ m (omega arith) _ _ (w .0) (w .1),
-    )
-
 same-length : tie.Need-same-length Inv-loop μ-loop
-same-length c = c .before .loop .inv .1
+same-length c = search needs
 
 returns : tie.Need-returns Inv-loop μ-loop
 returns c =
+    let w = c .before .before .before .next-row in
+    let b = c .before .before .before .before .before .before in
+    let a = b .before .before .before .before .args in
+    let text = now (a .text) in
+    let z = sym (w .ensures .0) ∙ c .if1 .taken in (
+      sym (judge-off (b .loop .count) (a .n) text (b .loop .at) (omega arith) z) ∙ b .loop .inv .2,
+      λ e k. clash
+          (more-form (take (a .n) (now (a .columns))) (a .n) (b .loop .count) (length (lines (drop (a .start) text))) text (b .loop .at) (b .loop .levels) _ (b .loop .inv .3 e k) (omega arith))
+          (row-end-none (a .n) (b .loop .at) (drop (b .loop .at) text) z),
+    )
+
+add-count : tie.Need-add-count Inv-loop μ-loop
+add-count c = omega arith
+
+loop-less : tie.Need-loop-less Inv-loop μ-loop
+loop-less c =
+    let w = c .before .before .before .next-row in
+    let b = c .before .before .before .before .before .before in
+    let a = b .before .before .before .before .args in
+    let r = judge-on (b .loop .count) (a .n) (now (a .text)) (b .loop .at) (w .result) (omega arith) (w .ensures .0) (c .if1 .left) in
+    omega arith
+
+loop-again : tie.Need-loop-again Inv-loop μ-loop
+loop-again c =
+    let w = c .before .before .before .next-row in
+    let b = c .before .before .before .before .before .before in
+    let a = b .before .before .before .before .args in
+    let text = now (a .text) in
+    let at = b .loop .at in
+    let cs = take (a .n) (now (a .columns)) in
+    let plots = length (lines (drop (a .start) text)) in
+    let r = judge-on (b .loop .count) (a .n) text at (w .result) (omega arith) (w .ensures .0) (c .if1 .left) in
+    let there = row-end-some (a .n) at (drop at text) (λ z. c .if1 .left (w .ensures .0 ∙ z)) in
+    let next : w .result ≡ at + suc (length (upTo 10 (drop at text))) = w .ensures .0 ∙ row-end-is (a .n) at (drop at text) there in (
+      omega arith,
+      (let same : length (w .last .1 .1 .1 .1 .1 .0) ≡ length (b .loop .levels) = search needs in same ∙ b .loop .inv .1),
+      sym (r .1) ∙ b .loop .inv .2,
+      λ e k. let m = b .loop .inv .3 e k in
+          let u = more-plot cs (a .n) (b .loop .count) plots text at (b .loop .levels) _ m (omega arith) in
+          more-turn cs (a .n) (b .loop .count) plots text at (b .loop .levels) _ m (omega arith) (w .result) _ next (w .ensures .1 (omega arith) there),
+    )
+
+same-length-2 : tie.Need-same-length-2 Inv-loop μ-loop
+same-length-2 c = c .before .loop .inv .1
+
+returns-2 : tie.Need-returns-2 Inv-loop μ-loop
+returns-2 c =
     let b = c .before in
     let a = b .before .before .before .before .args in
-    more-none (take (a .n) (now (a .columns))) (a .n) (b .loop .u) (a .plots) (now (a .text)) (b .loop .at) (b .loop .levels) _ (b .loop .inv .2) (omega arith)
+    let text = now (a .text) in (
+      sym (judge-end (b .loop .count) (a .n) text (b .loop .at) (omega arith)) ∙ b .loop .inv .2,
+      λ e k. more-none (take (a .n) (now (a .columns))) (a .n) (b .loop .count) (length (lines (drop (a .start) text))) text (b .loop .at) (b .loop .levels) _ (b .loop .inv .3 e k) (omega arith),
+    )
 
 pub store-spec : {M : Type 1} → statement M
 store-spec =
@@ -73,9 +106,11 @@ store-spec =
     Inv-loop
     μ-loop
     loop-holds
-    store-row-requires
-    add-u
+    next-row-requires
+    same-length
+    returns
+    add-count
     loop-less
     loop-again
-    same-length
-    returns)
+    same-length-2
+    returns-2)

@@ -1,85 +1,117 @@
--- `sheet::rows::store_row` meets its contract. The loop's invariant: what is left of the line's work, done from here, is the whole of it.
+-- `sheet::rows::store_row` meets its contract. The loop's invariant: the line ends where the rest of it does, and where the line has the
+-- form, what is left of its work, done from here, is the whole of it.
 -- Assumes nothing.
 use Prim.Native.Nat.{ℕ, suc, _+_, _-_, _<_, _≤_}
-use mathlib.Core.Path.{_≡_, refl}
+use mathlib.Core.Path.{_≡_, refl, sym, ap, _∙_}
+use mathlib.Core.Bool.{true, _||_}
+use mathlib.Core.List.{List, _∷_}
 use native.Mathlib.Omega.{arith}
 use native.Mathlib.Numerals.{add-one}
 use native.Mathlib.Nat.{sub-zero}
-use mathlib.Core.Bool.{true}
-use mathlib.Core.List.{List, _∷_}
 use denote.Ref.{now}
-use lib.ListN.{length, getD, take, drop, length-set, length-take, length-drop}
+use lib.Dec.{eqb}
+use lib.ListN.{length, getD, take, drop, length-set, length-take}
 use lib.Seq.{drop-cons, getD-take}
-use Rattle.rules.specs.Sheet.{upTo, fields, isLevel, decimal, withPlot}
-use Rattle.sheet.specs.Walk.{fieldOf, rowThere}
-use Rattle.sheet.proofs.LevelLaws.{level-ends, level-number}
-use Rattle.sheet.proofs.StoreLaws.{Left, left-start, left-inside, left-level, left-turn, place-at}
+use Rattle.rules.specs.Sheet.{upTo, fields, decimal, withPlot}
+use Rattle.rules.proofs.Members.{clash}
+use Rattle.sheet.specs.Walk.{fieldOf, stopBefore, levelThere, levelEnd, rowThere, rowEnd}
+use Rattle.sheet.proofs.LevelLaws.{then-end, then-number}
+use Rattle.sheet.proofs.RowLaws.{Rest, rest-start, rest-off, rest-on, stop-known, level-end-some, level-end-at, row-end-none}
+use Rattle.sheet.proofs.StoreLaws.{Left, left-start, left-turn, place-at}
 use Rattle.sheet.proofs.rows.store_row.Statement.{statement}
 use Rattle.sheet.proofs.rows.store_row.Tie as tie
 
 abbrev Inv-loop : tie.InvT-loop
 Inv-loop text start columns n u levels₀ at₀ i₀ levels at i =
-    (i ≤ n) × (length levels ≡ length levels₀) × Left (n - i) (drop i (take n columns)) u (drop at text) at levels (withPlot (take n columns) u (fields (upTo 10 (drop start text))) levels₀) (start + suc (length (upTo 10 (drop start text))))
+    (i ≤ n) × (length levels ≡ length levels₀) × Rest (n - i) text at (rowEnd n start (drop start text))
+    × (rowThere n (drop start text) ≡ true → Left (n - i) (drop i (take n columns)) u (drop at text) levels (withPlot (take n columns) u (fields (upTo 10 (drop start text))) levels₀))
 
 abbrev μ-loop : tie.MeasureT-loop
 μ-loop text start columns n u levels₀ at₀ i₀ levels at i = n - i
 
--- the field at hand is a level inside the text
-module _ (c : tie.After-known-level Inv-loop μ-loop) where
+-- the level at hand
+module _ (c : tie.After-level-then Inv-loop μ-loop) where
   abbrev text : List ℕ
-  text = now (c .before .before .before .before .before .before .args .text)
+  text = now (c .before .before .before .before .before .before .before .args .text)
+
+  abbrev n : ℕ
+  n = c .before .before .before .before .before .before .before .args .n
+
+  abbrev start : ℕ
+  start = c .before .before .before .before .before .before .before .args .start
 
   abbrev at : ℕ
-  at = c .before .before .loop .at
+  at = c .before .before .before .loop .at
 
-  here : rowThere (suc (c .before .before .before .before .before .before .args .n - (c .before .before .loop .i + 1))) (drop at text) ≡ true
-  here =
-      let b = c .before .before in
-      let n = b .before .before .before .before .args .n in
-      let m : n - b .loop .i ≡ suc (n - (b .loop .i + 1)) = omega arith in
-      (rw m at (b .loop .inv .2)) .0
+  abbrev left : ℕ
+  left = n - (c .before .before .before .loop .i + 1)
 
-  found : isLevel (fieldOf (drop at text)) ≡ true
-  found = left-level _ (drop at text) here
+  abbrev r : ℕ
+  r = c .level-then .result .end
 
-  place-after : c .known-level .result .end ≡ at + length (fieldOf (drop at text))
-  place-after = level-ends at (drop at text) (c .known-level .result) (c .known-level .ensures) found
+  size : n - c .before .before .before .loop .i ≡ suc left
+  size = omega arith
 
-  number : c .known-level .result .level ≡ decimal (fieldOf (drop at text))
-  number = level-number at (drop at text) (c .known-level .result) (c .known-level .ensures) found
+  same : levelThere (c .before .stop-after .result) (drop at text) ≡ levelThere (stopBefore left) (drop at text)
+  same = ap (λ (s : ℕ). levelThere s (drop at text)) (c .before .stop-after .ensures)
 
-  inside : c .known-level .result .end < length text
-  inside = let k = left-inside _ (drop at text) here in omega (arith, place-after, length-drop at text)
+  end : r ≡ levelEnd (stopBefore left) at (drop at text)
+  end = then-end (c .before .stop-after .result) at (drop at text) (c .level-then .result) (c .level-then .ensures) ∙ ap (λ (s : ℕ). levelEnd s at (drop at text)) (c .before .stop-after .ensures)
+
+  rest : Rest (suc left) text at (rowEnd n start (drop start text))
+  rest = rw size at (c .before .before .before .loop .inv .2)
+
+  module _ (some : r ≡ 0 → ⊥) where
+    there : levelThere (stopBefore left) (drop at text) ≡ true
+    there = level-end-some (stopBefore left) at (drop at text) (λ z. some (end ∙ z))
+
+    place-after : r ≡ at + suc (length (fieldOf (drop at text)))
+    place-after = end ∙ level-end-at (stopBefore left) at (drop at text) there
+
+    number : c .level-then .result .level ≡ decimal (fieldOf (drop at text))
+    number = then-number (c .before .stop-after .result) at (drop at text) (c .level-then .result) (c .level-then .ensures) (same ∙ there)
 
 -- there is a column for each field
-columns-fit : (c : tie.After-known-level Inv-loop μ-loop) → c .before .before .before .before .before .before .args .n ≤ length (now (c .before .before .before .before .before .before .args .columns))
+columns-fit : (c : tie.Else1 Inv-loop μ-loop) → c .before .before .before .before .before .before .before .before .args .n ≤ length (now (c .before .before .before .before .before .before .before .before .args .columns))
 columns-fit c =
-    let s = c .before .before .before .before .before .before in
-    omega (arith, s .pre .size, length-take (s .args .n) (now (s .args .columns)))
+    let s = c .before .before .before .before .before .before .before .before in
+    omega (arith, s .pre .0 .size, length-take (s .args .n) (now (s .args .columns)))
 
-place : (c : tie.After-shared-slice-known3 Inv-loop μ-loop) → getD (now (c .before .before .before .before .before .before .before .args .columns)) (c .before .before .before .loop .i) 0 < 12
+place : (c : tie.After-shared-slice-known3 Inv-loop μ-loop) → getD (now (c .before .before .before .before .before .before .before .before .before .args .columns)) (c .before .before .before .before .before .loop .i) 0 < 12
 place c =
-    let b = c .before .before .before in
+    let b = c .before .before .before .before .before in
     let s = b .before .before .before .before in
     let cs = take (s .args .n) (now (s .args .columns)) in
-    let k = s .pre .size in
-    let p = place-at cs (b .loop .i) (s .pre .places) (omega arith) in
+    let k = s .pre .0 .size in
+    let p = place-at cs (b .loop .i) (s .pre .0 .places) (omega arith) in
     rw (getD-take (s .args .n) (now (s .args .columns)) (b .loop .i) 0 (omega arith)) at p
 
 loop-holds : tie.Need-loop-holds Inv-loop μ-loop
 loop-holds c =
     let s = c .before .before .before in
-    let a = s .args in
-    let l = left-start (a .n) (take (a .n) (now (a .columns))) (a .u) (drop (a .start) (now (a .text))) (a .start) (now (a .levels)) (s .pre .some) (s .pre .form) in
-    (omega arith, refl, rw sub-zero l)
+    let a = s .args in (
+      omega arith,
+      refl,
+      rw sub-zero (rest-start (a .n) (now (a .text)) (a .start) (s .pre .0 .some)),
+      λ e. rw sub-zero (left-start (a .n) (take (a .n) (now (a .columns))) (a .u) (drop (a .start) (now (a .text))) (now (a .levels)) (s .pre .0 .some) e),
+    )
 
-known-level-requires : tie.Need-known-level-requires Inv-loop μ-loop
-known-level-requires c κs =
-    let b = c .before in
-    let a = b .before .before .before .before .args in
-    let m : a .n - b .loop .i ≡ suc (a .n - (b .loop .i + 1)) = omega arith in
-    let here = (rw m at (b .loop .inv .2)) .0 in
-    (left-level _ (drop (b .loop .at) (now (a .text))) here, left-inside _ (drop (b .loop .at) (now (a .text))) here)
+stop-after-requires : tie.Need-stop-after-requires Inv-loop μ-loop
+stop-after-requires c κs = omega arith
+
+level-then-requires : tie.Need-level-then-requires Inv-loop μ-loop
+level-then-requires c κs =
+    let b = c .before .before in
+    rw (c .stop-after .ensures) (stop-known (b .before .before .before .before .args .n - (b .loop .i + 1)))
+
+same-length : tie.Need-same-length Inv-loop μ-loop
+same-length c = c .before .before .before .before .loop .inv .1
+
+returns : tie.Need-returns Inv-loop μ-loop
+returns c =
+    let d = c .before in
+    let e = rest-off (text d) (at d) _ (r d) (left d) (end d) (c .if1 .taken) (rest d) in
+    (e, λ there. clash there (row-end-none (n d) (start d) (drop (start d) (text d)) (sym e)))
 
 mul-column : tie.Need-mul-column Inv-loop μ-loop
 mul-column c = let e = columns-fit c in omega arith
@@ -91,17 +123,14 @@ mul-levels : tie.Need-mul-levels Inv-loop μ-loop
 mul-levels c = let e = place c in omega arith
 
 add-levels : tie.Need-add-levels Inv-loop μ-loop
-add-levels c = let e = place c in omega (arith, c .before .before .before .before .before .before .before .pre .plot)
+add-levels c = let e = place c in omega arith
 
 mul-levels-2 : tie.Need-mul-levels-2 Inv-loop μ-loop
-mul-levels-2 c = let e = place c in omega (arith, c .before .before .before .before .before .before .before .pre .plot)
+mul-levels-2 c = let e = place c in omega arith
 
 slice-write-levels : tie.Need-slice-write-levels Inv-loop μ-loop
 slice-write-levels c =
-    let e = place c in omega (arith, c .before .before .before .before .before .before .before .pre .plot, c .before .before .before .before .before .before .before .pre .room)
-
-add-at : tie.Need-add-at Inv-loop μ-loop
-add-at c = let e = inside (c .before .before) in omega arith
+    let e = place c in omega (arith, c .before .before .before .before .before .before .before .before .before .pre .0 .room)
 
 add-i : tie.Need-add-i Inv-loop μ-loop
 add-i c = omega arith
@@ -111,32 +140,34 @@ loop-less c = omega arith
 
 loop-again : tie.Need-loop-again Inv-loop μ-loop
 loop-again c =
-    let b = c .before .before .before .before in
+    let o = c .before in
+    let d = o .before in
+    let b = d .before .before .before in
     let s = b .before .before .before .before in
     let a = s .args in
     let i = b .loop .i in
     let cs = take (a .n) (now (a .columns)) in
-    let k = s .pre .size in
+    let k = s .pre .0 .size in
     let h : i < length cs = omega arith in
     let v : getD cs i 0 ≡ getD (now (a .columns)) i 0 = getD-take (a .n) (now (a .columns)) i 0 (omega arith) in
-    let d : drop i cs ≡ getD (now (a .columns)) i 0 ∷ drop (i + 1) cs = rw (add-one, ← v) (drop-cons cs i 0 h) in
-    let m : a .n - i ≡ suc (a .n - (i + 1)) = omega arith in
-    let l = rw (m, d) at (b .loop .inv .2) in
-    let r = left-turn (getD (now (a .columns)) i 0) (drop (i + 1) cs) (a .u) (now (a .text)) (b .loop .at) (c .before .before .known-level .result .end) (b .loop .levels)
-    (withPlot cs (a .u) (fields (upTo 10 (drop (a .start) (now (a .text))))) (now (a .levels))) (a .start + suc (length (upTo 10 (drop (a .start) (now (a .text))))))
-    (place-after (c .before .before)) (a .n - (i + 1)) l in
-    (omega arith, simp length-set (b .loop .inv .1), rw (number (c .before .before)) r)
+    let f : drop i cs ≡ getD (now (a .columns)) i 0 ∷ drop (i + 1) cs = rw (add-one, ← v) (drop-cons cs i 0 h) in
+    let turn = left-turn (getD (now (a .columns)) i 0) (drop (i + 1) cs) (a .u) (now (a .text)) (b .loop .at) (r d) (b .loop .levels)
+    (withPlot cs (a .u) (fields (upTo 10 (drop (a .start) (now (a .text))))) (now (a .levels))) (place-after d (o .if1 .left)) (left d) in (
+      omega arith,
+      simp length-set (b .loop .inv .1),
+      rest-on (text d) (at d) _ (r d) (left d) (end d) (o .if1 .left) (rest d),
+      λ e. rw (number d (o .if1 .left)) (turn (rw (size d, f) at (b .loop .inv .3 e))),
+    )
 
-same-length : tie.Need-same-length Inv-loop μ-loop
-same-length c = c .before .loop .inv .1
+same-length-2 : tie.Need-same-length-2 Inv-loop μ-loop
+same-length-2 c = c .before .loop .inv .1
 
-returns : tie.Need-returns Inv-loop μ-loop
-returns c =
+returns-2 : tie.Need-returns-2 Inv-loop μ-loop
+returns-2 c =
     let b = c .before in
     let a = b .before .before .before .before .args in
     let m : a .n - b .loop .i ≡ 0 = omega arith in
-    let l = rw m at (b .loop .inv .2) in
-    (l .1, l .0)
+    (rw m at (b .loop .inv .2), λ e. rw m at (b .loop .inv .3 e))
 
 pub store-row-spec : {M : Type 1} → statement M
 store-row-spec =
@@ -145,16 +176,18 @@ store-row-spec =
     Inv-loop
     μ-loop
     loop-holds
-    known-level-requires
+    stop-after-requires
+    level-then-requires
+    same-length
+    returns
     mul-column
     shared-slice-read-column
     mul-levels
     add-levels
     mul-levels-2
     slice-write-levels
-    add-at
     add-i
     loop-less
     loop-again
-    same-length
-    returns)
+    same-length-2
+    returns-2)

@@ -61,14 +61,14 @@ array-read-word c = omega arith
 
 less-requires : tie.Need-less-requires Inv-loop μ-loop
 less-requires c κs =
-    let b = c .before .before in
+    let b = c .before .before .before in
     let s = b .before .before in
     let a = s .args in
     let S = membersOf (a .n) (now (a .family)) (a .size) in
     let k = few-classes (a .n) (now (a .family)) (b .loop .i) (omega arith) (omega arith) (omega arith) in
-    let small : c .member-classes .result ≤ 240 = omega (arith, c .member-classes .ensures) in (
+    let small : c .before .member-classes .result ≤ 240 = omega (arith, c .before .member-classes .ensures) in (
       omega arith,
-      rw (toZ-pos w64 (c .member-classes .result) (omega arith)) (omega arith),
+      rw (toZ-pos w64 (c .before .member-classes .result) (omega arith)) (omega arith),
       subst AllSmall (sym (b .loop .inv .2)) (small-places (take (b .loop .i) (degrees (a .n) S)) (small-take (b .loop .i) (degrees (a .n) S) (small-degrees (s .pre .0)))),
     )
 
@@ -86,15 +86,15 @@ loop-less c = omega arith
 
 loop-again : tie.Need-loop-again Inv-loop μ-loop
 loop-again c =
-    let b = c .before .before .before in
+    let b = c .before .before .before .before in
     let s = b .before .before in
     let a = s .args in
     let i = b .loop .i in
     let S = membersOf (a .n) (now (a .family)) (a .size) in
     let xs = degrees (a .n) S in
-    let r = c .before .member-classes .result in
+    let r = c .before .before .member-classes .result in
     let k = few-classes (a .n) (now (a .family)) i (omega arith) (omega arith) (omega arith) in
-    let q = c .before .member-classes .ensures in
+    let q = c .before .before .member-classes .ensures in
     let small : r ≤ 240 = omega arith in
     let own : toZ w64 r ≡ pos (classes (columnAt (a .n) (now (a .family)) i)) = toZ-pos w64 r (omega arith) ∙ ap pos q in
     let e : c .less .result ≡ getD xs i (pos 0) =

@@ -3,6 +3,7 @@
 use mathlib.Core.Path.{_≡_, refl, ap, ap₂, _∙_}
 use Prim.Native.Nat.{ℕ, _-_, _≤_}
 use native.Mathlib.Omega.{arith}
+use denote.Ref.{now}
 use lib.IntN.{ℤ, pos, _-ℤ_}
 use lib.ListN.{length, getD, length-set}
 use mir.Syntax.{w64}
@@ -17,15 +18,15 @@ use Rattle.strata.proofs.stratum.residuals.Statement.{statement}
 use Rattle.strata.proofs.stratum.residuals.Tie as tie
 
 abbrev Inv-loop : tie.InvT-loop
-Inv-loop plot-size numbers places treatment-size own left₀ p₀ left p = (p ≤ plot-size) × (length left ≡ 32) × (left ≡ upTo (pos 0) (residualAt own numbers places treatment-size) plot-size p)
+Inv-loop own plot-size numbers places treatment-size left₀ p₀ left p = (p ≤ plot-size) × (length left ≡ 32) × (left ≡ upTo (pos 0) (residualAt own numbers places treatment-size) plot-size p)
 
 abbrev μ-loop : tie.MeasureT-loop
-μ-loop plot-size numbers places treatment-size own left₀ p₀ left p = plot-size - p
+μ-loop own plot-size numbers places treatment-size left₀ p₀ left p = plot-size - p
 
 loop-holds : tie.Need-loop-holds Inv-loop μ-loop
 loop-holds c =
     let a = c .args in
-    (omega arith, refl, up-start (pos 0) (residualAt (a .t1) (a .numbers) (a .places) (a .treatment-size)) (a .plot-size))
+    (omega arith, refl, up-start (pos 0) (residualAt (now (a .own)) (now (a .numbers)) (now (a .places)) (a .treatment-size)) (a .plot-size))
 
 add-stratum-word : tie.Need-add-stratum-word Inv-loop μ-loop
 add-stratum-word c = omega arith
@@ -36,13 +37,13 @@ stratum-word-requires c κs = omega arith
 mul-start : tie.Need-mul-start Inv-loop μ-loop
 mul-start c = omega arith
 
-array-copy-out-start : tie.Need-array-copy-out-start Inv-loop μ-loop
-array-copy-out-start c = omega arith
+element-copy-out-start : tie.Need-element-copy-out-start Inv-loop μ-loop
+element-copy-out-start c = omega arith
 
 less-requires : tie.Need-less-requires Inv-loop μ-loop
 less-requires c κs =
     let s = c .before .before .before .before in
-    let x = getD (s .args .t1) (c .before .before .before .loop .p) (pos 0) in
+    let x = getD (now (s .args .own)) (c .before .before .before .loop .p) (pos 0) in
     let h = s .pre .2 (c .before .before .before .loop .p) in
     (omega arith, rw (toZ-ofZ w64 x (small-fits x h)) h, s .pre .3)
 
@@ -64,21 +65,21 @@ loop-again c =
     let s = b .before in
     let a = s .args in
     let p = b .loop .p in
-    let x = getD (a .t1) p (pos 0) in
-    let f = residualAt (a .t1) (a .numbers) (a .places) (a .treatment-size) in
+    let x = getD (now (a .own)) p (pos 0) in
+    let f = residualAt (now (a .own)) (now (a .numbers)) (now (a .places)) (a .treatment-size) in
     let e : c .less .result ≡ f p =
     c .less .ensures
-    ∙ ap₂ (λ (z : ℤ) (w : ℕ). z -ℤ sumPassing (bitAt w) (λ j. getD (a .numbers) j (pos 0)) (a .treatment-size)) (toZ-ofZ w64 x (small-fits x (s .pre .2 p))) (c .before .before .stratum-word .ensures)
-    ∙ residual-turn (a .t1) (a .numbers) (a .places) (a .treatment-size) p in
+    ∙ ap₂ (λ (z : ℤ) (w : ℕ). z -ℤ sumPassing (bitAt w) (λ j. getD (now (a .numbers)) j (pos 0)) (a .treatment-size)) (toZ-ofZ w64 x (small-fits x (s .pre .2 p))) (c .before .before .stratum-word .ensures)
+    ∙ residual-turn (now (a .own)) (now (a .numbers)) (now (a .places)) (a .treatment-size) p in
     let v : toZ w64 (ofZ w64 (c .less .result)) ≡ f p =
-    ap (λ (z : ℤ). toZ w64 (ofZ w64 z)) e ∙ toZ-ofZ w64 (f p) (residual-fits (a .t1) (a .numbers) (a .places) (a .treatment-size) p (omega arith) (s .pre .2) (s .pre .3)) in
+    ap (λ (z : ℤ). toZ w64 (ofZ w64 z)) e ∙ toZ-ofZ w64 (f p) (residual-fits (now (a .own)) (now (a .numbers)) (now (a .places)) (a .treatment-size) p (omega arith) (s .pre .2) (s .pre .3)) in
     (omega arith, simp length-set (b .loop .inv .1), rw (b .loop .inv .2, v) (up-step (pos 0) f (a .plot-size) p (omega arith) (omega arith)))
 
 returns : tie.Need-returns Inv-loop μ-loop
 returns c =
     let b = c .before in
     let a = b .before .args in
-    b .loop .inv .2 ∙ up-end (pos 0) (residualAt (a .t1) (a .numbers) (a .places) (a .treatment-size)) (a .plot-size) (b .loop .p) (omega arith)
+    b .loop .inv .2 ∙ up-end (pos 0) (residualAt (now (a .own)) (now (a .numbers)) (now (a .places)) (a .treatment-size)) (a .plot-size) (b .loop .p) (omega arith)
 
 pub residuals-spec : {M : Type 1} → statement M
 residuals-spec =
@@ -90,7 +91,7 @@ residuals-spec =
     add-stratum-word
     stratum-word-requires
     mul-start
-    array-copy-out-start
+    element-copy-out-start
     less-requires
     mul-left
     array-set-from-left

@@ -5,6 +5,7 @@ use mathlib.Core.Logic.{⊎-elim}
 use mathlib.Core.Bool.{Bool}
 use Prim.Native.Nat.{ℕ, _-_, _≤_, _<_}
 use native.Mathlib.Omega.{arith}
+use denote.Ref.{now}
 use lib.Dec.{eqb}
 use lib.ListN.{getD}
 use borrow.Author.Tests.{eq-eqb, ne-eqb}
@@ -14,10 +15,10 @@ use Rattle.strata.proofs.stratum.stratum_word.Statement.{statement}
 use Rattle.strata.proofs.stratum.stratum_word.Tie as tie
 
 abbrev Inv-loop : tie.InvT-loop
-Inv-loop size place places word₀ t₀ word t = (t ≤ size) × (word ≡ wordOf (λ k. eqb (getD places k 0) place) t)
+Inv-loop places size place word₀ t₀ word t = (t ≤ size) × (word ≡ wordOf (λ k. eqb (getD places k 0) place) t)
 
 abbrev μ-loop : tie.MeasureT-loop
-μ-loop size place places word₀ t₀ word t = size - t
+μ-loop places size place word₀ t₀ word t = size - t
 
 loop-holds : tie.Need-loop-holds Inv-loop μ-loop
 unfolding wordOf
@@ -26,8 +27,8 @@ loop-holds c = (omega arith, refl)
 mul-if1 : tie.Need-mul-if1 Inv-loop μ-loop
 mul-if1 c = omega arith
 
-array-read-if1 : tie.Need-array-read-if1 Inv-loop μ-loop
-array-read-if1 c = omega arith
+element-copy-out-if1 : tie.Need-element-copy-out-if1 Inv-loop μ-loop
+element-copy-out-if1 c = omega arith
 
 cast-word : tie.Need-cast-word Inv-loop μ-loop
 cast-word c = omega arith
@@ -43,9 +44,9 @@ loop-less c = omega arith
 
 loop-again : tie.Need-loop-again Inv-loop μ-loop
 loop-again c =
-    let b = c .before .before in
+    let b = c .before .before .before in
     let s = b .before .args in
-    let f : ℕ → Bool = λ k. eqb (getD (s .t1) k 0) (s .place) in
+    let f : ℕ → Bool = λ k. eqb (getD (now (s .places)) k 0) (s .place) in
     let t = b .loop .t in
     let l : t < 32 = omega arith in (
       omega arith,
@@ -59,7 +60,7 @@ returns : tie.Need-returns Inv-loop μ-loop
 returns c =
     let b = c .before in
     let s = b .before .args in
-    let f : ℕ → Bool = λ k. eqb (getD (s .t1) k 0) (s .place) in
+    let f : ℕ → Bool = λ k. eqb (getD (now (s .places)) k 0) (s .place) in
     let e : b .loop .t ≡ s .size = omega arith in
     b .loop .inv .1 ∙ ap (wordOf f) e
 
@@ -71,7 +72,7 @@ stratum-word-spec =
     μ-loop
     loop-holds
     mul-if1
-    array-read-if1
+    element-copy-out-if1
     cast-word
     shl-word
     add-t

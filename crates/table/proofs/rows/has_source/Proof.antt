@@ -24,19 +24,19 @@ abbrev μ-loop : tie.MeasureT-loop
 μ-loop i size places j₀ j = size - j
 
 loop-holds : tie.Need-loop-holds Inv-loop μ-loop
-loop-holds c = (omega arith, among-none (c .args .i) (c .args .t3))
+loop-holds c = (omega arith, among-none (c .args .i) (now (c .args .places)))
 
 mul-if1 : tie.Need-mul-if1 Inv-loop μ-loop
 mul-if1 c = omega arith
 
-array-read-if1 : tie.Need-array-read-if1 Inv-loop μ-loop
-array-read-if1 c = omega arith
+element-copy-out-if1 : tie.Need-element-copy-out-if1 Inv-loop μ-loop
+element-copy-out-if1 c = omega arith
 
 returns : tie.Need-returns Inv-loop μ-loop
 returns c =
-    let b = c .before .before in
+    let b = c .before .before .before in
     let a = b .before .args in
-    sym (among-yes (a .i) (a .t3) (a .size) (b .loop .j) (omega arith) (omega arith) (c .if1 .taken))
+    sym (among-yes (a .i) (now (a .places)) (a .size) (b .loop .j) (omega arith) (omega arith) (c .if1 .taken))
 
 add-j : tie.Need-add-j Inv-loop μ-loop
 add-j c = omega arith
@@ -46,9 +46,9 @@ loop-less c = omega arith
 
 loop-again : tie.Need-loop-again Inv-loop μ-loop
 loop-again c =
-    let b = c .before .before in
+    let b = c .before .before .before in
     let a = b .before .args in
-    (omega arith, among-more (a .i) (a .t3) (b .loop .j) (omega arith) (b .loop .inv .1) (c .if1 .left))
+    (omega arith, among-more (a .i) (now (a .places)) (b .loop .j) (omega arith) (b .loop .inv .1) (c .if1 .left))
 
 returns-2 : tie.Need-returns-2 Inv-loop μ-loop
 returns-2 c =
@@ -64,7 +64,7 @@ has-source-spec =
     μ-loop
     loop-holds
     mul-if1
-    array-read-if1
+    element-copy-out-if1
     returns
     add-j
     loop-less

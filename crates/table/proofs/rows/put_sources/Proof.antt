@@ -22,12 +22,12 @@ use Rattle.table.proofs.rows.put_sources.Lts as lts
 use Rattle.table.proofs.rows.put_source.Reads as put-source-reads
 
 abbrev Inv-loop : tie.InvT-loop
-Inv-loop stratum i names lengths size out₀ at places degrees next₀ j₀ out next j =
+Inv-loop stratum i names lengths size places degrees out₀ at next₀ j₀ out next j =
     (j ≤ size) × (length out ≡ length out₀)
     × Rest out next (rowsBytes (sourceRows stratum i (drop j (namesIn names lengths size)) (drop j (take size places)) (drop j (take size degrees)))) out₀ at (rowsBytes (sourceRows stratum i (namesIn names lengths size) (take size places) (take size degrees)))
 
 abbrev μ-loop : tie.MeasureT-loop
-μ-loop stratum i names lengths size out₀ at places degrees next₀ j₀ out next j = size - j
+μ-loop stratum i names lengths size places degrees out₀ at next₀ j₀ out next j = size - j
 
 loop-holds : tie.Need-loop-holds Inv-loop μ-loop
 loop-holds c = (omega arith, refl, (refl, refl))
@@ -47,8 +47,8 @@ add-e c = omega (arith, c .before .before .before .before .before .before .befor
 mul-d : tie.Need-mul-d Inv-loop μ-loop
 mul-d c = omega arith
 
-array-copy-out-d : tie.Need-array-copy-out-d Inv-loop μ-loop
-array-copy-out-d c = omega arith
+element-copy-out-d : tie.Need-element-copy-out-d Inv-loop μ-loop
+element-copy-out-d c = omega arith
 
 sub-put-source : tie.Need-sub-put-source Inv-loop μ-loop
 sub-put-source c = omega arith
@@ -62,8 +62,8 @@ part-put-source-end c = omega (arith, c .before .before .before .before .before 
 mul-put-source : tie.Need-mul-put-source Inv-loop μ-loop
 mul-put-source c = omega arith
 
-array-read-put-source : tie.Need-array-read-put-source Inv-loop μ-loop
-array-read-put-source c = omega arith
+element-copy-out-put-source : tie.Need-element-copy-out-put-source Inv-loop μ-loop
+element-copy-out-put-source c = omega arith
 
 put-source-requires : tie.Need-put-source-requires Inv-loop μ-loop
 put-source-requires c κs = tt
@@ -76,31 +76,31 @@ loop-less c = omega arith
 
 loop-again : tie.Need-loop-again Inv-loop μ-loop
 loop-again c =
-    let b = c .before .before .before .before .before .before .before .before in
+    let b = c .before .before .before .before .before .before .before .before .before in
     let s = b .before .before .before .before .before in
     let a = s .args in
     let w = c .before .before .put-source in
     let j = b .loop .j in
-    let h : j + 1 ≤ a .size = omega (arith, c .before .before .before .before .before .before .before) in
+    let h : j + 1 ≤ a .size = omega (arith, c .before .before .before .before .before .before .before .before) in
     let o = now (a .out) in
     let name = now (a .stratum) in
     let ts = namesIn (now (a .names)) (now (a .lengths)) (a .size) in
-    let ss = take (a .size) (a .t6) in
-    let ds = take (a .size) (a .t7) in
-    let x = getD (a .t7) j (pos 0) in
+    let ss = take (a .size) (now (a .places)) in
+    let ds = take (a .size) (now (a .degrees)) in
+    let x = getD (now (a .degrees)) j (pos 0) in
     let n : List ℕ = take (getD (now (a .lengths)) j 0) (drop (96 * j) (now (a .names))) in
-    let one = rowsBytes (sourceRows name (a .i) (n ∷ []) (getD (a .t6) j 0 ∷ []) (x ∷ [])) in
+    let one = rowsBytes (sourceRows name (a .i) (n ∷ []) (getD (now (a .places)) j 0 ∷ []) (x ∷ [])) in
     let rest = rowsBytes (sourceRows name (a .i) (drop (j + 1) ts) (drop (j + 1) ss) (drop (j + 1) ds)) in
-    let l6 : length (a .t6) ≡ 32 = omega (arith, s) in
-    let l7 : length (a .t7) ≡ 32 = omega (arith, s) in
-    let fit : SFits w64 x = record { sfits = c .before .before .before .before .before .d .given } in
+    let l6 = s .pre .2 in
+    let l7 = s .pre .3 in
+    let fit : SFits w64 x = record { sfits = c .before .before .before .before .before .before .d .given } in
     let part : 96 * j + getD (now (a .lengths)) j 0 - 96 * j ≡ getD (now (a .lengths)) j 0 = omega arith in
-    let e : rowsBytes (sourceRows name (a .i) (take (96 * j + getD (now (a .lengths)) j 0 - 96 * j) (drop (96 * j) (now (a .names))) ∷ []) (getD (a .t6) j 0 ∷ []) (toZ w64 (ofZ w64 x) ∷ [])) ≡ one = rw (part, toZ-ofZ w64 x fit) in
+    let e : rowsBytes (sourceRows name (a .i) (take (96 * j + getD (now (a .lengths)) j 0 - 96 * j) (drop (96 * j) (now (a .names))) ∷ []) (getD (now (a .places)) j 0 ∷ []) (toZ w64 (ofZ w64 x) ∷ [])) ≡ one = rw (part, toZ-ofZ w64 x fit) in
     let wrote = wrote-as (b .loop .out) (b .loop .next) e (w .ensures) in (
       h,
       wrote-length (b .loop .out) (b .loop .next) one wrote ∙ b .loop .inv .1,
       rest-then o (a .at) (rowsBytes (sourceRows name (a .i) ts ss ds)) (b .loop .out) (b .loop .next) one rest
-          (source-step name (a .i) (now (a .names)) (now (a .lengths)) (a .size) (a .t6) (a .t7) j (omega (arith, h)) (omega (arith, l6, s .pre .0)) (omega (arith, l7, s .pre .0))) wrote (b .loop .inv .2),
+          (source-step name (a .i) (now (a .names)) (now (a .lengths)) (a .size) (now (a .places)) (now (a .degrees)) j (omega (arith, h)) (omega (arith, l6, s .pre .0)) (omega (arith, l7, s .pre .0))) wrote (b .loop .inv .2),
     )
 
 same-length : tie.Need-same-length Inv-loop μ-loop
@@ -111,8 +111,8 @@ returns c =
     let b = c .before in
     let a = b .before .before .before .before .before .args in
     let ts = namesIn (now (a .names)) (now (a .lengths)) (a .size) in
-    let ss = take (a .size) (a .t6) in
-    let ds = take (a .size) (a .t7) in
+    let ss = take (a .size) (now (a .places)) in
+    let ds = take (a .size) (now (a .degrees)) in
     let l = length-names (now (a .names)) (now (a .lengths)) (a .size) in
     rest-end (now (a .out)) (a .at) (rowsBytes (sourceRows (now (a .stratum)) (a .i) ts ss ds)) (b .loop .out) (b .loop .next) (source-end (now (a .stratum)) (a .i) ts ss ds (b .loop .j) (omega arith)) (b .loop .inv .2)
 
@@ -128,12 +128,12 @@ put-sources-spec =
     shared-slice-read-e
     add-e
     mul-d
-    array-copy-out-d
+    element-copy-out-d
     sub-put-source
     part-put-source-start
     part-put-source-end
     mul-put-source
-    array-read-put-source
+    element-copy-out-put-source
     put-source-requires
     add-j
     loop-less

@@ -21,12 +21,12 @@ use Rattle.table.proofs.rows.put_strata.Lts as lts
 use Rattle.table.proofs.rows.put_stratum.Reads as put-stratum-reads
 
 abbrev Inv-loop : tie.InvT-loop
-Inv-loop strata strata-lengths count names lengths size places degrees out₀ at totals residuals next₀ i₀ out next i =
+Inv-loop strata strata-lengths count totals residuals names lengths size places degrees out₀ at next₀ i₀ out next i =
     (i ≤ count) × (length out ≡ length out₀)
     × Rest out next (rowsBytes (strataRows (i + 1) (drop i (namesIn strata strata-lengths count)) (drop i (take count totals)) (drop i (take count residuals)) (namesIn names lengths size) (take size places) (take size degrees))) out₀ at (rowsBytes (strataRows 1 (namesIn strata strata-lengths count) (take count totals) (take count residuals) (namesIn names lengths size) (take size places) (take size degrees)))
 
 abbrev μ-loop : tie.MeasureT-loop
-μ-loop strata strata-lengths count names lengths size places degrees out₀ at totals residuals next₀ i₀ out next i = count - i
+μ-loop strata strata-lengths count totals residuals names lengths size places degrees out₀ at next₀ i₀ out next i = count - i
 
 loop-holds : tie.Need-loop-holds Inv-loop μ-loop
 loop-holds c = (omega arith, refl, (refl, refl))
@@ -46,14 +46,14 @@ add-e c = omega (arith, c .before .before .before .before .before .before .befor
 mul-total : tie.Need-mul-total Inv-loop μ-loop
 mul-total c = omega arith
 
-array-copy-out-total : tie.Need-array-copy-out-total Inv-loop μ-loop
-array-copy-out-total c = omega arith
+element-copy-out-total : tie.Need-element-copy-out-total Inv-loop μ-loop
+element-copy-out-total c = omega arith
 
 mul-residual : tie.Need-mul-residual Inv-loop μ-loop
 mul-residual c = omega arith
 
-array-copy-out-residual : tie.Need-array-copy-out-residual Inv-loop μ-loop
-array-copy-out-residual c = omega arith
+element-copy-out-residual : tie.Need-element-copy-out-residual Inv-loop μ-loop
+element-copy-out-residual c = omega arith
 
 sub-put-stratum : tie.Need-sub-put-stratum Inv-loop μ-loop
 sub-put-stratum c = omega arith
@@ -68,7 +68,9 @@ add-put-stratum : tie.Need-add-put-stratum Inv-loop μ-loop
 add-put-stratum c = omega arith
 
 put-stratum-requires : tie.Need-put-stratum-requires Inv-loop μ-loop
-put-stratum-requires c κs = (c .before .before .before .before .before .before .before .before .before .before .before .before .pre .0, c .before .before .before .before .before .before .before .before .before .before .before .before .pre .1)
+put-stratum-requires c κs =
+    let s = c .before .before .before .before .before .before .before .before .before .before .before .before in
+    (s .pre .0, s .pre .1, s .pre .4, s .pre .5)
 
 add-i : tie.Need-add-i Inv-loop μ-loop
 add-i c = omega arith
@@ -87,15 +89,15 @@ loop-again c =
     let o = now (a .out) in
     let ps = namesIn (now (a .strata)) (now (a .strata-lengths)) (a .count) in
     let ts = namesIn (now (a .names)) (now (a .lengths)) (a .size) in
-    let ss = take (a .size) (a .places) in
-    let ds = take (a .size) (a .degrees) in
-    let x = getD (a .t4) i (pos 0) in
-    let y = getD (a .t5) i (pos 0) in
+    let ss = take (a .size) (now (a .places)) in
+    let ds = take (a .size) (now (a .degrees)) in
+    let x = getD (now (a .totals)) i (pos 0) in
+    let y = getD (now (a .residuals)) i (pos 0) in
     let n : List ℕ = take (getD (now (a .strata-lengths)) i 0) (drop (96 * i) (now (a .strata))) in
     let one = rowsBytes (stratumRows n (i + 1) ts ss ds x y) in
-    let rest = rowsBytes (strataRows (i + 1 + 1) (drop (i + 1) ps) (drop (i + 1) (take (a .count) (a .t4))) (drop (i + 1) (take (a .count) (a .t5))) ts ss ds) in
-    let lt : length (a .t4) ≡ 32 = omega (arith, s) in
-    let lr : length (a .t5) ≡ 32 = omega (arith, s) in
+    let rest = rowsBytes (strataRows (i + 1 + 1) (drop (i + 1) ps) (drop (i + 1) (take (a .count) (now (a .totals)))) (drop (i + 1) (take (a .count) (now (a .residuals)))) ts ss ds) in
+    let lt = s .pre .6 in
+    let lr = s .pre .7 in
     let fx : SFits w64 x = record { sfits = c .before .before .before .before .before .before .total .given } in
     let fy : SFits w64 y = record { sfits = c .before .before .before .before .before .residual .given } in
     let part : 96 * i + getD (now (a .strata-lengths)) i 0 - 96 * i ≡ getD (now (a .strata-lengths)) i 0 = omega arith in
@@ -103,8 +105,8 @@ loop-again c =
     let wrote = wrote-as (b .loop .out) (b .loop .next) e (w .ensures) in (
       h,
       wrote-length (b .loop .out) (b .loop .next) one wrote ∙ b .loop .inv .1,
-      rest-then o (a .at) (rowsBytes (strataRows 1 ps (take (a .count) (a .t4)) (take (a .count) (a .t5)) ts ss ds)) (b .loop .out) (b .loop .next) one rest
-          (strata-step (now (a .strata)) (now (a .strata-lengths)) (a .count) (a .t4) (a .t5) ts ss ds i (omega (arith, h)) (omega (arith, lt, s .pre .2)) (omega (arith, lr, s .pre .2))) wrote (b .loop .inv .2),
+      rest-then o (a .at) (rowsBytes (strataRows 1 ps (take (a .count) (now (a .totals))) (take (a .count) (now (a .residuals))) ts ss ds)) (b .loop .out) (b .loop .next) one rest
+          (strata-step (now (a .strata)) (now (a .strata-lengths)) (a .count) (now (a .totals)) (now (a .residuals)) ts ss ds i (omega (arith, h)) (omega (arith, lt, s .pre .2)) (omega (arith, lr, s .pre .2))) wrote (b .loop .inv .2),
     )
 
 same-length : tie.Need-same-length Inv-loop μ-loop
@@ -115,11 +117,11 @@ returns c =
     let b = c .before in
     let a = b .before .before .before .before .before .before .args in
     let ps = namesIn (now (a .strata)) (now (a .strata-lengths)) (a .count) in
-    let es = take (a .count) (a .t4) in
-    let rs = take (a .count) (a .t5) in
+    let es = take (a .count) (now (a .totals)) in
+    let rs = take (a .count) (now (a .residuals)) in
     let ts = namesIn (now (a .names)) (now (a .lengths)) (a .size) in
-    let ss = take (a .size) (a .places) in
-    let ds = take (a .size) (a .degrees) in
+    let ss = take (a .size) (now (a .places)) in
+    let ds = take (a .size) (now (a .degrees)) in
     let l = length-names (now (a .strata)) (now (a .strata-lengths)) (a .count) in
     rest-end (now (a .out)) (a .at) (rowsBytes (strataRows 1 ps es rs ts ss ds)) (b .loop .out) (b .loop .next) (strata-end (b .loop .i + 1) ps es rs ts ss ds (b .loop .i) (omega arith)) (b .loop .inv .2)
 
@@ -135,9 +137,9 @@ put-strata-spec =
     shared-slice-read-e
     add-e
     mul-total
-    array-copy-out-total
+    element-copy-out-total
     mul-residual
-    array-copy-out-residual
+    element-copy-out-residual
     sub-put-stratum
     part-put-stratum-start
     part-put-stratum-end

@@ -50,15 +50,15 @@ returns c =
     let o = now (a .out) in
     let name = now (a .stratum) in
     let ts = namesIn (now (a .names)) (now (a .lengths)) (a .size) in
-    let ss = take (a .size) (a .places) in
-    let ds = take (a .size) (a .degrees) in
+    let ss = take (a .size) (now (a .places)) in
+    let ds = take (a .size) (now (a .degrees)) in
     let sources = rowsBytes (sourceRows name (a .i) ts ss ds) in
     let w1 = c .before .before .before .before .before .before .before .before .before .before .before .before .put-sources in
     let f = c .before .before .before .before .before .before .before .before .before .has-source in
     let w2 = c .before .before .before .before .before .before .before .put-residual in
     let w3 = c .before .before .put-row in
-    let l6 : length (a .places) ≡ 32 = omega (arith, s) in
-    let l7 : length (a .degrees) ≡ 32 = omega (arith, s) in
+    let l6 = s .pre .2 in
+    let l7 = s .pre .3 in
     let residual = rowsBytes (residualOf name (among (a .i) ss) (a .residual)) in
     let last = rowBytes (name ∷ wordTotal ∷ signed (a .total) ∷ []) in
     let r : toZ w64 (ofZ w64 (a .residual)) ≡ a .residual = toZ-ofZ w64 (a .residual) (s .fits .residual) in
@@ -67,7 +67,7 @@ returns c =
     let e3 = ap (λ (d : ℤ). rowBytes (name ∷ wordTotal ∷ signed d ∷ [])) t in
     let two = wrote-then o (a .at) sources residual (w1 .ensures) (wrote-as (w1 .last .1 .1 .1 .1 .1 .1 .1 .0) (w1 .result) e2 (w2 .ensures)) in
     let all = wrote-then o (a .at) (sources ++ residual) last two (wrote-as (w2 .last .1 .1 .1 .0) (w2 .result) e3 (w3 .ensures)) in
-    wrote-as o (a .at) (stratum-bytes name (a .i) (now (a .names)) (now (a .lengths)) (a .size) (a .places) (a .degrees) (a .total) (a .residual) (omega (arith, l6, s .pre .0)) (omega (arith, l7, s .pre .0))) all
+    wrote-as o (a .at) (stratum-bytes name (a .i) (now (a .names)) (now (a .lengths)) (a .size) (now (a .places)) (now (a .degrees)) (a .total) (a .residual) (omega (arith, l6, s .pre .0)) (omega (arith, l7, s .pre .0))) all
 
 pub put-stratum-spec : {M : Type 1} → statement M
 put-stratum-spec =

@@ -38,7 +38,7 @@ returns : tie.Need-returns
 returns c =
     let a = c .before .before .before .before .before .before .before .before .before .before .before .before .before .before .before .before .before .before .args in
     let o = now (a .out) in
-    let rows = strataRows 1 (namesIn (now (a .strata)) (now (a .strata-lengths)) (a .count)) (take (a .count) (a .totals)) (take (a .count) (a .residuals)) (namesIn (now (a .names)) (now (a .lengths)) (a .size)) (take (a .size) (a .places)) (take (a .size) (a .degrees)) in
+    let rows = strataRows 1 (namesIn (now (a .strata)) (now (a .strata-lengths)) (a .count)) (take (a .count) (now (a .totals))) (take (a .count) (now (a .residuals))) (namesIn (now (a .names)) (now (a .lengths)) (a .size)) (take (a .size) (now (a .places))) (take (a .size) (now (a .degrees))) in
     let last = rowBytes (wordAll ∷ wordTotal ∷ decimalOf (a .plots) ∷ []) in
     let two = wrote-then o 0 start-table (rowsBytes rows) (c .before .before .before .before .before .before .before .before .before .before .write-bytes .ensures) (c .before .before .before .before .before .before .put-strata .ensures) in
     wrote-as o 0 (table-bytes (a .plots) rows) (wrote-then o 0 (start-table ++ rowsBytes rows) last two (c .before .before .put-plots .ensures))
