@@ -1,12 +1,14 @@
 // Factors as columns, one label a plot. An input column is a slice, an output column an array; at most 240 plots are treated.
 
+mod nesting;
 mod numbering;
 mod order;
 mod plots;
+mod sizes;
 
-pub use numbering::classes;
+pub use nesting::finer;
 pub use numbering::number_levels;
 pub use order::alike;
 pub use order::smaller;
 pub use plots::common_plots;
-pub use plots::numbered_plots;
+pub use sizes::uniform;

@@ -18,22 +18,6 @@ pub(crate) const NEAR: usize = 256;
 // Buckets that labels are sorted into.
 pub(crate) const BUCKETS: usize = 1024;
 
-// How many classes a column of any length has.
-pub fn classes(column: &[u8]) -> usize
-    ensures { λ r. ⌜ r ≡ classes (now (column .entry)) ⌝ }
-{
-    let mut numbers = [0usize; 256];
-    let mut k: usize = 0;
-    for u in 0..column.len() {
-        let x = column[u] as usize;
-        if numbers[x] == 0 {
-            k += 1;
-            numbers[x] = k;
-        }
-    }
-    k
-}
-
 // The bucket of a label. Labels that are pairs of bytes, from 1 to a and from 1 to b, lie in different buckets where
 // a × b is at most 384.
 fn bucket(x: Level) -> usize

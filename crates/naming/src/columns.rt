@@ -36,7 +36,7 @@ fn column_finer(columns: &[u8], n: usize, i: usize, j: usize) -> bool
     let b = PLOTS * j;
     let c = a + n;
     let d = b + n;
-    standing::finer(&columns[a..c], &columns[b..d])
+    factor::finer(&columns[a..c], &columns[b..d])
 }
 
 // Whether column `i` is coarser than or equivalent to the member.
@@ -46,7 +46,7 @@ fn is_above(columns: &[u8], n: usize, i: usize, member: &[u8]) -> bool
 {
     let a = PLOTS * i;
     let e = a + n;
-    standing::finer(member, &columns[a..e])
+    factor::finer(member, &columns[a..e])
 }
 
 // Whether bit `j` of a word is set.
