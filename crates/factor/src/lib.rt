@@ -1,13 +1,11 @@
 // Factors as columns, one label a plot. An input column is a slice, an output column an array; at most 240 plots are treated.
 
 mod nesting;
-mod numbering;
 mod order;
 mod plots;
 mod sizes;
 
 pub use nesting::finer;
-pub use numbering::number_levels;
 pub use order::alike;
 pub use order::smaller;
 pub use plots::common_plots;

@@ -22,7 +22,7 @@ pub fn number_columns(levels: &[Level], n: usize, first: usize, count: usize, ou
         let a = PLOTS * (first + c);
         let e = a + n;
         let mut column = [0u8; PLOTS];
-        factor::number_levels(&levels[a..e], &mut column);
+        numbering::number_levels(&levels[a..e], &mut column);
         decimal::write_bytes(&column[..n], out, PLOTS * c);
     }
 }

@@ -2,9 +2,9 @@
 -- Assumes nothing.
 use borrow.Author.Needs.{needs}
 use mathlib.Core.Path.{refl}
-use Rattle.factor.specs.Seen.{bucketOf}
-use Rattle.factor.proofs.numbering.bucket.Statement.{statement}
-use Rattle.factor.proofs.numbering.bucket.Tie as tie
+use Rattle.numbering.specs.Seen.{bucketOf}
+use Rattle.numbering.proofs.bucket.Statement.{statement}
+use Rattle.numbering.proofs.bucket.Tie as tie
 
 mul-result : tie.Need-mul-result
 mul-result c = search needs

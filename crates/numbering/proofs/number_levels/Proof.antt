@@ -7,13 +7,13 @@ use borrow.Author.Needs.{needs}
 use denote.Ref.{now}
 use lib.ListN.{length, take, length-take}
 use Rattle.rules.specs.Factor.{Column, classes, number}
 use Rattle.factor.specs.Lent.{overlay}
 use Rattle.factor.proofs.Fill.{take-min}
-use Rattle.factor.proofs.numbering.number_levels.Statement.{statement}
-use Rattle.factor.proofs.numbering.number_levels.Tie as tie
+use Rattle.numbering.proofs.number_levels.Statement.{statement}
+use Rattle.numbering.proofs.number_levels.Tie as tie
 
-numbered-plots-requires : tie.Need-numbered-plots-requires
-numbered-plots-requires c κs = search needs
+common-plots-requires : tie.Need-common-plots-requires
+common-plots-requires c κs = search needs
 
 slice-aggregate-least : tie.Need-slice-aggregate-least
 slice-aggregate-least c = simp length-take (omega arith)
@@ -49,7 +49,8 @@ returns : tie.Need-returns
 returns c =
     let b = c .before .before .before .before .before .before .before .before in
     let levels = now (b .before .before .args .levels) in
-    let e : take (b .numbered-plots .result) levels ≡ take 240 levels = ap (λ (n : ℕ). take n levels) (b .numbered-plots .ensures) ∙ take-min 240 levels in
+    let n : b .common-plots .result ≡ min 240 (length levels) = omega arith in
+    let e : take (b .common-plots .result) levels ≡ take 240 levels = ap (λ (m : ℕ). take m levels) n ∙ take-min 240 levels in
     (c .number-near .ensures .0 ∙ ap classes e, c .number-near .ensures .1 ∙ ap (λ (F : Column). overlay (now (b .before .before .args .out)) (number F)) e)
 
 number-any-requires : tie.Need-number-any-requires
@@ -62,7 +63,7 @@ pub number-levels-spec : {M : Type 1} → statement M
 number-levels-spec =
     tie.close
     (tie.spec
-    numbered-plots-requires
+    common-plots-requires
     slice-aggregate-least
     least-requires
     slice-aggregate-largest

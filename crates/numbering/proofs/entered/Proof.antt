@@ -6,10 +6,10 @@ use native.Mathlib.Omega.{arith}
 use borrow.Author.Needs.{needs}
 use denote.Ref.{now}
 use lib.ListN.{getD, set}
-use Rattle.factor.specs.Seen.{bucketOf, lookUp, look}
-use Rattle.factor.proofs.Chain.{bucket-less, was-found, not-found}
-use Rattle.factor.proofs.numbering.entered.Statement.{statement}
-use Rattle.factor.proofs.numbering.entered.Tie as tie
+use Rattle.numbering.specs.Seen.{bucketOf, lookUp, look}
+use Rattle.numbering.proofs.Chain.{bucket-less, was-found, not-found}
+use Rattle.numbering.proofs.entered.Statement.{statement}
+use Rattle.numbering.proofs.entered.Tie as tie
 
 bucket-requires : tie.Need-bucket-requires
 bucket-requires c κs = search needs

@@ -9,10 +9,11 @@ use denote.Ref.{now}
 use lib.ListN.{length, length-set}
 use Rattle.rules.specs.Factor.{at, number}
 use Rattle.rules.proofs.Numbering.{length-number}
-use Rattle.factor.proofs.Fill.{filled, filled-step, take-min, filled-number}
-use Rattle.factor.proofs.Chain.{Seen, seen-none, seen-entered}
-use Rattle.factor.proofs.numbering.number_any.Statement.{statement}
-use Rattle.factor.proofs.numbering.number_any.Tie as tie
+use Rattle.factor.proofs.Fill.{filled, filled-step, take-min}
+use Rattle.numbering.proofs.Written.{filled-number}
+use Rattle.numbering.proofs.Chain.{Seen, seen-none, seen-entered}
+use Rattle.numbering.proofs.number_any.Statement.{statement}
+use Rattle.numbering.proofs.number_any.Tie as tie
 
 abbrev Inv-loop : tie.InvT-loop
 Inv-loop levels n room₀ labels₀ chain₀ last₀ k₀ u₀ room labels chain last k u =
@@ -21,8 +22,8 @@ Inv-loop levels n room₀ labels₀ chain₀ last₀ k₀ u₀ room labels chain
 abbrev μ-loop : tie.MeasureT-loop
 μ-loop levels n room₀ labels₀ chain₀ last₀ k₀ u₀ room labels chain last k u = n - u
 
-numbered-plots-requires : tie.Need-numbered-plots-requires Inv-loop μ-loop
-numbered-plots-requires c κs = search needs
+common-plots-requires : tie.Need-common-plots-requires Inv-loop μ-loop
+common-plots-requires c κs = search needs
 
 loop-holds : tie.Need-loop-holds Inv-loop μ-loop
 loop-holds c = (omega arith, omega arith, refl, search needs, seen-none (now (c .before .before .before .args .levels)))
@@ -89,7 +90,7 @@ number-any-spec =
     (tie.spec
     Inv-loop
     μ-loop
-    numbered-plots-requires
+    common-plots-requires
     loop-holds
     mul-entered
     shared-slice-read-entered

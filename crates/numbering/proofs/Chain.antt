@@ -12,8 +12,8 @@ use borrow.Author.Tests.{eqb-true, eqb-false, eq-eqb, ne-eqb}
 use Rattle.rules.specs.Factor.{Column, at, number, classes}
 use Rattle.rules.proofs.Numbering.{by-cases}
 use Rattle.rules.proofs.Columns.{Tells, tells-none}
-use Rattle.factor.specs.Seen.{bucketOf, lookUp, Descends, Chained, look, unlessFound, Entered}
+use Rattle.numbering.specs.Seen.{bucketOf, lookUp, Descends, Chained, look, unlessFound, Entered}
 use Rattle.factor.proofs.Table.{stepped-old, stepped-new, getD-zeros, classes-none}
 
 module _ (labels chain : List ℕ) (x : ℕ) where
   -- class c has the label

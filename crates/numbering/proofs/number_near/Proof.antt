@@ -12,11 +12,11 @@ use lib.Seq.{take-length}
 use Rattle.rules.specs.Factor.{at, number, classes}
 use Rattle.rules.proofs.Numbering.{length-number}
 use Rattle.rules.proofs.Columns.{Tells, tells-none}
 use Rattle.factor.proofs.Fill.{filled, filled-step}
-use Rattle.factor.proofs.Lowered.{lowered, length-lowered, lowered-at, number-lowered, classes-lowered}
+use Rattle.numbering.proofs.Lowered.{lowered, length-lowered, lowered-at, number-lowered, classes-lowered}
 use Rattle.factor.proofs.Table.{Stepped, stepped-old, table-new, getD-zeros, classes-none}
-use Rattle.factor.proofs.numbering.number_near.Statement.{statement}
-use Rattle.factor.proofs.numbering.number_near.Tie as tie
+use Rattle.numbering.proofs.number_near.Statement.{statement}
+use Rattle.numbering.proofs.number_near.Tie as tie
 
 abbrev Inv-loop : tie.InvT-loop
 Inv-loop levels low room₀ numbers₀ k₀ u₀ u-end room numbers k u =

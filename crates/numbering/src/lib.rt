@@ -1,22 +1,23 @@
-// Numbering by first appearance.
+// Numbering by first appearance: equivalent columns become equal. A column of levels is a slice, that of numbers an array; at most 240 plots
+// are numbered.
 ghost use mathlib.Core.Path.{_≡_};
 ghost use Prim.Native.Nat.{ℕ, _+_, _≤_, _<_};
 ghost use lib.ListN.{length};
 ghost use Rattle.rules.specs.Factor.{at, number, classes};
 ghost use Rattle.factor.specs.Lent.{plotsOf, overlay};
-ghost use Rattle.factor.specs.Seen.{bucketOf, lookUp, Descends, Chained, Entered};
-use crate::plots::numbered_plots;
+ghost use Rattle.numbering.specs.Seen.{bucketOf, lookUp, Descends, Chained, Entered};
+use factor::common_plots;
 use limits::Level;
 use limits::PLOTS;
 
 // Class numbers: 1 to 240, and 0 for none.
-pub(crate) const NUMBERS: usize = PLOTS + 1;
+const NUMBERS: usize = PLOTS + 1;
 
 // Labels whose numbers a table of bytes holds without sorting them into buckets.
-pub(crate) const NEAR: usize = 256;
+const NEAR: usize = 256;
 
 // Buckets that labels are sorted into.
-pub(crate) const BUCKETS: usize = 1024;
+const BUCKETS: usize = 1024;
 
 // The bucket of a label. Labels that are pairs of bytes, from 1 to a and from 1 to b, lie in different buckets where
 // a × b is at most 384.
@@ -44,7 +45,7 @@ fn look_up(labels: &[Level; NUMBERS], chain: &[u8; NUMBERS], start: usize, x: Le
 
 // The class labelled `x`. Where none of the `k` classes is, the next becomes it: class c has its label and the class before it
 // in its bucket; `last` has the latest class of each bucket.
-pub(crate) fn entered(
+fn entered(
     labels: &mut [Level; NUMBERS],
     chain: &mut [u8; NUMBERS],
     last: &mut [u8; BUCKETS],
@@ -72,7 +73,7 @@ pub fn number_levels(levels: &[Level], out: &mut [u8; PLOTS]) -> usize
     ensures answer { λ r. ⌜ r ≡ classes (plotsOf (now (levels .entry))) ⌝ }
     ensures numbers { λ _. ⌜ now (out .exit) ≡ overlay (now (out .entry)) (number (plotsOf (now (levels .entry)))) ⌝ }
 {
-    let n = numbered_plots(levels.len());
+    let n = common_plots(levels.len(), PLOTS);
     let low = least(&levels[..n]);
     if (largest(&levels[..n]) as usize) < low as usize + NEAR {
         return number_near(&levels[..n], low, out);
@@ -133,7 +134,7 @@ fn number_any(levels: &[Level], out: &mut [u8; PLOTS]) -> usize
     ensures answer { λ r. ⌜ r ≡ classes (plotsOf (now (levels .entry))) ⌝ }
     ensures numbers { λ _. ⌜ now (out .exit) ≡ overlay (now (out .entry)) (number (plotsOf (now (levels .entry)))) ⌝ }
 {
-    let n = numbered_plots(levels.len());
+    let n = common_plots(levels.len(), PLOTS);
     let room: &mut [u8] = out;
     let mut labels: [Level; NUMBERS] = [0; NUMBERS];
     let mut chain = [0u8; NUMBERS];

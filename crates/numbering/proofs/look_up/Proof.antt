@@ -5,10 +5,10 @@ use Prim.Native.Nat.{suc, _≤_, _<_}
 use native.Mathlib.Omega.{arith}
 use denote.Ref.{now}
 use lib.ListN.{getD}
-use Rattle.factor.specs.Seen.{lookUp}
-use Rattle.factor.proofs.Chain.{look-hit, look-miss, look-end, look-enough}
-use Rattle.factor.proofs.numbering.look_up.Statement.{statement}
-use Rattle.factor.proofs.numbering.look_up.Tie as tie
+use Rattle.numbering.specs.Seen.{lookUp}
+use Rattle.numbering.proofs.Chain.{look-hit, look-miss, look-end, look-enough}
+use Rattle.numbering.proofs.look_up.Statement.{statement}
+use Rattle.numbering.proofs.look_up.Tie as tie
 
 abbrev Inv-loop : tie.InvT-loop
 Inv-loop labels chain start x c₀ c =
