@@ -24,8 +24,7 @@ use Rattle.rules.proofs.Closing.{pigeonhole, ascending-distinct}
 use Rattle.rules.proofs.Members.{insertAll-has, insertAll-only, ascending-insertAll, ascending-unique}
 use Rattle.rules.proofs.Supremum.{length-supremum, number-supremum}
 use Rattle.rules.proofs.WorkList.{member-in, distinct-more, length-sorted}
-use Rattle.factor.specs.Lent.{common, onCommon, overlay}
-use Rattle.standing.specs.Standing.{testCommon}
+use Rattle.factor.specs.Lent.{common, onCommon, testCommon, overlay}
 use Rattle.factor.proofs.Lent.{common-all}
 use Rattle.design.specs.State.{columnIn, Held, Placed, full, old, new, grownTo, Begun, Sorted}
 use Rattle.design.specs.Treatments.{Placing, exceeded, begun, knownFiner, Member}

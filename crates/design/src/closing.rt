@@ -73,7 +73,7 @@ fn member_finer(store: &[u8], n: usize, i: usize, j: usize) -> bool
     let b = PLOTS * j;
     let c = a + n;
     let d = b + n;
-    standing::finer(&store[a..c], &store[b..d])
+    factor::finer(&store[a..c], &store[b..d])
 }
 
 // Whether member `i` is found to be finer than member `j`: it is known, or a walk shows it, which is then noted. None is walked that has not

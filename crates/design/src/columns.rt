@@ -53,7 +53,7 @@ fn place_column(
     let at = PLOTS * c;
     let end = at + n;
     let mut column = [0u8; PLOTS];
-    let k = factor::number_levels(&levels[at..end], &mut column);
+    let k = numbering::number_levels(&levels[at..end], &mut column);
     let p = place(store, counts, size, &column[..n], k as u8);
     grown(size, p)
 }

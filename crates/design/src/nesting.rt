@@ -45,7 +45,7 @@ fn walk_finer(a: &[u8], i: usize, b: &[u8], j: usize, n: usize) -> bool
     let q = PLOTS * j;
     let r = p + n;
     let s = q + n;
-    standing::finer(&a[p..r], &b[q..s])
+    factor::finer(&a[p..r], &b[q..s])
 }
 
 // Whether member `i` of one buffer, which has `f` classes, is found to be finer than member `j` of another, which has `g`. None is

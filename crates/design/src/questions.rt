@@ -103,7 +103,7 @@ pub fn first_unequal(family: &[u8], n: usize, size: usize) -> usize
     for i in 0..size {
         let at = PLOTS * i;
         let end = at + n;
-        if !standing::uniform(&family[at..end]) {
+        if !factor::uniform(&family[at..end]) {
             return i + 1;
         }
     }

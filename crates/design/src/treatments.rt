@@ -103,7 +103,7 @@ fn extend_by(
     let at = PLOTS * c;
     let end = at + n;
     let mut column = [0u8; PLOTS];
-    factor::number_levels(&levels[at..end], &mut column);
+    numbering::number_levels(&levels[at..end], &mut column);
     extend(infima, lengths, total, &column[..n], k)
 }
 

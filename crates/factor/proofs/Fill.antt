@@ -8,9 +8,6 @@ use native.Mathlib.Numerals.{add-one}
 use native.Mathlib.Omega.{arith}
 use lib.ListN.{length, getD, take, drop, set, length-append, length-drop, List·getD-append}
 use lib.Seq.{getD-take, length-take-le, take-suc, drop-cons, set-at, append-snoc, take-nil}
-use Rattle.rules.specs.Factor.{Column, number}
-use Rattle.rules.proofs.Numbering.{length-number, number-take}
-use Rattle.factor.specs.Lent.{plotsOf, overlay}
 
 module _ {ℓ} {A : Type ℓ} where
   -- b, with its first i elements replaced by those of s
@@ -39,11 +36,3 @@ module _ {ℓ} {A : Type ℓ} where
   take-min (suc m) (x ∷ l) =
       let e : min (suc m) (suc (length l)) ≡ suc (min m (length l)) = omega arith in
       rw e (ap (λ (r : List A). x ∷ r) (take-min m l))
-
--- the numbers of all plots of a column are written
-pub filled-number : (b : List ℕ) (F : Column) → filled b (number F) (min 240 (length F)) ≡ overlay b (number (plotsOf F))
-filled-number b F =
-    let n = min 240 (length F) in
-    let e : number (take 240 F) ≡ take n (number F) = ap number (sym (take-min 240 F)) ∙ number-take n F in
-    let l : length (take n (number F)) ≡ n = length-take-le n (number F) (rw length-number (omega arith)) in
-    sym (rw (e, l))

@@ -17,6 +17,10 @@ common F G = min 240 (min (length F) (length G))
 abbrev pub onCommon : {A : Type 0} → (Column → Column → A) → Column → Column → A
 onCommon op F G = op (take (common F G) F) (take (common F G) G)
 
+-- a test of two columns over those plots
+abbrev pub testCommon : {A : Type 0} → (ℕ → Column → Column → A) → Column → Column → A
+testCommon test F G = onCommon (test (common F G)) F G
+
 -- what an output array holds: the numbers, then what was there
 abbrev pub overlay : List ℕ → Column → List ℕ
 overlay out X = X ++ drop (length X) out

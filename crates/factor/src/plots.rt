@@ -4,7 +4,7 @@ ghost use Prim.Native.Nat.{min};
 use limits::PLOTS;
 
 // How many of `n` plots are numbered.
-pub fn numbered_plots(n: usize) -> usize
+pub(crate) fn numbered_plots(n: usize) -> usize
     ensures { λ r. ⌜ r ≡ min 240 n ⌝ }
 {
     if n < PLOTS {

@@ -22,7 +22,7 @@ pub fn number_columns(levels: &[Level], n: usize, first: usize, count: usize, ou
         let a = PLOTS * (first + c);
         let e = a + n;
         let mut column = [0u8; PLOTS];
-        factor::number_levels(&levels[a..e], &mut column);
+        numbering::number_levels(&levels[a..e], &mut column);
         decimal::write_bytes(&column[..n], out, PLOTS * c);
     }
 }
@@ -36,7 +36,7 @@ fn column_finer(columns: &[u8], n: usize, i: usize, j: usize) -> bool
     let b = PLOTS * j;
     let c = a + n;
     let d = b + n;
-    standing::finer(&columns[a..c], &columns[b..d])
+    factor::finer(&columns[a..c], &columns[b..d])
 }
 
 // Whether column `i` is coarser than or equivalent to the member.
@@ -46,7 +46,7 @@ fn is_above(columns: &[u8], n: usize, i: usize, member: &[u8]) -> bool
 {
     let a = PLOTS * i;
     let e = a + n;
-    standing::finer(member, &columns[a..e])
+    factor::finer(member, &columns[a..e])
 }
 
 // Whether bit `j` of a word is set.

@@ -15,7 +15,7 @@ use Rattle.rules.specs.Factor.{Column, at, count}
 use Rattle.rules.proofs.Numbering.{by-cases}
 use Rattle.rules.proofs.Tests.{count-same}
 use Rattle.rules.proofs.Walks.{bool-false}
-use Rattle.standing.specs.Sizes.{labelled}
+use Rattle.factor.specs.Sizes.{labelled}
 use Rattle.standing.specs.Cells.{labelledBoth, Inside, CellSizes, Listed, cellSize, sumAt}
 use Rattle.standing.proofs.CellTable.{and-both, both-and, and-false, count-none, stays, added, count-split}
 use Rattle.standing.proofs.Listing.{listed-inside}

@@ -16,7 +16,7 @@ use Rattle.rules.proofs.Numbering.{by-cases}
 use Rattle.rules.proofs.Tests.{every-at, every-all, count-yes, count-no, count-same, size-equivalent}
 use Rattle.rules.proofs.Walks.{bool-false, count-le}
 use Rattle.rules.proofs.Orthogonality.{same-test, overlap-infimum, orthogonal-test-plots}
-use Rattle.standing.specs.Sizes.{labelled}
+use Rattle.factor.specs.Sizes.{labelled}
 use Rattle.standing.specs.Joining.{Below, OneClass, Joins, spread}
 use Rattle.standing.specs.Cells.{labelledBoth, Inside, CellSizes, LabelSizes, EntrySizes, Stands, evenCells}
 use Rattle.factor.proofs.Table.{getD-zeros}

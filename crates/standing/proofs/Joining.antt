@@ -1,6 +1,6 @@
 -- Laws of the tables over labels that join classes.
 -- Assumes nothing.
-use mathlib.Core.Path.{_≡_, refl, sym, ap, ap₂, _∙_, subst}
+use mathlib.Core.Path.{_≡_, refl, sym, ap, ap₂, _∙_}
 use mathlib.Core.Bool.{true, false}
 use mathlib.Core.List.{List, [], _∷_, _++_, map}
 use Prim.Native.Nat.{ℕ, zero, suc, _+_, _-_, _≤_, _<_}
@@ -22,13 +22,6 @@ use Rattle.factor.proofs.Fill.{filled, length-filled, getD-filled}
 use Rattle.factor.proofs.Table.{getD-zeros}
 use Rattle.standing.specs.Cells.{Stands}
 use Rattle.standing.specs.Joining.{Below, Own, OneEntry, OneClass, Links, Joins, Among, InOrder, Numbered, relabelled, spread}
-
--- what holds of all before u and of u holds of all before u + 1
-pub one-more : (P : ℕ → Type 0) (u : ℕ) → ((v : ℕ) → v < u → P v) → P u → (v : ℕ) → v < u + 1 → P v
-one-more P u all here v h =
-    by-cases (eqb v u)
-    (λ e. subst P (sym (eqb-true v u e)) here)
-    (λ e. let ne : v ≡ u → ⊥ = eqb-false v u e in all v (omega (arith, ne)))
 
 -- ---- entries of labels
 

@@ -1,8 +1,6 @@
 pub mod Codes
 pub mod Joining
-pub mod SizeTable
 pub mod CellTable
 pub mod Listing
 pub mod CellSums
 pub mod Nesting
-pub mod Common

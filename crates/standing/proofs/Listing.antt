@@ -16,7 +16,7 @@ use Rattle.rules.proofs.Numbering.{by-cases, eqb-self, add-has, has-all}
 use Rattle.rules.proofs.Sums.{Some, nowhere, somewhere, some}
 use Rattle.standing.specs.Joining.{Below, InOrder, Among, spread}
 use Rattle.standing.specs.Cells.{labelledBoth, Plot, Inside, Cover, Stands, Listed}
-use Rattle.standing.proofs.SizeTable.{count-some}
+use Rattle.factor.proofs.SizeTable.{count-some}
 use Rattle.standing.proofs.Joining.{length-spread, spread-at}
 use Rattle.standing.proofs.CellTable.{and-both, both-and}
 

@@ -7,7 +7,7 @@ use Prim.Native.Nat.{ℕ, zero, suc, _+_, _*_, _≤_, _<_}
 use lib.Dec.{eqb}
 use lib.ListN.{length, take}
 use Rattle.rules.specs.Factor.{Column, at, every, count, classSize}
-use Rattle.standing.specs.Sizes.{labelled}
+use Rattle.factor.specs.Sizes.{labelled}
 use Rattle.standing.specs.Joining.{InOrder, spread}
 
 -- how many of the first u plots have the labels x and y

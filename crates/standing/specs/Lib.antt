@@ -1,4 +1,2 @@
 pub mod Joining
-pub mod Sizes
 pub mod Cells
-pub mod Standing

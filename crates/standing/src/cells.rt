@@ -1,12 +1,11 @@
 // Cells: a cell is what a class of one factor and a class of the other have in common. Sizes by cells, and orthogonality.
 ghost use mathlib.Core.Path.{_≡_};
 ghost use mathlib.Core.Bool.{true};
-ghost use Prim.Native.Nat.{ℕ, _≤_, _<_};
+ghost use Prim.Native.Nat.{ℕ, _*_, _≤_, _<_};
 ghost use lib.ListN.{length, replicate};
 ghost use Rattle.rules.specs.Factor.{at};
 ghost use Rattle.standing.specs.Joining.{Below, OneClass};
 ghost use Rattle.standing.specs.Cells.{Inside, CellSizes, Cover, LabelSizes, EntrySizes, cellSize, sumAt, evenCells};
-use crate::sizes::product;
 use limits::PLOTS;
 
 // Labels x of the one factor and y of the other, below w, make cell w × x + y. A small table is cleared in less time, and most pairs of
@@ -100,6 +99,13 @@ pub(crate) fn entry_sizes(
         sizes[k] += in_f[x];
     }
     sizes
+}
+
+// The product of two sizes.
+fn product(x: u8, y: u8) -> u16
+    ensures { λ r. ⌜ r ≡ x * y ⌝ }
+{
+    x as u16 * y as u16
 }
 
 // Whether for each listed cell the sizes of the cell and of its class of the supremum make the product that those of its labels make.

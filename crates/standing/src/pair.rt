@@ -3,10 +3,9 @@ ghost use mathlib.Core.Path.{_≡_};
 ghost use Prim.Native.Nat.{_*_, _≤_};
 ghost use lib.ListN.{length, replicate};
 ghost use Rattle.rules.specs.Factor.{classes, infimum, supremum, orthogonal};
-ghost use Rattle.factor.specs.Lent.{onCommon, overlay};
+ghost use Rattle.factor.specs.Lent.{onCommon, testCommon, overlay};
 ghost use Rattle.standing.specs.Joining.{Below};
 ghost use Rattle.standing.specs.Cells.{Inside, CellSizes, Listed};
-ghost use Rattle.standing.specs.Standing.{testCommon};
 use crate::cells::ALL_CELLS;
 use crate::cells::CELLS;
 use crate::cells::FEW_CELLS;
@@ -20,8 +19,8 @@ use crate::join::number_column;
 use crate::join::number_joins;
 use crate::labels::past_labels;
 use crate::meet::number_cells;
-use crate::orders::agrees;
 use factor::common_plots;
+use factor::finer;
 use limits::PLOTS;
 
 // Numbers of classes: of the infimum of two factors and of their supremum.
@@ -136,7 +135,7 @@ fn crossing_whole(f: &[u8], g: &[u8], a: usize, w: usize, above: &mut [u8; PLOTS
     ensures orthogonal { λ r. ⌜ r .orthogonal ≡ orthogonal (length (now (f .entry))) (now (f .entry)) (now (g .entry)) ⌝ }
     ensures above { λ _. ⌜ now (above .exit) ≡ overlay (now (above .entry)) (supremum (now (f .entry)) (now (g .entry))) ⌝ }
 {
-    if agrees(g, f) {
+    if finer(g, f) {
         let k = number_column(f, a, above);
         return Crossing {
             supremum: k,

@@ -14,8 +14,6 @@ use Rattle.rules.specs.Family.{membersOf, allNumbered, ordered, wellFormed}
 use Rattle.rules.specs.Design.{plotsWithin}
 use Rattle.rules.proofs.Buffer.{length-members, member-is}
 use Rattle.rules.proofs.WellFormed.{Accepted, accepted}
-use Rattle.factor.specs.Lent.{common}
-use Rattle.standing.specs.Standing.{testCommon}
 use Rattle.strata.specs.Lent.{Formed}
 use Rattle.families.proofs.Lent.{length-column}
 

@@ -15,7 +15,7 @@ pub fn member_finer(f: &[u8], i: usize, g: &[u8], j: usize, n: usize) -> bool
     let b = PLOTS * j;
     let c = a + n;
     let d = b + n;
-    standing::finer(&f[a..c], &g[b..d])
+    factor::finer(&f[a..c], &g[b..d])
 }
 
 // How many classes a numbered column has: its largest number. The walk goes to the end, so that many plots are looked at at a time.

@@ -10,7 +10,7 @@ use denote.Ref.{now}
 use lib.ListN.{length, take, replicate}
 use Rattle.rules.specs.Factor.{Column, number, classes, supremum, orthogonal}
 use Rattle.rules.proofs.Members.{clash}
-use Rattle.standing.specs.Standing.{testCommon}
+use Rattle.factor.specs.Lent.{testCommon}
 use Rattle.design.specs.State.{columnIn}
 use Rattle.design.proofs.Asked.{part-is, length-column}
 use Rattle.design.proofs.Suprema.{lent-test, length-made, number-made, classes-made, take-made, long-made}

@@ -8,7 +8,7 @@ use borrow.Author.Needs.{needs}
 use denote.Ref.{now}
 use lib.ListN.{length, replicate, length-set, getD-replicate}
 use Rattle.rules.specs.Factor.{Column, at}
-use Rattle.standing.specs.Sizes.{labelled}
+use Rattle.factor.specs.Sizes.{labelled}
 use Rattle.factor.proofs.Table.{getD-zeros}
 use Rattle.standing.proofs.CellTable.{entry-sizes-one, entry-sizes-all, entered, entered-le, entered-none, entered-all, entered-here, entered-step}
 use Rattle.standing.proofs.cells.entry_sizes.Statement.{statement}

@@ -6,13 +6,14 @@ use mathlib.Core.Bool.{true, false, true≢false}
 use mathlib.Core.List.{List}
 use Prim.Native.Nat.{ℕ, _-_, _<_, _≤_}
 use native.Mathlib.Omega.{arith}
+use borrow.Author.Count.{below-more}
 use denote.Ref.{now}
 use lib.ListN.{length, set, length-set}
 use Rattle.rules.specs.Factor.{at, relabel}
 use Rattle.rules.proofs.Supremum.{length-relabel}
 use Rattle.standing.specs.Joining.{relabelled}
 use Rattle.factor.proofs.Fill.{filled, filled-step, getD-filled}
-use Rattle.standing.proofs.Joining.{one-more, next-renamed, next-kept}
+use Rattle.standing.proofs.Joining.{next-renamed, next-kept}
 use Rattle.standing.proofs.join.relabel.Statement.{statement}
 use Rattle.standing.proofs.join.relabel.Tie as tie
 
@@ -57,7 +58,7 @@ loop-again c =
       ap₂ (λ (l : List ℕ) (y : ℕ). set l x y) (b .loop .inv .2) y ∙ filled-step t r x 0 (omega arith) h,
       λ e. ⊎-elim
           (λ w. absurd (true≢false (sym e ∙ w .1)))
-          (λ w. one-more (λ (z : ℕ). at r z ≡ s .b) x (b .loop .inv .3 (sym (w .1) ∙ e)) (sym y ∙ w .0 .left))
+          (λ w. below-more (λ (z : ℕ). at r z ≡ s .b) x (b .loop .inv .3 (sym (w .1) ∙ e)) (sym y ∙ w .0 .left))
           (c .if2 .came),
     )
 

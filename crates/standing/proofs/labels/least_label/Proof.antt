@@ -4,10 +4,10 @@ use mathlib.Core.Path.{_≡_, refl}
 use mathlib.Core.Logic.{⊎-elim}
 use Prim.Native.Nat.{ℕ, _-_, _≤_, _<_}
 use native.Mathlib.Omega.{arith}
+use borrow.Author.Count.{below-none, below-more}
 use denote.Ref.{now}
 use lib.ListN.{length}
 use Rattle.rules.specs.Factor.{at}
-use Rattle.standing.proofs.Joining.{one-more}
 use Rattle.standing.proofs.labels.least_label.Statement.{statement}
 use Rattle.standing.proofs.labels.least_label.Tie as tie
 
@@ -18,7 +18,7 @@ abbrev μ-loop : tie.MeasureT-loop
 μ-loop f least₀ u₀ u-end least u = length f - u
 
 loop-holds : tie.Need-loop-holds Inv-loop μ-loop
-loop-holds c = (omega arith, refl, λ v h. absurd (omega arith))
+loop-holds c = (omega arith, refl, below-none _)
 
 shared-slice-read-x : tie.Need-shared-slice-read-x Inv-loop μ-loop
 shared-slice-read-x c = omega arith
@@ -36,7 +36,7 @@ loop-again c =
     let u = b .loop .u in
     let fallen : c .if1 .least ≤ b .loop .least = ⊎-elim (λ w. omega arith) (λ w. omega arith) (c .if1 .came) in
     let here : c .if1 .least ≤ at f u = ⊎-elim (λ w. omega arith) (λ w. omega arith) (c .if1 .came) in
-    (omega arith, refl, one-more (λ (v : ℕ). c .if1 .least ≤ at f v) u (λ v h. omega (arith, b .loop .inv .2 v h)) here)
+    (omega arith, refl, below-more (λ (v : ℕ). c .if1 .least ≤ at f v) u (λ v h. omega (arith, b .loop .inv .2 v h)) here)
 
 returns : tie.Need-returns Inv-loop μ-loop
 returns c =

@@ -4,10 +4,10 @@ use mathlib.Core.Path.{_≡_, refl}
 use mathlib.Core.Logic.{⊎-elim}
 use Prim.Native.Nat.{ℕ, _-_, _≤_, _<_}
 use native.Mathlib.Omega.{arith}
+use borrow.Author.Count.{below-none, below-more}
 use denote.Ref.{now}
 use lib.ListN.{length}
 use Rattle.rules.specs.Factor.{at}
-use Rattle.standing.proofs.Joining.{one-more}
 use Rattle.standing.proofs.labels.past_labels.Statement.{statement}
 use Rattle.standing.proofs.labels.past_labels.Tie as tie
 
@@ -18,7 +18,7 @@ abbrev μ-loop : tie.MeasureT-loop
 μ-loop f largest₀ u₀ u-end largest u = length f - u
 
 loop-holds : tie.Need-loop-holds Inv-loop μ-loop
-loop-holds c = (omega arith, refl, omega arith, λ v h. absurd (omega arith))
+loop-holds c = (omega arith, refl, omega arith, below-none _)
 
 shared-slice-read-x : tie.Need-shared-slice-read-x Inv-loop μ-loop
 shared-slice-read-x c = omega arith
@@ -37,7 +37,7 @@ loop-again c =
     let grown : b .loop .largest ≤ c .if1 .largest = ⊎-elim (λ w. omega arith) (λ w. omega arith) (c .if1 .came) in
     let here : at f u ≤ c .if1 .largest = ⊎-elim (λ w. omega arith) (λ w. omega arith) (c .if1 .came) in
     let byte : c .if1 .largest ≤ 255 = ⊎-elim (λ w. omega (arith, c .before .shared-slice-known .given u)) (λ w. omega arith) (c .if1 .came) in
-    (omega arith, refl, byte, one-more (λ (v : ℕ). at f v ≤ c .if1 .largest) u (λ v h. omega (arith, b .loop .inv .3 v h)) here)
+    (omega arith, refl, byte, below-more (λ (v : ℕ). at f v ≤ c .if1 .largest) u (λ v h. omega (arith, b .loop .inv .3 v h)) here)
 
 cast-result : tie.Need-cast-result Inv-loop μ-loop
 cast-result c = omega arith

@@ -8,10 +8,10 @@ use denote.Ref.{now}
 use lib.ListN.{length}
 use Rattle.rules.specs.Factor.{Column, Equivalent, supremum}
 use Rattle.factor.specs.Lent.{overlay}
-use Rattle.standing.specs.Sizes.{labelled}
+use Rattle.factor.specs.Sizes.{labelled}
 use Rattle.standing.specs.Joining.{spread}
 use Rattle.standing.specs.Cells.{Inside, Listed, LabelSizes, cellSize, sumAt}
-use Rattle.standing.proofs.SizeTable.{labelled-le}
+use Rattle.factor.proofs.SizeTable.{labelled-le}
 use Rattle.standing.proofs.Joining.{one-entry, joins-supremum, number-spread, classes-spread}
 use Rattle.standing.proofs.Listing.{listed-below, listed-inside, stands-among}
 use Rattle.standing.proofs.CellTable.{cells-orthogonal}

@@ -7,9 +7,8 @@ use denote.Ref.{now}
 use lib.ListN.{length, take, length-take}
 use Rattle.rules.specs.Factor.{Column, classes, supremum, orthogonal}
 use Rattle.rules.proofs.Bounds.{supremum-comm}
-use Rattle.factor.specs.Lent.{onCommon, overlay}
-use Rattle.standing.specs.Standing.{testCommon}
-use Rattle.standing.proofs.Common.{orthogonal-flip}
+use Rattle.factor.specs.Lent.{onCommon, testCommon, overlay}
+use Rattle.standing.proofs.Nesting.{orthogonal-flip}
 use borrow.Author.Needs.{needs}
 use Rattle.standing.proofs.pair.crossing_of.Statement.{statement}
 use Rattle.standing.proofs.pair.crossing_of.Tie as tie

@@ -1,17 +1,21 @@
 -- `crossing_whole` meets its contract: there is room for all cells.
 -- Assumes nothing.
 use mathlib.Core.Path.{_≡_, refl, sym, ap, _∙_}
+use mathlib.Core.Bool.{true}
 use native.Mathlib.Omega.{arith}
 use native.Mathlib.Nat.{mul-le-mul}
 use borrow.Author.Needs.{needs}
 use denote.Ref.{now}
+use lib.ListN.{length}
+use Rattle.rules.specs.Factor.{finer}
 use Rattle.factor.specs.Lent.{overlay}
+use Rattle.factor.proofs.Lent.{finer-common}
 use Rattle.standing.proofs.Nesting.{nested-supremum, supremum-classes, nested-true}
 use Rattle.standing.proofs.pair.crossing_whole.Statement.{statement}
 use Rattle.standing.proofs.pair.crossing_whole.Tie as tie
 
-agrees-requires : tie.Need-agrees-requires
-agrees-requires c κs = search needs
+finer-requires : tie.Need-finer-requires
+finer-requires c κs = search needs
 
 number-column-requires : tie.Need-number-column-requires
 number-column-requires c κs = search needs
@@ -23,11 +27,11 @@ returns c =
     let s = a .before .before .before in
     let f = now (s .args .f) in
     let g = now (s .args .g) in
-    let fine = sym (a .agrees .ensures) ∙ t .if1 .taken in (
-      c .number-column .ensures .0 ∙ supremum-classes f g (s .pre .1) fine,
+    let nested : finer (length f) g f ≡ true = sym (finer-common (length f) g f (s .pre .0) (s .pre .1) refl) ∙ sym (a .finer .ensures) ∙ t .if1 .taken in (
+      c .number-column .ensures .0 ∙ supremum-classes f g (s .pre .1) nested,
       (
-        nested-true f g (s .pre .1) fine,
-        c .number-column .ensures .1 ∙ ap (overlay (now (s .args .above))) (sym (nested-supremum f g (s .pre .1) fine)),
+        nested-true f g (s .pre .1) nested,
+        c .number-column .ensures .1 ∙ ap (overlay (now (s .args .above))) (sym (nested-supremum f g (s .pre .1) nested)),
       ),
     )
 
@@ -82,7 +86,7 @@ pub crossing-whole-spec : {M : Type 1} → statement M
 crossing-whole-spec =
     tie.close
     (tie.spec
-    agrees-requires
+    finer-requires
     number-column-requires
     returns
     mul-cells

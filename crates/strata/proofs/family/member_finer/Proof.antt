@@ -5,9 +5,9 @@ use native.Mathlib.Omega.{arith}
 use denote.Ref.{now}
 use borrow.Author.Needs.{needs}
 use Rattle.rules.specs.Factor.{finer}
-use Rattle.standing.specs.Standing.{testCommon}
+use Rattle.factor.specs.Lent.{testCommon}
 use Rattle.families.specs.Lent.{columnAt}
-use Rattle.standing.proofs.Common.{finer-common}
+use Rattle.factor.proofs.Lent.{finer-common}
 use Rattle.families.proofs.Lent.{part-of, length-column}
 use Rattle.strata.proofs.family.member_finer.Statement.{statement}
 use Rattle.strata.proofs.family.member_finer.Tie as tie

@@ -1,0 +1,52 @@
+// Sizes of the classes of a column.
+ghost use mathlib.Core.Path.{_≡_};
+ghost use Prim.Native.Nat.{_≤_, _<_};
+ghost use lib.ListN.{length};
+ghost use Rattle.rules.specs.Factor.{uniform};
+ghost use Rattle.factor.specs.Lent.{plotsOf};
+ghost use Rattle.factor.specs.Sizes.{sizes};
+use crate::plots::numbered_plots;
+
+// How many plots have each label, in one walk.
+fn sizes(f: &[u8]) -> [u8; 256]
+    requires { ⌜ length (now f) ≤ 240 ⌝ }
+    ensures { λ r. ⌜ r ≡ sizes (now (f .entry)) ⌝ }
+{
+    let mut table = [0u8; 256];
+    for u in 0..f.len() {
+        let x = f[u] as usize;
+        table[x] += 1;
+    }
+    table
+}
+
+// Whether all classes have one size.
+pub fn uniform(f: &[u8]) -> bool
+    ensures { λ r. ⌜ r ≡ uniform (length (plotsOf (now (f .entry)))) (plotsOf (now (f .entry))) ⌝ }
+{
+    let n = numbered_plots(f.len());
+    if n == 0 {
+        return true;
+    }
+    one_size(&f[..n])
+}
+
+// The same for a column that has a plot: each label has no plot, or as many as that of the first plot. The walk goes to the end, so that
+// many labels are compared at a time.
+fn one_size(f: &[u8]) -> bool
+    requires { ⌜ (0 < length (now f)) × (length (now f) ≤ 240) ⌝ }
+    ensures { λ r. ⌜ r ≡ uniform (length (now (f .entry))) (now (f .entry)) ⌝ }
+{
+    let table = sizes(f);
+    let first = table[f[0] as usize];
+    let mut same = true;
+    for x in 0..256 {
+        let size = table[x];
+        if size != 0 {
+            if size != first {
+                same = false;
+            }
+        }
+    }
+    same
+}

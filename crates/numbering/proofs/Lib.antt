@@ -1,0 +1,3 @@
+mod Lowered
+mod Chain
+mod Written
