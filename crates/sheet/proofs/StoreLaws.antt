@@ -1,21 +1,21 @@
 -- Laws of a walk that stores levels: what is left of a line's work, field by field.
 -- Assumes nothing.
 use mathlib.Core.Path.{_≡_, refl, sym, ap, _∙_}
-use mathlib.Core.Bool.{true, _&&_}
+use mathlib.Core.Bool.{true, false, _&&_}
 use mathlib.Core.List.{List, [], _∷_}
 use Prim.Native.Nat.{ℕ, zero, suc, _+_, _*_, _≤_, _<_}
 use native.Mathlib.Omega.{arith}
 use native.Mathlib.Nat.{not-suc-le-zero, le-of-suc-le-suc}
 use native.Mathlib.Numerals.{add-one}
 use lib.Dec.{ltb}
-use lib.ListN.{length, getD, drop, set}
+use lib.ListN.{length, getD, drop, set, length-drop}
 use lib.Seq.{drop-drop}
-use borrow.Author.Tests.{ltb-true}
+use borrow.Author.Tests.{ltb-true, lt-ltb, le-ltb}
 use Rattle.rules.specs.Sheet.{Field, Line, upTo, has, fields, lines, all, isLevel, decimal, withPlot, withPlots, isPlotLine}
 use Rattle.rules.proofs.Sheet.{and-left, and-right}
 use Rattle.rules.proofs.Members.{clash}
 use Rattle.rules.proofs.Numbering.{by-cases}
-use Rattle.sheet.specs.Walk.{fieldOf, levelThere, rowThere, isPlace}
+use Rattle.sheet.specs.Walk.{fieldOf, stopBefore, levelThere, levelEnd, rowThere, isPlace, storedRow, storedAt, storedFrom}
 use Rattle.sheet.proofs.Stops.{AtTab, AtNewline, Stop, at-tab, at-newline, at-end, stop}
 use Rattle.sheet.proofs.RowLaws.{row-turn, row-last, not-there, lines-turn, lines-none}
 
@@ -75,6 +75,73 @@ module _ (c : ℕ) (cs : List ℕ) (u : ℕ) (text : List ℕ) (at r : ℕ) (lev
       let there = and-right (levelThere 9 (drop at text)) (rowThere (suc m) (drop (suc (length (fieldOf (drop at text)))) (drop at text))) both in
       let w = rw (there-tab (drop at text) h .parts, next) at (l .1) in
       (rw next at there, sym (one-field c cs u (fieldOf (drop at text)) (fields (upTo 10 (drop r text))) levels) ∙ w)
+
+-- ---- what is stored, whether or not the lines have the form
+
+-- no column is left
+pub stored-none : (cs : List ℕ) (u : ℕ) (xs levels : List ℕ) → length cs ≡ 0 → storedRow cs u xs levels ≡ levels
+unfolding storedRow
+stored-none [] u xs levels e = refl
+stored-none (c ∷ cs) u xs levels e = absurd (omega arith)
+
+module _ (c : ℕ) (cs : List ℕ) (u : ℕ) (text : List ℕ) (at : ℕ) (levels : List ℕ) (m : ℕ) (l : length cs ≡ m) where
+  -- the field is not there: nothing more is stored
+  pub stored-off : levelEnd (stopBefore m) at (drop at text) ≡ 0 → storedRow (c ∷ cs) u (drop at text) levels ≡ levels
+  unfolding storedRow levelEnd
+  stored-off z = by-cases (levelThere (stopBefore m) (drop at text)) (λ e. absurd (past (length (fieldOf (drop at text))) (sym (rw (e, levelEnd) at z)))) (λ e. rw (l, e, storedRow))
+    where
+      past : (k : ℕ) → 0 ≡ at + suc k → ⊥
+      past k e = omega arith
+
+  -- it is there, and stored
+  pub stored-on : levelThere (stopBefore m) (drop at text) ≡ true → (r : ℕ) → r ≡ at + suc (length (fieldOf (drop at text)))
+      → storedRow (c ∷ cs) u (drop at text) levels ≡ storedRow cs u (drop r text) (set levels (240 * c + u) (decimal (fieldOf (drop at text))))
+  unfolding storedRow
+  stored-on e r q =
+      (rw (l, e, storedRow))
+      ∙ ap (λ (xs : List ℕ). storedRow cs u xs (set levels (240 * c + u) (decimal (fieldOf (drop at text))))) (drop-drop (suc (length (fieldOf (drop at text)))) at text ∙ ap (λ (k : ℕ). drop k text) (sym q))
+
+-- a plot, and a line past the last plot
+pub stored-plot : (cs : List ℕ) (u : ℕ) (xs levels : List ℕ) → u < 240 → storedAt cs u xs levels ≡ storedRow cs u xs levels
+unfolding storedAt
+stored-plot cs u xs levels h = rw (lt-ltb u 240 h, storedAt)
+
+pub stored-past : (cs : List ℕ) (u : ℕ) (xs levels : List ℕ) → 240 ≤ u → storedAt cs u xs levels ≡ levels
+unfolding storedAt
+stored-past cs u xs levels h = rw (le-ltb u 240 h, storedAt)
+
+module _ (cs : List ℕ) (n u : ℕ) where
+  no-more : (k : ℕ) (xs levels : List ℕ) → length xs ≡ 0 → storedFrom k cs n u xs levels ≡ levels
+  unfolding storedFrom
+  no-more zero xs levels e = refl
+  no-more (suc k) [] levels e = refl
+  no-more (suc k) (x ∷ xs) levels e = absurd (omega arith)
+
+  one-more : (k : ℕ) (xs levels : List ℕ) → 0 < length xs → rowThere n xs ≡ true → storedFrom (suc k) cs n u xs levels ≡ storedFrom k cs n (suc u) (drop (suc (length (upTo 10 xs))) xs) (storedAt cs u xs levels)
+  unfolding storedFrom
+  one-more k [] levels h e = absurd (not-suc-le-zero h)
+  one-more k (x ∷ xs) levels h e = rw (e, storedFrom)
+
+  last-one : (k : ℕ) (xs levels : List ℕ) → 0 < length xs → rowThere n xs ≡ false → storedFrom (suc k) cs n u xs levels ≡ storedAt cs u xs levels
+  unfolding storedFrom
+  last-one k [] levels h e = absurd (not-suc-le-zero h)
+  last-one k (x ∷ xs) levels h e = rw (e, storedFrom)
+
+  module _ (text : List ℕ) (at : ℕ) (levels : List ℕ) where
+    -- the text has ended
+    pub from-end : (k : ℕ) → length text ≤ at → storedFrom k cs n u (drop at text) levels ≡ levels
+    from-end k h = no-more k (drop at text) levels (omega (arith, length-drop at text))
+
+    -- a line that has the form
+    pub from-on : (k : ℕ) → at < length text → rowThere n (drop at text) ≡ true → (r : ℕ) → r ≡ at + suc (length (upTo 10 (drop at text)))
+        → storedFrom (suc k) cs n u (drop at text) levels ≡ storedFrom k cs n (suc u) (drop r text) (storedAt cs u (drop at text) levels)
+    from-on k h e r q =
+        one-more k (drop at text) levels (omega (arith, length-drop at text)) e
+        ∙ ap (λ (xs : List ℕ). storedFrom k cs n (suc u) xs (storedAt cs u (drop at text) levels)) (drop-drop (suc (length (upTo 10 (drop at text)))) at text ∙ ap (λ (k : ℕ). drop k text) (sym q))
+
+    -- a line that has not: the last that is looked at
+    pub from-off : (k : ℕ) → at < length text → rowThere n (drop at text) ≡ false → storedFrom (suc k) cs n u (drop at text) levels ≡ storedAt cs u (drop at text) levels
+    from-off k h e = last-one k (drop at text) levels (omega (arith, length-drop at text)) e
 
 -- a column of the level table
 pub place-at : (cs : List ℕ) (i : ℕ) → all isPlace cs ≡ true → i < length cs → getD cs i 0 < 12

@@ -2,13 +2,15 @@
 -- Assumes nothing.
 use mathlib.Core.Bool.{true, false, _&&_}
 use mathlib.Core.List.{List, []}
+use lib.Dec.{ltb}
 use Prim.Native.Nat.{ℕ, suc, _+_}
-use lib.ListN.{length}
-use Rattle.rules.specs.Sheet.{Line, newline, plotMark, treatmentMark, all, has, upTo, isColumn, countKind, header, isPlotLine, question3, Outcome, read, refused}
+use lib.ListN.{length, drop}
+use Rattle.rules.specs.Sheet.{Line, newline, plotMark, treatmentMark, all, has, upTo, isColumn, countKind, header, columnsAfter, isPlotLine, question3, Outcome, read, refused}
 use Rattle.sheet.specs.declared.Reading.{Reading}
 use Rattle.sheet.specs.declared.Reading.the-variants.{Read, Refused}
 use Rattle.sheet.specs.declared.header.Header.{Header}
 use Rattle.sheet.specs.declared.rows.Rows.{Rows}
+use Rattle.sheet.specs.Walk.{storedFrom}
 
 -- question 4 of these lines, after `count` others
 unfoldable pub judged : ℕ → ℕ → List Line → Rows
@@ -39,7 +41,14 @@ abbrev pub outcomeOf : Reading → Outcome
 outcomeOf (Read c) = read (c .plots) (c .«plot_columns») (c .«treatment_columns»)
 outcomeOf (Refused q) = refused q
 
--- the table after a reading into a table of one's own: nothing is said of it after a refusal
+-- The table after a reading that judges and writes in one walk: after 4 and 5 it has the levels up to where the walk ended.
+unfoldable pub ownAfter : Outcome → List ℕ → List ℕ → List ℕ
+unfolding storedFrom columnsAfter header upTo
+ownAfter x text levels =
+    let stored : List ℕ = storedFrom (suc (length text)) (columnsAfter 0 0 (header text)) (length (header text)) 0 (drop (suc (length (upTo newline text))) text) levels in
+    elim x [ read n p t ↦ stored | refused q ↦ elim (ltb q 4) [ true ↦ levels | false ↦ stored ] ]
+
+-- a table, where the sheet is read
 abbrev pub whenRead : Outcome → List ℕ → List ℕ
 whenRead (read n p t) levels = levels
 whenRead (refused q) levels = []

@@ -1,7 +1,7 @@
 // The sheet reader: the only way from text to a level table.
 ghost use mathlib.Core.Path.{_≡_};
 ghost use Rattle.rules.specs.Sheet.{reading, levelsAfter};
-ghost use Rattle.sheet.specs.Answers.{outcomeOf, whenRead};
+ghost use Rattle.sheet.specs.Answers.{outcomeOf, ownAfter, whenRead};
 
 mod field;
 mod header;
@@ -45,10 +45,12 @@ pub fn read_sheet(text: &[u8], levels: &mut [u16]) -> Reading
     questions::from_3(text, levels)
 }
 
-// The same for a table of the caller's own, which is of no use after a refusal: the lines are walked once.
+// The same for a table of the caller's own, which is of no use after a refusal: the lines are judged and written in one walk. After 4 and 5
+// the table has the levels up to where the walk ended; of a sheet that is read it is the table of the rules.
 pub fn read_own(text: &[u8], levels: &mut [u16]) -> Reading
     ensures answer { λ r. ⌜ outcomeOf r ≡ reading (now (text .entry)) (now (levels .entry)) ⌝ }
-    ensures table { λ _. ⌜ whenRead (reading (now (text .entry)) (now (levels .entry))) (now (levels .exit)) ≡ whenRead (reading (now (text .entry)) (now (levels .entry))) (levelsAfter (reading (now (text .entry)) (now (levels .entry))) (now (text .entry)) (now (levels .entry))) ⌝ }
+    ensures table { λ _. ⌜ now (levels .exit) ≡ ownAfter (reading (now (text .entry)) (now (levels .entry))) (now (text .entry)) (now (levels .entry)) ⌝ }
+    ensures accepted { λ _. ⌜ whenRead (reading (now (text .entry)) (now (levels .entry))) (now (levels .exit)) ≡ whenRead (reading (now (text .entry)) (now (levels .entry))) (levelsAfter (reading (now (text .entry)) (now (levels .entry))) (now (text .entry)) (now (levels .entry))) ⌝ }
 {
     if levels.len() < LEVELS {
         return Reading::Refused(1);

@@ -6,12 +6,12 @@ use crate::rows;
 use crate::rows::Rows;
 ghost use mathlib.Core.Path.{_≡_};
 ghost use mathlib.Core.Bool.{true};
-ghost use Prim.Native.Nat.{_≤_};
+ghost use Prim.Native.Nat.{suc, _≤_};
 ghost use lib.ListN.{length, drop};
 ghost use Rattle.rules.specs.Limits.{tableCells, mostPlots};
 ghost use Rattle.rules.specs.Sheet.{readingFrom3, levelsAfter, withPlots, columnsAfter, header as headerOf, lines, laterLines, question4};
-ghost use Rattle.sheet.specs.Walk.{Headed};
-ghost use Rattle.sheet.specs.Answers.{outcomeOf, whenRead, judged};
+ghost use Rattle.sheet.specs.Walk.{Headed, storedFrom};
+ghost use Rattle.sheet.specs.Answers.{outcomeOf, ownAfter, whenRead, judged};
 use limits::PLOTS;
 
 // Asks questions 3 to 5 of the text. The table is as long as question 1 asks.
@@ -53,6 +53,7 @@ pub fn from_3(text: &[u8], levels: &mut [u16]) -> Reading
 pub fn from_3_at_once(text: &[u8], levels: &mut [u16]) -> Reading
     requires { ⌜ tableCells ≤ length (now levels) ⌝ }
     ensures { λ r. ⌜ outcomeOf r ≡ readingFrom3 (now (text .entry)) ⌝ }
+    ensures { λ _. ⌜ now (levels .exit) ≡ ownAfter (readingFrom3 (now (text .entry))) (now (text .entry)) (now (levels .entry)) ⌝ }
     ensures { λ _. ⌜ whenRead (readingFrom3 (now (text .entry))) (now (levels .exit)) ≡ whenRead (readingFrom3 (now (text .entry))) (levelsAfter (readingFrom3 (now (text .entry))) (now (text .entry)) (now (levels .entry))) ⌝ }
 {
     let h = header::read_header(text);
@@ -86,6 +87,7 @@ pub fn from_3_at_once(text: &[u8], levels: &mut [u16]) -> Reading
 fn write(text: &[u8], at: usize, n: usize, levels: &mut [u16]) -> Rows
     requires { ⌜ Headed (now text) at n (length (now levels)) ⌝ }
     ensures { λ r. ⌜ r ≡ judged 0 n (lines (drop at (now (text .entry)))) ⌝ }
+    ensures { λ _. ⌜ now (levels .exit) ≡ storedFrom (suc (length (now (text .entry)))) (columnsAfter 0 0 (headerOf (now (text .entry)))) n 0 (drop at (now (text .entry))) (now (levels .entry)) ⌝ }
     ensures { λ _. ⌜ (question4 (now (text .entry)) ≡ true → length (laterLines (now (text .entry))) ≤ mostPlots → now (levels .exit) ≡ withPlots (columnsAfter 0 0 (headerOf (now (text .entry)))) 0 (laterLines (now (text .entry))) (now (levels .entry))) ⌝ }
 {
     let columns = header::columns(text, n);

@@ -2,11 +2,11 @@
 use crate::field;
 ghost use mathlib.Core.Path.{_≡_};
 ghost use mathlib.Core.Bool.{true};
-ghost use Prim.Native.Nat.{_+_, _-_, _≤_, _<_};
+ghost use Prim.Native.Nat.{suc, _+_, _-_, _≤_, _<_};
 ghost use lib.ListN.{length, take, drop};
 ghost use Rattle.rules.specs.Limits.{mostPlots};
 ghost use Rattle.rules.specs.Sheet.{newline, upTo, fields, lines, all, isPlotLine, withPlot, withPlots};
-ghost use Rattle.sheet.specs.Walk.{stopBefore, rowThere, rowEnd, Store};
+ghost use Rattle.sheet.specs.Walk.{stopBefore, rowThere, rowEnd, Store, storedRow, storedAt, storedFrom};
 ghost use Rattle.sheet.specs.Answers.{judged};
 use limits::PLOTS;
 
@@ -74,6 +74,7 @@ fn store_row(
 ) -> usize
     requires { ⌜ Store (take n (now columns)) n (length (now levels)) × (u < mostPlots) ⌝ }
     ensures { λ r. ⌜ r ≡ rowEnd n start (drop start (now (text .entry))) ⌝ }
+    ensures { λ _. ⌜ now (levels .exit) ≡ storedRow (take n (now (columns .entry))) u (drop start (now (text .entry))) (now (levels .entry)) ⌝ }
     ensures { λ _. ⌜ (rowThere n (drop start (now (text .entry))) ≡ true → now (levels .exit) ≡ withPlot (take n (now (columns .entry))) u (fields (upTo newline (drop start (now (text .entry))))) (now (levels .entry))) ⌝ }
 {
     let mut at = start;
@@ -100,6 +101,7 @@ fn next_row(
 ) -> usize
     requires { ⌜ Store (take n (now columns)) n (length (now levels)) ⌝ }
     ensures { λ r. ⌜ r ≡ rowEnd n start (drop start (now (text .entry))) ⌝ }
+    ensures { λ _. ⌜ now (levels .exit) ≡ storedAt (take n (now (columns .entry))) u (drop start (now (text .entry))) (now (levels .entry)) ⌝ }
     ensures { λ _. ⌜ (u < mostPlots → rowThere n (drop start (now (text .entry))) ≡ true → now (levels .exit) ≡ withPlot (take n (now (columns .entry))) u (fields (upTo newline (drop start (now (text .entry))))) (now (levels .entry))) ⌝ }
 {
     if u < PLOTS {
@@ -113,6 +115,7 @@ fn next_row(
 pub fn store(text: &[u8], start: usize, columns: &[usize], n: usize, levels: &mut [u16]) -> Rows
     requires { ⌜ Store (take n (now columns)) n (length (now levels)) ⌝ }
     ensures { λ r. ⌜ r ≡ judged 0 n (lines (drop start (now (text .entry)))) ⌝ }
+    ensures { λ _. ⌜ now (levels .exit) ≡ storedFrom (suc (length (now (text .entry)))) (take n (now (columns .entry))) n 0 (drop start (now (text .entry))) (now (levels .entry)) ⌝ }
     ensures { λ _. ⌜ (all (isPlotLine n) (lines (drop start (now (text .entry)))) ≡ true → length (lines (drop start (now (text .entry)))) ≤ mostPlots → now (levels .exit) ≡ withPlots (take n (now (columns .entry))) 0 (lines (drop start (now (text .entry)))) (now (levels .entry))) ⌝ }
 {
     let mut at = start;

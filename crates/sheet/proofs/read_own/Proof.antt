@@ -1,32 +1,36 @@
 -- `sheet::read_own` meets its contract.
 -- Assumes nothing.
-use mathlib.Core.Path.{sym, _∙_}
+use mathlib.Core.Path.{refl, sym, _∙_}
 use native.Mathlib.Omega.{arith}
 use borrow.Author.Needs.{needs}
 use denote.Ref.{now}
 use Rattle.rules.specs.Sheet.{levelsAfter}
+use Rattle.sheet.specs.Answers.{ownAfter}
 use Rattle.rules.proofs.Sheet.{refused-1, too-short, too-long, text-fits}
 use borrow.Author.Needs.{needs}
 use Rattle.sheet.proofs.read_own.Statement.{statement}
 use Rattle.sheet.proofs.read_own.Tie as tie
 
 returns : tie.Need-returns
+unfolding ownAfter
 returns c =
     let s = c .before .before .before .args in
     let e = refused-1 (now (s .text)) (now (s .levels)) (c .if1 .taken) in
-    (rw e, rw e)
+    (rw e, (rw e refl, rw e))
 
 returns-2 : tie.Need-returns-2
+unfolding ownAfter
 returns-2 c =
     let s = c .before .before .before .before .args in
     let e = too-short (now (s .text)) (now (s .levels)) (omega arith) (c .if2 .taken) in
-    (rw e, rw e)
+    (rw e, (rw e refl, rw e))
 
 returns-3 : tie.Need-returns-3
+unfolding ownAfter
 returns-3 c =
     let s = c .before .before .before .before .before .args in
     let e = too-long (now (s .text)) (now (s .levels)) (omega arith) (c .if3 .taken) in
-    (rw e, rw e)
+    (rw e, (rw e refl, rw e))
 
 from-3-at-once-requires : tie.Need-from-3-at-once-requires
 from-3-at-once-requires c κs = omega arith
@@ -39,7 +43,7 @@ returns-4 c =
     let s = c .before .before .before .before .before .before .before .before .before .args in
     let e = text-fits (now (s .text)) (now (s .levels)) (omega arith) (omega arith) (omega arith) in
     let r = c .before .before .from-3-at-once .ensures in
-    (r .0 ∙ sym e, rw e (r .1))
+    (r .0 ∙ sym e, (rw e (r .1 .0), rw e (r .1 .1)))
 
 pub read-own-spec : {M : Type 1} → statement M
 read-own-spec =

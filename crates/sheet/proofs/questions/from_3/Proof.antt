@@ -122,7 +122,7 @@ returns-5 c =
     let o = d .before .before in
     let k = count d in
     let e = all-read (text o) (yes-3 o) (yes-4 d) (omega arith) (omega arith) in
-    (rw (count d, plots o, treatments o) (sym e), rw e (c .before .before .write .ensures .1 (yes-4 d) (omega arith)))
+    (rw (count d, plots o, treatments o) (sym e), rw e (c .before .before .write .ensures .1 .1 (yes-4 d) (omega arith)))
 
 pub from-3-spec : {M : Type 1} → statement M
 from-3-spec =

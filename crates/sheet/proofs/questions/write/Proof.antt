@@ -48,7 +48,7 @@ returns c =
     let k = c .before .before .before .before .before .columns .ensures in
     let l = later-at t (s .args .at) (s .pre .place) in
     let w = c .before .before .store .ensures in
-    (w .0, λ yes few. rw (← k, ← l) (w .1 (rw (l, s .pre .size) yes) (rw l few)))
+    (w .0, (rw (← k) (w .1 .0), λ yes few. rw (← k, ← l) (w .1 .1 (rw (l, s .pre .size) yes) (rw l few))))
 
 pub write-spec : {M : Type 1} → statement M
 write-spec =

@@ -1,7 +1,7 @@
 -- `sheet::rows::store_row` meets its contract. The loop's invariant: the line ends where the rest of it does, and where the line has the
 -- form, what is left of its work, done from here, is the whole of it.
 -- Assumes nothing.
-use Prim.Native.Nat.{ℕ, suc, _+_, _-_, _<_, _≤_}
+use Prim.Native.Nat.{ℕ, suc, _+_, _-_, _*_, _<_, _≤_}
 use mathlib.Core.Path.{_≡_, refl, sym, ap, _∙_}
 use mathlib.Core.Bool.{true, _||_}
 use mathlib.Core.List.{List, _∷_}
@@ -10,20 +10,21 @@ use native.Mathlib.Numerals.{add-one}
 use native.Mathlib.Nat.{sub-zero}
 use denote.Ref.{now}
 use lib.Dec.{eqb}
-use lib.ListN.{length, getD, take, drop, length-set, length-take}
+use lib.ListN.{length, getD, take, drop, set, length-set, length-take, length-drop}
 use lib.Seq.{drop-cons, getD-take}
 use Rattle.rules.specs.Sheet.{upTo, fields, decimal, withPlot}
 use Rattle.rules.proofs.Members.{clash}
-use Rattle.sheet.specs.Walk.{fieldOf, stopBefore, levelThere, levelEnd, rowThere, rowEnd}
+use Rattle.sheet.specs.Walk.{fieldOf, stopBefore, levelThere, levelEnd, rowThere, rowEnd, storedRow}
 use Rattle.sheet.proofs.LevelLaws.{then-end, then-number}
 use Rattle.sheet.proofs.RowLaws.{Rest, rest-start, rest-off, rest-on, stop-known, level-end-some, level-end-at, row-end-none}
-use Rattle.sheet.proofs.StoreLaws.{Left, left-start, left-turn, place-at}
+use Rattle.sheet.proofs.StoreLaws.{Left, left-start, left-turn, place-at, stored-none, stored-off, stored-on}
 use Rattle.sheet.proofs.rows.store_row.Statement.{statement}
 use Rattle.sheet.proofs.rows.store_row.Tie as tie
 
 abbrev Inv-loop : tie.InvT-loop
 Inv-loop text start columns n u levels₀ at₀ i₀ levels at i =
     (i ≤ n) × (length levels ≡ length levels₀) × Rest (n - i) text at (rowEnd n start (drop start text))
+    × (storedRow (take n columns) u (drop start text) levels₀ ≡ storedRow (drop i (take n columns)) u (drop at text) levels)
     × (rowThere n (drop start text) ≡ true → Left (n - i) (drop i (take n columns)) u (drop at text) levels (withPlot (take n columns) u (fields (upTo 10 (drop start text))) levels₀))
 
 abbrev μ-loop : tie.MeasureT-loop
@@ -71,6 +72,23 @@ module _ (c : tie.After-level-then Inv-loop μ-loop) where
     number : c .level-then .result .level ≡ decimal (fieldOf (drop at text))
     number = then-number (c .before .stop-after .result) at (drop at text) (c .level-then .result) (c .level-then .ensures) (same ∙ there)
 
+-- the columns from the one at hand on
+module _ (b : tie.At-loop Inv-loop μ-loop) where
+  abbrev entry : tie.Start Inv-loop μ-loop
+  entry = b .before .before .before .before
+
+  abbrev cs : List ℕ
+  cs = take (entry .args .n) (now (entry .args .columns))
+
+  columns-next : b .loop .i < entry .args .n → drop (b .loop .i) cs ≡ getD (now (entry .args .columns)) (b .loop .i) 0 ∷ drop (b .loop .i + 1) cs
+  columns-next h =
+      let k = entry .pre .0 .size in
+      let v : getD cs (b .loop .i) 0 ≡ getD (now (entry .args .columns)) (b .loop .i) 0 = getD-take (entry .args .n) (now (entry .args .columns)) (b .loop .i) 0 h in
+      rw (add-one, ← v) (drop-cons cs (b .loop .i) 0 (omega arith))
+
+  columns-left : b .loop .i < entry .args .n → length (drop (b .loop .i + 1) cs) ≡ entry .args .n - (b .loop .i + 1)
+  columns-left h = let k = entry .pre .0 .size in omega (arith, length-drop (b .loop .i + 1) cs)
+
 -- there is a column for each field
 columns-fit : (c : tie.Else1 Inv-loop μ-loop) → c .before .before .before .before .before .before .before .before .args .n ≤ length (now (c .before .before .before .before .before .before .before .before .args .columns))
 columns-fit c =
@@ -93,6 +111,7 @@ loop-holds c =
       omega arith,
       refl,
       rw sub-zero (rest-start (a .n) (now (a .text)) (a .start) (s .pre .0 .some)),
+      refl,
       λ e. rw sub-zero (left-start (a .n) (take (a .n) (now (a .columns))) (a .u) (drop (a .start) (now (a .text))) (now (a .levels)) (s .pre .0 .some) e),
     )
 
@@ -111,7 +130,10 @@ returns : tie.Need-returns Inv-loop μ-loop
 returns c =
     let d = c .before in
     let e = rest-off (text d) (at d) _ (r d) (left d) (end d) (c .if1 .taken) (rest d) in
-    (e, λ there. clash there (row-end-none (n d) (start d) (drop (start d) (text d)) (sym e)))
+    let b = d .before .before .before in
+    let a = b .before .before .before .before .args in
+    let off = stored-off (getD (now (a .columns)) (b .loop .i) 0) (drop (b .loop .i + 1) (take (a .n) (now (a .columns)))) (a .u) (text d) (at d) (b .loop .levels) (left d) (columns-left b (omega arith)) (sym (end d) ∙ c .if1 .taken) in
+    (e, (sym (b .loop .inv .3 ∙ ap (λ (cs : List ℕ). storedRow cs (a .u) (drop (at d) (text d)) (b .loop .levels)) (columns-next b (omega arith)) ∙ off), λ there. clash there (row-end-none (n d) (start d) (drop (start d) (text d)) (sym e))))
 
 mul-column : tie.Need-mul-column Inv-loop μ-loop
 mul-column c = let e = columns-fit c in omega arith
@@ -148,15 +170,16 @@ loop-again c =
     let i = b .loop .i in
     let cs = take (a .n) (now (a .columns)) in
     let k = s .pre .0 .size in
-    let h : i < length cs = omega arith in
-    let v : getD cs i 0 ≡ getD (now (a .columns)) i 0 = getD-take (a .n) (now (a .columns)) i 0 (omega arith) in
-    let f : drop i cs ≡ getD (now (a .columns)) i 0 ∷ drop (i + 1) cs = rw (add-one, ← v) (drop-cons cs i 0 h) in
+    let f = columns-next b (omega arith) in
     let turn = left-turn (getD (now (a .columns)) i 0) (drop (i + 1) cs) (a .u) (now (a .text)) (b .loop .at) (r d) (b .loop .levels)
     (withPlot cs (a .u) (fields (upTo 10 (drop (a .start) (now (a .text))))) (now (a .levels))) (place-after d (o .if1 .left)) (left d) in (
       omega arith,
       simp length-set (b .loop .inv .1),
       rest-on (text d) (at d) _ (r d) (left d) (end d) (o .if1 .left) (rest d),
-      λ e. rw (number d (o .if1 .left)) (turn (rw (size d, f) at (b .loop .inv .3 e))),
+      b .loop .inv .3 ∙ ap (λ (cs : List ℕ). storedRow cs (a .u) (drop (at d) (text d)) (b .loop .levels)) f
+          ∙ stored-on (getD (now (a .columns)) i 0) (drop (i + 1) cs) (a .u) (text d) (at d) (b .loop .levels) (left d) (columns-left b (omega arith)) (there d (o .if1 .left)) (r d) (place-after d (o .if1 .left))
+          ∙ ap (λ (v : ℕ). storedRow (drop (i + 1) cs) (a .u) (drop (r d) (text d)) (set (b .loop .levels) (240 * getD (now (a .columns)) i 0 + a .u) v)) (sym (number d (o .if1 .left))),
+      λ e. rw (number d (o .if1 .left)) (turn (rw (size d, f) at (b .loop .inv .4 e))),
     )
 
 same-length-2 : tie.Need-same-length-2 Inv-loop μ-loop
@@ -167,7 +190,8 @@ returns-2 c =
     let b = c .before in
     let a = b .before .before .before .before .args in
     let m : a .n - b .loop .i ≡ 0 = omega arith in
-    (rw m at (b .loop .inv .2), λ e. rw m at (b .loop .inv .3 e))
+    let none : length (drop (b .loop .i) (take (a .n) (now (a .columns)))) ≡ 0 = omega (arith, length-drop (b .loop .i) (take (a .n) (now (a .columns))), length-take (a .n) (now (a .columns))) in
+    (rw m at (b .loop .inv .2), (sym (b .loop .inv .3 ∙ stored-none (drop (b .loop .i) (take (a .n) (now (a .columns)))) (a .u) (drop (b .loop .at) (now (a .text))) (b .loop .levels) none), λ e. rw m at (b .loop .inv .4 e)))
 
 pub store-row-spec : {M : Type 1} → statement M
 store-row-spec =
