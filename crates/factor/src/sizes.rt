@@ -31,22 +31,27 @@ pub fn uniform(f: &[u8]) -> bool
     one_size(&f[..n])
 }
 
-// The same for a column that has a plot: each label has no plot, or as many as that of the first plot. The walk goes to the end, so that
-// many labels are compared at a time.
+// The same for a column that has a plot: the labels that have a plot have as many as that of the first plot, at most and at least.
+// The walk goes to the end, so that many labels are compared at a time.
 fn one_size(f: &[u8]) -> bool
     requires { ⌜ (0 < length (now f)) × (length (now f) ≤ 240) ⌝ }
     ensures { λ r. ⌜ r ≡ uniform (length (now (f .entry))) (now (f .entry)) ⌝ }
 {
     let table = sizes(f);
     let first = table[f[0] as usize];
-    let mut same = true;
+    let mut most = first;
+    let mut least = first;
     for x in 0..256 {
-        let size = table[x];
-        if size != 0 {
-            if size != first {
-                same = false;
-            }
+        let mut size = table[x];
+        if size == 0 {
+            size = first;
+        }
+        if most < size {
+            most = size;
+        }
+        if size < least {
+            least = size;
         }
     }
-    same
+    least == most
 }
