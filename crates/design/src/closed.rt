@@ -29,8 +29,8 @@ use limits::COLUMNS;
 use limits::Level;
 use limits::MEMBERS;
 
-// So many plot columns and more are closed by their infima.
-const SEVERAL_COLUMNS: usize = 3;
+// U, E and three columns: fewer make one pair at most.
+const CROSSED: usize = 5;
 
 // A closed family: its size, or TOO_MANY; and where its members were found, in their order.
 pub struct ClosedFamily {
@@ -124,8 +124,32 @@ fn close_by_infima(
     close_family(store, counts, marks, size, n, true, plot)
 }
 
-// Closes the plot family and writes it in its order, where it is not too large. One or two columns make few pairs, whose infima are found
-// with their suprema.
+// The product of a number and a number of classes.
+fn times(a: usize, b: u8) -> usize
+    requires { ⌜ a ≤ 240 ⌝ }
+{
+    a * b as usize
+}
+
+// Whether three plot columns or more, placed after U and E, look crossed: there are as many plots as combinations of their classes, at
+// least. Then their infima are likely to be the family. Any answer is right; this one is quick.
+fn look_crossed(counts: &[u8; MEMBERS], size: usize, n: usize) -> bool
+    requires { ⌜ (size ≤ 32) × (n ≤ 240) ⌝ }
+{
+    if size < CROSSED {
+        return false;
+    }
+    let mut combinations: usize = 1;
+    for i in 2..size {
+        combinations = times(combinations, counts[i]);
+        if n < combinations {
+            return false;
+        }
+    }
+    true
+}
+
+// Closes the plot family and writes it in its order, where it is not too large.
 pub fn close_plot_family(
     levels: &[Level],
     n: usize,
@@ -140,9 +164,9 @@ pub fn close_plot_family(
     ensures tables { λ r. ⌜ Ready n (r .size) (now (plot .exit)) (r .order) (now (marks .exit)) ⌝ }
 {
     let mut counts = [0u8; MEMBERS];
-    if SEVERAL_COLUMNS <= columns {
+    let start = place_plot_columns(levels, columns, store, &mut counts, n);
+    if look_crossed(&counts, start, n) {
         return close_by_infima(levels, n, columns, store, &mut counts, marks, plot);
     }
-    let start = place_plot_columns(levels, columns, store, &mut counts, n);
     close_family(store, &mut counts, marks, start, n, true, plot)
 }

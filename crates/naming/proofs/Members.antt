@@ -4,13 +4,14 @@ use mathlib.Core.Path.{_≡_, refl, sym, ap, ap₂, _∙_}
 use mathlib.Core.Bool.{Bool, true, false, _&&_}
 use mathlib.Core.Logic.{_⊎_, inl, inr, ⊎-elim}
 use mathlib.Core.List.{List, [], _∷_, _++_, map, append-assoc}
-use Prim.Native.Nat.{ℕ, zero, suc, _+_, _-_, _*_, _≤_, _<_}
+use Prim.Native.Nat.{ℕ, zero, suc, _+_, _-_, _*_, _≤_, _<_, min}
 use native.Mathlib.Nat.{not-suc-le-zero}
 use native.Mathlib.Numerals.{add-one}
 use native.Mathlib.Omega.{arith}
 use lib.Dec.{eqb, ltb, leb}
 use lib.ListN.{length, getD, take, drop, set, take-append-drop}
-use borrow.Author.Tests.{eqb-true, eqb-false, eq-eqb, ne-eqb, leb-true}
+use lib.Seq.{take-all, length-take-le}
+use borrow.Author.Tests.{eqb-true, eqb-false, eq-eqb, ne-eqb, leb-true, leb-false}
 use borrow.Rule.Slice.PartMut.{midOf, putMid}
 use Rattle.rules.specs.Factor.{Column, number, classes}
 use Rattle.rules.specs.Design.{plotsWithin}
@@ -21,10 +22,10 @@ use Rattle.rules.specs.Names.{equivalentColumn, nameByColumn, nameOf, bytesOf}
 use Rattle.rules.proofs.Numbering.{by-cases}
 use Rattle.rules.proofs.Sheet.{and-left, and-right}
 use Rattle.families.specs.Lent.{columnAt}
-use Rattle.decimal.specs.Writing.{written, placeAfter}
+use Rattle.decimal.specs.Writing.{fits, written, placeAfter}
 use Rattle.decimal.proofs.Writing.{written-nil, place-nil, place-all}
 use Rattle.naming.specs.Answers.{startingWith}
-use Rattle.naming.specs.Members.{namesWritten, lengthsWritten, membersFit, familyNameable, memberName, nameBy, extremeName}
+use Rattle.naming.specs.Members.{namesWritten, lengthsWritten, membersFit, memberName, nameBy, countedName, extremeName}
 use Rattle.naming.proofs.Numbered.{On, by-column-numbered}
 use Rattle.naming.proofs.Rules.{one-class, all-classes, between, name-short}
 
@@ -93,6 +94,41 @@ pub name-by-kind : (kind : Rule) (text : List ℕ) (n : ℕ) (levels buffer : Li
 unfolding nameBy memberName nameOn kindColumns
 name-by-kind kind text n levels buffer mark first count em ef ec i = rw (em, ef, ec)
 
+-- the same of the columns counted in the first line
+pub counted-name : (kind : Rule) (text : List ℕ) (n : ℕ) (levels : List ℕ) (count : ℕ) (buffer : List ℕ) → count ≡ countKind (markOf kind) (header text)
+    → (i : ℕ) → countedName kind text n levels count buffer i ≡ memberName kind text n levels buffer i
+unfolding countedName
+counted-name kind text n levels count buffer e i = name-by-kind kind text n levels buffer (markOf kind) (firstColumn kind) count refl refl e i
+
+-- the names that a call is given by the kind's byte and first column
+pub counted-by : (kind : Rule) (text : List ℕ) (n : ℕ) (levels : List ℕ) (count : ℕ) (buffer : List ℕ) (mark first : ℕ) → mark ≡ markOf kind → first ≡ firstColumn kind
+    → (i : ℕ) → nameBy (columnNames mark (header text)) (columnsFrom n levels first count) n buffer i ≡ countedName kind text n levels count buffer i
+unfolding countedName
+counted-by kind text n levels count buffer mark first em ef i = rw (em, ef)
+
+-- as much of a text as there is room for
+module _ (out W : List ℕ) where
+  pub written-held : written out 0 W ≡ written out 0 (take (length out) W)
+  unfolding written fits
+  written-held =
+      by-cases (leb (length W) (length out))
+      (λ e. rw (take-all (length out) W (leb-true _ _ e)))
+      (λ e. let h = leb-false (length W) (length out) e in
+      let l : length (take (length out) W) ≡ length out = length-take-le (length out) W (omega arith) in
+      let a : min (length W) (length out - 0) ≡ length out = omega arith in
+      let b : min (length (take (length out) W)) (length out - 0) ≡ length out = omega arith in
+      let t : take (length out) (take (length out) W) ≡ take (length out) W = take-all (length out) (take (length out) W) (omega arith) in
+      rw (a, b) (ap (λ (x : List ℕ). take 0 out ++ x ++ drop (0 + length out) out) (sym t)))
+
+  pub place-held : placeAfter out 0 W ≡ placeAfter out 0 (take (length out) W)
+  unfolding placeAfter fits
+  place-held =
+      by-cases (leb (length W) (length out))
+      (λ e. rw (take-all (length out) W (leb-true _ _ e)))
+      (λ e. let h = leb-false (length W) (length out) e in
+      let l : length (take (length out) W) ≡ length out = length-take-le (length out) W (omega arith) in
+      omega arith)
+
 -- a name has at most 96 bytes
 pub name-by-short : (names : List (List ℕ)) (Cs : List Column) (n : ℕ) (buffer : List ℕ) (i : ℕ) → ((c : ℕ) → length (getD names c []) ≤ 12) → length Cs ≤ 6 → i < 32 → length (nameBy names Cs n buffer i) ≤ 96
 unfolding nameBy
@@ -137,37 +173,31 @@ lengths-ext f g lengths (suc m) h =
 
 -- ---- what the members of a family are named by
 
-pub record FamilyFits (n size tableLength familyLength nameLength lengths : ℕ) : Type 0 where
+pub record FamilyFits (n count size tableLength familyLength nameLength lengths : ℕ) : Type 0 where
   pub few-plots : n ≤ 240
+  pub few-columns : count ≤ 6
   pub few : size ≤ 32
   pub table : 2880 ≤ tableLength
   pub long : 7680 ≤ familyLength
   pub room : 96 * size ≤ nameLength
   pub counted : size ≤ lengths
 
-pub family-fits : (n size t f r l : ℕ) → membersFit n size t f r l ≡ true → FamilyFits n size t f r l
+pub family-fits : (n count size t f r l : ℕ) → membersFit n count size t f r l ≡ true → FamilyFits n count size t f r l
 unfolding membersFit plotsWithin
-family-fits n size t f r l e =
+family-fits n count size t f r l e =
     let p : Bool = ltb 0 n && leb n 240 in
-    let e1 = and-left (p && leb size 32 && leb 2880 t && leb 7680 f && leb (96 * size) r) (leb size l) e in
-    let e2 = and-left (p && leb size 32 && leb 2880 t && leb 7680 f) (leb (96 * size) r) e1 in
-    let e3 = and-left (p && leb size 32 && leb 2880 t) (leb 7680 f) e2 in
-    let e4 = and-left (p && leb size 32) (leb 2880 t) e3 in
-    let e5 = and-left p (leb size 32) e4 in
+    let e1 = and-left (p && leb count 6 && leb size 32 && leb 2880 t && leb 7680 f && leb (96 * size) r) (leb size l) e in
+    let e2 = and-left (p && leb count 6 && leb size 32 && leb 2880 t && leb 7680 f) (leb (96 * size) r) e1 in
+    let e3 = and-left (p && leb count 6 && leb size 32 && leb 2880 t) (leb 7680 f) e2 in
+    let e4 = and-left (p && leb count 6 && leb size 32) (leb 2880 t) e3 in
+    let e5 = and-left (p && leb count 6) (leb size 32) e4 in
+    let e6 = and-left p (leb count 6) e5 in
     record {
-      few-plots = leb-true n 240 (and-right (ltb 0 n) (leb n 240) e5);
-      few = leb-true size 32 (and-right p (leb size 32) e4);
-      table = leb-true 2880 t (and-right (p && leb size 32) (leb 2880 t) e3);
-      long = leb-true 7680 f (and-right (p && leb size 32 && leb 2880 t) (leb 7680 f) e2);
-      room = leb-true (96 * size) r (and-right (p && leb size 32 && leb 2880 t && leb 7680 f) (leb (96 * size) r) e1);
-      counted = leb-true size l (and-right (p && leb size 32 && leb 2880 t && leb 7680 f && leb (96 * size) r) (leb size l) e);
+      few-plots = leb-true n 240 (and-right (ltb 0 n) (leb n 240) e6);
+      few-columns = leb-true count 6 (and-right p (leb count 6) e5);
+      few = leb-true size 32 (and-right (p && leb count 6) (leb size 32) e4);
+      table = leb-true 2880 t (and-right (p && leb count 6 && leb size 32) (leb 2880 t) e3);
+      long = leb-true 7680 f (and-right (p && leb count 6 && leb size 32 && leb 2880 t) (leb 7680 f) e2);
+      room = leb-true (96 * size) r (and-right (p && leb count 6 && leb size 32 && leb 2880 t && leb 7680 f) (leb (96 * size) r) e1);
+      counted = leb-true size l (and-right (p && leb count 6 && leb size 32 && leb 2880 t && leb 7680 f && leb (96 * size) r) (leb size l) e);
     }
-
-module _ (text : List ℕ) (n size t f r l : ℕ) where
-  pub nameable-line : question3 text ≡ false → familyNameable text n size t f r l ≡ false
-  unfolding familyNameable
-  nameable-line e = rw e
-
-  pub nameable-fits : (b : Bool) → question3 text ≡ true → membersFit n size t f r l ≡ b → familyNameable text n size t f r l ≡ b
-  unfolding familyNameable
-  nameable-fits b e h = rw (e, h)

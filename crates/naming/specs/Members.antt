@@ -4,13 +4,14 @@ use mathlib.Core.Bool.{Bool, true, false, _&&_}
 use mathlib.Core.List.{List, [], _++_}
 use Prim.Native.Nat.{ℕ, zero, suc, _*_, _≤_}
 use lib.Dec.{eqb, leb}
-use lib.ListN.{length, getD, take, drop, set}
-use Rattle.rules.specs.Limits.{mostMembers, tableCells, familyBytes, nameBytes}
+use lib.ListN.{length, take, drop, set}
+use Rattle.rules.specs.Limits.{mostMembers, mostColumns, tableCells, familyBytes, nameBytes}
 use Rattle.rules.specs.Factor.{Column, classes}
 use Rattle.rules.specs.Design.{plotsWithin}
-use Rattle.rules.specs.Sheet.{question3}
+use Rattle.rules.specs.Family.{columnsFrom}
+use Rattle.rules.specs.Sheet.{columnNames, header}
 use Rattle.rules.specs.Names.{name-U, name-E, nameOf, bytesOf}
-use Rattle.rules.specs.Naming.{Kind as Rule, nameOn}
+use Rattle.rules.specs.Naming.{Kind as Rule, markOf, firstColumn, nameOn}
 use Rattle.families.specs.Lent.{columnAt}
 use Rattle.naming.specs.Answers.{startingWith}
 
@@ -24,16 +25,11 @@ unfoldable pub lengthsWritten : (ℕ → List ℕ) → List ℕ → ℕ → List
 lengthsWritten f lengths zero = lengths
 lengthsWritten f lengths (suc m) = set (lengthsWritten f lengths m) m (length (f m))
 
--- 1 to 240 plots, at most 32 members, lent slices long enough
-unfoldable pub membersFit : ℕ → ℕ → ℕ → ℕ → ℕ → ℕ → Bool
+-- 1 to 240 plots, at most 6 columns of the kind, at most 32 members, lent slices long enough
+unfoldable pub membersFit : ℕ → ℕ → ℕ → ℕ → ℕ → ℕ → ℕ → Bool
 unfolding plotsWithin
-membersFit n size tableLength familyLength nameLength lengths =
-    plotsWithin n && leb size mostMembers && leb tableCells tableLength && leb familyBytes familyLength && leb (nameBytes * size) nameLength && leb size lengths
-
--- what the members of a family are named by: a first line of the form, and what fits it
-unfoldable pub familyNameable : List ℕ → ℕ → ℕ → ℕ → ℕ → ℕ → ℕ → Bool
-unfolding question3 membersFit
-familyNameable text n size tableLength familyLength nameLength lengths = question3 text && membersFit n size tableLength familyLength nameLength lengths
+membersFit n count size tableLength familyLength nameLength lengths =
+    plotsWithin n && leb count mostColumns && leb size mostMembers && leb tableCells tableLength && leb familyBytes familyLength && leb (nameBytes * size) nameLength && leb size lengths
 
 -- the name of member i, from 0, by its kind
 unfoldable pub memberName : Rule → List ℕ → ℕ → List ℕ → List ℕ → ℕ → List ℕ
@@ -45,13 +41,21 @@ unfoldable pub nameBy : List (List ℕ) → List Column → ℕ → List ℕ →
 unfolding bytesOf nameOf
 nameBy names Cs n buffer i = bytesOf names (nameOf n Cs (suc i) (columnAt n buffer i))
 
--- room for the names of at most 32 members of a family buffer, by column names of at most 12 bytes
-pub record Slots (columns : List (List ℕ)) (buffer : List ℕ) (size : ℕ) (names lengths : List ℕ) : Type 0 where
+-- the name of member i, from 0, by the first `count` columns of its kind
+unfoldable pub countedName : Rule → List ℕ → ℕ → List ℕ → ℕ → List ℕ → ℕ → List ℕ
+unfolding columnNames header columnsFrom nameBy
+countedName kind text n levels count buffer i = nameBy (columnNames (markOf kind) (header text)) (columnsFrom n levels (firstColumn kind) count) n buffer i
+
+-- as much of a name as its 96 bytes hold; by columns of a first line of the form it is the name
+abbrev pub held : (ℕ → List ℕ) → ℕ → List ℕ
+held f i = take nameBytes (f i)
+
+-- room for the names of at most 32 members of a family buffer
+pub record Slots (buffer : List ℕ) (size : ℕ) (names lengths : List ℕ) : Type 0 where
   pub few : size ≤ 32
   pub long : 7680 ≤ length buffer
   pub room : 96 * size ≤ length names
   pub counted : size ≤ length lengths
-  pub short : (c : ℕ) → length (getD columns c []) ≤ 12
 
 -- what is written where the members can be named, and what was there where they cannot
 abbrev pub ifNamed : {A : Type 0} → Bool → A → A → A

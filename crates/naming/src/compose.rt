@@ -11,7 +11,7 @@ ghost use Rattle.rules.specs.Names.{withCommas, nameByInfimum, nameByColumn, eq
 ghost use Rattle.decimal.specs.Writing.{written, placeAfter};
 ghost use Rattle.naming.specs.Columns.{Columns, listedBy};
 ghost use Rattle.naming.specs.Listing.{separated};
-ghost use Rattle.naming.specs.Members.{namesWritten, lengthsWritten, nameBy, Slots, extremeName};
+ghost use Rattle.naming.specs.Members.{namesWritten, lengthsWritten, nameBy, held, Slots, extremeName};
 use crate::columns;
 use crate::extremes;
 use limits::Level;
@@ -198,7 +198,7 @@ fn put_member(
     by_columns(text, mark, columns, n, count, member, place, out)
 }
 
-// Names each of the first `size` members in its 96 bytes, by the numbered columns.
+// Names each of the first `size` members, as far as its 96 bytes hold the name, by the numbered columns.
 fn put_each(
     text: &[u8],
     mark: u8,
@@ -210,9 +210,9 @@ fn put_each(
     names: &mut [u8],
     lengths: &mut [usize],
 )
-    requires { ⌜ Columns n count (now columns) × (allNumbered (membersOf n (now columns) count) ≡ true) × Slots (columnNames mark (header (now text))) (now family) size (now names) (now lengths) ⌝ }
-    ensures { λ _. ⌜ now (names .exit) ≡ namesWritten (nameBy (columnNames mark (header (now (text .entry)))) (membersOf n (now (columns .entry)) count) n (now (family .entry))) (now (names .entry)) size ⌝ }
-    ensures { λ _. ⌜ now (lengths .exit) ≡ lengthsWritten (nameBy (columnNames mark (header (now (text .entry)))) (membersOf n (now (columns .entry)) count) n (now (family .entry))) (now (lengths .entry)) size ⌝ }
+    requires { ⌜ Columns n count (now columns) × (allNumbered (membersOf n (now columns) count) ≡ true) × Slots (now family) size (now names) (now lengths) ⌝ }
+    ensures { λ _. ⌜ now (names .exit) ≡ namesWritten (held (nameBy (columnNames mark (header (now (text .entry)))) (membersOf n (now (columns .entry)) count) n (now (family .entry)))) (now (names .entry)) size ⌝ }
+    ensures { λ _. ⌜ now (lengths .exit) ≡ lengthsWritten (held (nameBy (columnNames mark (header (now (text .entry)))) (membersOf n (now (columns .entry)) count) n (now (family .entry)))) (now (lengths .entry)) size ⌝ }
 {
     for i in 0..size {
         let a = PLOTS * i;
@@ -245,9 +245,9 @@ pub fn put_names(
     names: &mut [u8],
     lengths: &mut [usize],
 )
-    requires { ⌜ (n ≤ 240) × (count ≤ 6) × (first + count ≤ 12) × (2880 ≤ length (now levels)) × Slots (columnNames mark (header (now text))) (now family) size (now names) (now lengths) ⌝ }
-    ensures { λ _. ⌜ now (names .exit) ≡ namesWritten (nameBy (columnNames mark (header (now (text .entry)))) (columnsFrom n (now (levels .entry)) first count) n (now (family .entry))) (now (names .entry)) size ⌝ }
-    ensures { λ _. ⌜ now (lengths .exit) ≡ lengthsWritten (nameBy (columnNames mark (header (now (text .entry)))) (columnsFrom n (now (levels .entry)) first count) n (now (family .entry))) (now (lengths .entry)) size ⌝ }
+    requires { ⌜ (n ≤ 240) × (count ≤ 6) × (first + count ≤ 12) × (2880 ≤ length (now levels)) × Slots (now family) size (now names) (now lengths) ⌝ }
+    ensures { λ _. ⌜ now (names .exit) ≡ namesWritten (held (nameBy (columnNames mark (header (now (text .entry)))) (columnsFrom n (now (levels .entry)) first count) n (now (family .entry)))) (now (names .entry)) size ⌝ }
+    ensures { λ _. ⌜ now (lengths .exit) ≡ lengthsWritten (held (nameBy (columnNames mark (header (now (text .entry)))) (columnsFrom n (now (levels .entry)) first count) n (now (family .entry)))) (now (lengths .entry)) size ⌝ }
 {
     let mut columns = [0u8; COLUMN_BYTES];
     columns::number_columns(levels, n, first, count, &mut columns);

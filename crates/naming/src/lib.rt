@@ -6,7 +6,7 @@ ghost use Rattle.rules.specs.Family.{membersOf};
 ghost use Rattle.rules.specs.Sheet.{question3, countKind, header};
 ghost use Rattle.rules.specs.Naming.{markOf, naming, namingWithin, namingFrom7, nameBuffer};
 ghost use Rattle.naming.specs.Answers.{kindOf, nameFor, startingWith, refusalOf, lengthOf};
-ghost use Rattle.naming.specs.Members.{familyNameable, memberName, namesWritten, lengthsWritten, ifNamed};
+ghost use Rattle.naming.specs.Members.{membersFit, countedName, held, namesWritten, lengthsWritten, ifNamed};
 
 mod columns;
 mod compose;
@@ -58,29 +58,27 @@ pub fn name_of(
     compose::put_name(text, mark, levels, plots, first, count, member, place, name)
 }
 
-// Names each of the first `size` members, whatever the family: member i, from 0, from byte 96 × i on, and the length of its
-// name at place i. Answers whether they can be named: the first line has the form, the counts and the lengths are in range.
+// Names each of the first `size` members, whatever the family and whatever the first line, by the first `count` columns of the kind:
+// member i, from 0, from byte 96 × i on, as far as these bytes hold the name, and its length at place i. Answers whether the counts and the
+// lengths are in range.
 pub fn name_members(
     text: &[u8],
     levels: &[Level],
     plots: usize,
     kind: Kind,
+    count: usize,
     family: &[u8],
     size: usize,
     names: &mut [u8],
     lengths: &mut [usize],
 ) -> bool
-    ensures answer { λ r. ⌜ r ≡ familyNameable (now (text .entry)) plots size (length (now (levels .entry))) (length (now (family .entry))) (length (now (names .entry))) (length (now (lengths .entry))) ⌝ }
-    ensures names { λ _. ⌜ now (names .exit) ≡ ifNamed (familyNameable (now (text .entry)) plots size (length (now (levels .entry))) (length (now (family .entry))) (length (now (names .entry))) (length (now (lengths .entry)))) (namesWritten (memberName (kindOf kind) (now (text .entry)) plots (now (levels .entry)) (now (family .entry))) (now (names .entry)) size) (now (names .entry)) ⌝ }
-    ensures lengths { λ _. ⌜ now (lengths .exit) ≡ ifNamed (familyNameable (now (text .entry)) plots size (length (now (levels .entry))) (length (now (family .entry))) (length (now (names .entry))) (length (now (lengths .entry)))) (lengthsWritten (memberName (kindOf kind) (now (text .entry)) plots (now (levels .entry)) (now (family .entry))) (now (lengths .entry)) size) (now (lengths .entry)) ⌝ }
+    ensures answer { λ r. ⌜ r ≡ membersFit plots count size (length (now (levels .entry))) (length (now (family .entry))) (length (now (names .entry))) (length (now (lengths .entry))) ⌝ }
+    ensures names { λ _. ⌜ now (names .exit) ≡ ifNamed (membersFit plots count size (length (now (levels .entry))) (length (now (family .entry))) (length (now (names .entry))) (length (now (lengths .entry)))) (namesWritten (held (countedName (kindOf kind) (now (text .entry)) plots (now (levels .entry)) count (now (family .entry)))) (now (names .entry)) size) (now (names .entry)) ⌝ }
+    ensures lengths { λ _. ⌜ now (lengths .exit) ≡ ifNamed (membersFit plots count size (length (now (levels .entry))) (length (now (family .entry))) (length (now (names .entry))) (length (now (lengths .entry)))) (lengthsWritten (held (countedName (kindOf kind) (now (text .entry)) plots (now (levels .entry)) count (now (family .entry)))) (now (lengths .entry)) size) (now (lengths .entry)) ⌝ }
 {
-    let h = sheet::read_header(text);
-    let end = h.end;
-    if end == 0 {
-        return false;
-    }
     if !questions::members_fit(
         plots,
+        count,
         size,
         levels.len(),
         family.len(),
@@ -91,7 +89,6 @@ pub fn name_members(
     }
     let mark = kinds::mark(kind);
     let first = kinds::first(kind);
-    let count = kinds::count(kind, h);
     compose::put_names(
         text,
         mark,

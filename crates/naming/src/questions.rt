@@ -7,6 +7,7 @@ ghost use Rattle.rules.specs.Design.{nonzero, allNonzero};
 ghost use Rattle.rules.specs.Naming.{namingWithin};
 ghost use Rattle.naming.specs.Answers.{memberFits};
 ghost use Rattle.naming.specs.Members.{membersFit};
+use limits::COLUMNS;
 use limits::FAMILY;
 use limits::LEVELS;
 use limits::Level;
@@ -33,21 +34,25 @@ pub fn member_fits(plots: usize, levels: usize, name: usize, member: usize) -> b
     member == plots
 }
 
-// Whether the members of a family can be named: the plots, the size and the lengths are in range.
+// Whether the members of a family can be named: the plots, the columns, the size and the lengths are in range.
 pub fn members_fit(
     plots: usize,
+    count: usize,
     size: usize,
     levels: usize,
     family: usize,
     names: usize,
     lengths: usize,
 ) -> bool
-    ensures { λ r. ⌜ r ≡ membersFit plots size levels family names lengths ⌝ }
+    ensures { λ r. ⌜ r ≡ membersFit plots count size levels family names lengths ⌝ }
 {
     if plots < 1 {
         return false;
     }
     if PLOTS < plots {
+        return false;
+    }
+    if COLUMNS < count {
         return false;
     }
     if MEMBERS < size {

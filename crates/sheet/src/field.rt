@@ -1,16 +1,13 @@
 // Fields: where one ends, and whether it is a level, a name or a column.
 ghost use mathlib.Core.Path.{_≡_};
 ghost use mathlib.Core.Bool.{true, _||_};
-ghost use Prim.Native.Nat.{_+_, _≤_, min};
+ghost use Prim.Native.Nat.{_+_, _≤_};
 ghost use lib.Dec.{eqb};
 ghost use lib.ListN.{length, drop};
 ghost use lib.Seq.{slice};
 ghost use Rattle.rules.specs.Sheet.{tab, newline, letter as isLetter, letterOrDigit, isName, isColumn, sameBytes};
 ghost use Rattle.sheet.specs.Walk.{fieldOf, levelThen, noLevel, isMark};
 use limits::LEVEL;
-
-// Digits of the largest level.
-const DIGITS: usize = 5;
 
 // The end of the field that starts at `at`: the place of the next byte 9 or 10, or the text's length.
 pub fn end_of(text: &[u8], start: usize) -> usize
@@ -36,8 +33,7 @@ pub struct FieldLevel {
     pub level: u16,
 }
 
-// Reads the level that starts at `start` and the byte `stop` after it. No level has more digits than the largest, so that no number
-// read is checked before the last digit.
+// Reads the level that starts at `start` and the byte `stop` after it, up to the first byte that tells that they are not there.
 pub fn level_then(text: &[u8], start: usize, stop: u8) -> FieldLevel
     requires { ⌜ (eqb stop tab || eqb stop newline) ≡ true ⌝ }
     ensures { λ r. ⌜ r ≡ levelThen stop start (drop start (now (text .entry))) ⌝ }
@@ -45,50 +41,36 @@ pub fn level_then(text: &[u8], start: usize, stop: u8) -> FieldLevel
     if text.len() <= start {
         return no_level();
     }
-    let room = at_most(text.len() - start, DIGITS);
-    let mut digits = 0;
-    let mut v: u32 = 0;
-    while digits < room {
-        let x = text[start + digits];
+    let first = text[start];
+    if first < b'1' {
+        return no_level();
+    }
+    if b'9' < first {
+        return no_level();
+    }
+    let mut v = (first - b'0') as u32;
+    let mut at = start + 1;
+    while at < text.len() {
+        if LEVEL < v {
+            return no_level();
+        }
+        let x = text[at];
         if x < b'0' {
-            break;
+            if x != stop {
+                return no_level();
+            }
+            return FieldLevel {
+                end: at + 1,
+                level: v as u16,
+            };
         }
         if b'9' < x {
-            break;
+            return no_level();
         }
         v = 10 * v + (x - b'0') as u32;
-        digits += 1;
+        at += 1;
     }
-    let at = start + digits;
-    if text.len() <= at {
-        return no_level();
-    }
-    if text[at] != stop {
-        return no_level();
-    }
-    if text[start] == b'0' {
-        return no_level();
-    }
-    if v < 1 {
-        return no_level();
-    }
-    if LEVEL < v {
-        return no_level();
-    }
-    FieldLevel {
-        end: at + 1,
-        level: v as u16,
-    }
-}
-
-// The smaller of two numbers.
-fn at_most(a: usize, b: usize) -> usize
-    ensures { λ r. ⌜ r ≡ min a b ⌝ }
-{
-    if a < b {
-        return a;
-    }
-    b
+    no_level()
 }
 
 // The answer where there is no level.

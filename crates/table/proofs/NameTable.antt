@@ -22,7 +22,7 @@ use Rattle.rules.proofs.Numbering.{by-cases}
 use Rattle.families.specs.Lent.{columnAt}
 use Rattle.families.proofs.Lent.{part-of, length-column}
 use Rattle.naming.specs.Answers.{memberFits, nameFor, startingWith}
-use Rattle.naming.specs.Members.{namesWritten, lengthsWritten, membersFit, familyNameable, memberName}
+use Rattle.naming.specs.Members.{namesWritten, lengthsWritten, membersFit, memberName}
 use Rattle.naming.proofs.Entry.{named-for}
 use Rattle.table.specs.Names.{Nameable, Named, nameIn, namesIn, placedName}
 
@@ -151,10 +151,10 @@ names-from kind text n levels S f i (suc m) h =
     across i j = omega arith
 
 -- a family that fits is named
-pub family-nameable : (text levels buffer : List ℕ) (n size room counted : ℕ) → Nameable text levels buffer n → size ≤ 32 → 96 * size ≤ room → size ≤ counted → familyNameable text n size (length levels) (length buffer) room counted ≡ true
-unfolding familyNameable membersFit plotsWithin
-family-nameable text levels buffer n size room counted w h r c =
-    rw (w .form, lt-ltb 0 n (w .some), le-leb n 240 (w .few), le-leb size 32 h, le-leb 2880 (length levels) (w .table), le-leb 7680 (length buffer) (w .long), le-leb (96 * size) room r, le-leb size counted c)
+pub members-fit : (text levels buffer : List ℕ) (n count size room counted : ℕ) → Nameable text levels buffer n → count ≤ 6 → size ≤ 32 → 96 * size ≤ room → size ≤ counted → membersFit n count size (length levels) (length buffer) room counted ≡ true
+unfolding membersFit plotsWithin
+members-fit text levels buffer n count size room counted w k h r c =
+    rw (lt-ltb 0 n (w .some), le-leb n 240 (w .few), le-leb count 6 k, le-leb size 32 h, le-leb 2880 (length levels) (w .table), le-leb 7680 (length buffer) (w .long), le-leb (96 * size) room r, le-leb size counted c)
 
 -- member i's name is the name at place i + 1
 pub member-placed : (kind : Kind) (text levels buffer : List ℕ) (n i : ℕ) → memberName kind text n levels buffer i ≡ placedName kind text n levels buffer (suc i)

@@ -7,7 +7,7 @@ ghost use lib.ListN.{length};
 ghost use Rattle.rules.specs.Design.{fullDesign};
 ghost use Rattle.rules.specs.Family.{membersOf};
 ghost use Rattle.rules.specs.Naming.{treatment};
-ghost use Rattle.rules.specs.Sheet.{question3};
+ghost use Rattle.rules.specs.Sheet.{question3, countKind, plotMark, treatmentMark, header};
 ghost use Rattle.rules.specs.Table.{tableText, skeletonTable, tableBuffer, rowsBytes, designRows, acceptedRows, firstKind, secondKind, namesFrom};
 ghost use Rattle.decimal.specs.Writing.{written, placeAfter};
 ghost use Rattle.design.specs.Answers.{fullNumbers};
@@ -106,18 +106,20 @@ fn reading_refusal(reading: Reading) -> usize
 
 // Writes the text of a sheet that was read.
 fn print_design(text: &[u8], levels: &[Level], counts: Counts, out: &mut [u8]) -> usize
-    requires { ⌜ (question3 (now text) ≡ true) × (1 ≤ counts .plots) × (counts .plots ≤ 240) × (2880 ≤ length (now levels)) ⌝ }
+    requires { ⌜ (question3 (now text) ≡ true) × (1 ≤ counts .plots) × (counts .plots ≤ 240) × (2880 ≤ length (now levels)) × (counts .«plot_columns» ≡ countKind plotMark (header (now text))) × (counts .«treatment_columns» ≡ countKind treatmentMark (header (now text))) ⌝ }
     ensures answer { λ r. ⌜ r ≡ placeAfter (now (out .entry)) 0 (rowsBytes (designRows (now (text .entry)) (counts .plots) (now (levels .entry)) (fullDesign (counts .plots) (counts .«plot_columns») (counts .«treatment_columns») 6 (now (levels .entry)) 7680 7680))) ⌝ }
     ensures bytes { λ _. ⌜ now (out .exit) ≡ written (now (out .entry)) 0 (rowsBytes (designRows (now (text .entry)) (counts .plots) (now (levels .entry)) (fullDesign (counts .plots) (counts .«plot_columns») (counts .«treatment_columns») 6 (now (levels .entry)) 7680 7680))) ⌝ }
 {
     let plots = counts.plots;
+    let plot_columns = counts.plot_columns;
+    let treatment_columns = counts.treatment_columns;
     let mut plot_family = [0u8; FAMILY];
     let mut treatment_family = [0u8; FAMILY];
     let answer = design::full_design(
         levels,
         plots,
-        counts.plot_columns,
-        counts.treatment_columns,
+        plot_columns,
+        treatment_columns,
         INTERACTION,
         &mut plot_family,
         &mut treatment_family,
@@ -138,6 +140,8 @@ fn print_design(text: &[u8], levels: &[Level], counts: Counts, out: &mut [u8]) -
         text,
         levels,
         plots,
+        plot_columns,
+        treatment_columns,
         &plot_family,
         sizes.plot,
         &treatment_family,
@@ -253,13 +257,15 @@ fn print_accepted(
     text: &[u8],
     levels: &[Level],
     plots: usize,
+    plot_columns: usize,
+    treatment_columns: usize,
     plot_family: &[u8],
     plot_size: usize,
     treatment_family: &[u8],
     treatment_size: usize,
     out: &mut [u8],
 ) -> usize
-    requires { ⌜ (question3 (now text) ≡ true) × (2880 ≤ length (now levels)) × Accepted plots (now «plot_family») «plot_size» (now «treatment_family») «treatment_size» ⌝ }
+    requires { ⌜ (question3 (now text) ≡ true) × (2880 ≤ length (now levels)) × Accepted plots (now «plot_family») «plot_size» (now «treatment_family») «treatment_size» × («plot_columns» ≡ countKind plotMark (header (now text))) × («treatment_columns» ≡ countKind treatmentMark (header (now text))) ⌝ }
     ensures answer { λ r. ⌜ r ≡ placeAfter (now (out .entry)) 0 (rowsBytes (acceptedRows (now (text .entry)) plots (now (levels .entry)) (membersOf plots (now («plot_family» .entry)) «plot_size») (membersOf plots (now («treatment_family» .entry)) «treatment_size»))) ⌝ }
     ensures bytes { λ _. ⌜ now (out .exit) ≡ written (now (out .entry)) 0 (rowsBytes (acceptedRows (now (text .entry)) plots (now (levels .entry)) (membersOf plots (now («plot_family» .entry)) «plot_size») (membersOf plots (now («treatment_family» .entry)) «treatment_size»))) ⌝ }
 {
@@ -270,6 +276,8 @@ fn print_accepted(
             text,
             levels,
             plots,
+            plot_columns,
+            treatment_columns,
             plot_family,
             plot_size,
             treatment_family,
@@ -285,6 +293,8 @@ fn print_accepted(
         text,
         levels,
         plots,
+        plot_columns,
+        treatment_columns,
         plot_family,
         plot_size,
         treatment_family,
@@ -300,6 +310,8 @@ fn print_strata(
     text: &[u8],
     levels: &[Level],
     plots: usize,
+    plot_columns: usize,
+    treatment_columns: usize,
     plot_family: &[u8],
     plot_size: usize,
     treatment_family: &[u8],
@@ -308,7 +320,7 @@ fn print_strata(
     strata_lengths: &mut [usize],
     out: &mut [u8],
 ) -> usize
-    requires { ⌜ (question3 (now text) ≡ true) × (2880 ≤ length (now levels)) × Accepted plots (now «plot_family») «plot_size» (now «treatment_family») «treatment_size» × (96 * «plot_size» ≤ length (now strata)) × («plot_size» ≤ length (now «strata_lengths»)) ⌝ }
+    requires { ⌜ (question3 (now text) ≡ true) × (2880 ≤ length (now levels)) × Accepted plots (now «plot_family») «plot_size» (now «treatment_family») «treatment_size» × (96 * «plot_size» ≤ length (now strata)) × («plot_size» ≤ length (now «strata_lengths»)) × («plot_columns» ≡ countKind plotMark (header (now text))) × («treatment_columns» ≡ countKind treatmentMark (header (now text))) ⌝ }
     ensures answer { λ r. ⌜ r ≡ placeAfter (now (out .entry)) 0 (rowsBytes (acceptedRows (now (text .entry)) plots (now (levels .entry)) (membersOf plots (now («plot_family» .entry)) «plot_size») (membersOf plots (now («treatment_family» .entry)) «treatment_size»))) ⌝ }
     ensures bytes { λ _. ⌜ now (out .exit) ≡ written (now (out .entry)) 0 (rowsBytes (acceptedRows (now (text .entry)) plots (now (levels .entry)) (membersOf plots (now («plot_family» .entry)) «plot_size») (membersOf plots (now («treatment_family» .entry)) «treatment_size»))) ⌝ }
 {
@@ -317,6 +329,7 @@ fn print_strata(
         levels,
         plots,
         Kind::Plot,
+        plot_columns,
         plot_family,
         plot_size,
         strata,
@@ -326,6 +339,7 @@ fn print_strata(
         text,
         levels,
         plots,
+        treatment_columns,
         strata,
         strata_lengths,
         plot_family,
@@ -341,6 +355,7 @@ fn print_sources(
     text: &[u8],
     levels: &[Level],
     plots: usize,
+    columns: usize,
     strata: &[u8],
     strata_lengths: &[usize],
     plot_family: &[u8],
@@ -349,7 +364,7 @@ fn print_sources(
     size: usize,
     out: &mut [u8],
 ) -> usize
-    requires { ⌜ (question3 (now text) ≡ true) × (2880 ≤ length (now levels)) × Accepted plots (now «plot_family») «plot_size» (now family) size × Named (now strata) (now «strata_lengths») «plot_size» ⌝ }
+    requires { ⌜ (question3 (now text) ≡ true) × (2880 ≤ length (now levels)) × Accepted plots (now «plot_family») «plot_size» (now family) size × Named (now strata) (now «strata_lengths») «plot_size» × (columns ≡ countKind treatmentMark (header (now text))) ⌝ }
     ensures answer { λ r. ⌜ r ≡ placeAfter (now (out .entry)) 0 (rowsBytes (namedRows plots (membersOf plots (now («plot_family» .entry)) «plot_size») (membersOf plots (now (family .entry)) size) (namesIn (now (strata .entry)) (now («strata_lengths» .entry)) «plot_size») (namesFrom treatment (now (text .entry)) plots (now (levels .entry)) (membersOf plots (now (family .entry)) size) 1 size))) ⌝ }
     ensures bytes { λ _. ⌜ now (out .exit) ≡ written (now (out .entry)) 0 (rowsBytes (namedRows plots (membersOf plots (now («plot_family» .entry)) «plot_size») (membersOf plots (now (family .entry)) size) (namesIn (now (strata .entry)) (now («strata_lengths» .entry)) «plot_size») (namesFrom treatment (now (text .entry)) plots (now (levels .entry)) (membersOf plots (now (family .entry)) size) 1 size))) ⌝ }
 {
@@ -360,6 +375,7 @@ fn print_sources(
             text,
             levels,
             plots,
+            columns,
             strata,
             strata_lengths,
             plot_family,
@@ -377,6 +393,7 @@ fn print_sources(
         text,
         levels,
         plots,
+        columns,
         strata,
         strata_lengths,
         plot_family,
@@ -394,6 +411,7 @@ fn print_named(
     text: &[u8],
     levels: &[Level],
     plots: usize,
+    columns: usize,
     strata: &[u8],
     strata_lengths: &[usize],
     plot_family: &[u8],
@@ -404,7 +422,7 @@ fn print_named(
     lengths: &mut [usize],
     out: &mut [u8],
 ) -> usize
-    requires { ⌜ (question3 (now text) ≡ true) × (2880 ≤ length (now levels)) × Accepted plots (now «plot_family») «plot_size» (now family) size × Named (now strata) (now «strata_lengths») «plot_size» × (96 * size ≤ length (now names)) × (size ≤ length (now lengths)) ⌝ }
+    requires { ⌜ (question3 (now text) ≡ true) × (2880 ≤ length (now levels)) × Accepted plots (now «plot_family») «plot_size» (now family) size × Named (now strata) (now «strata_lengths») «plot_size» × (96 * size ≤ length (now names)) × (size ≤ length (now lengths)) × (columns ≡ countKind treatmentMark (header (now text))) ⌝ }
     ensures answer { λ r. ⌜ r ≡ placeAfter (now (out .entry)) 0 (rowsBytes (namedRows plots (membersOf plots (now («plot_family» .entry)) «plot_size») (membersOf plots (now (family .entry)) size) (namesIn (now (strata .entry)) (now («strata_lengths» .entry)) «plot_size») (namesFrom treatment (now (text .entry)) plots (now (levels .entry)) (membersOf plots (now (family .entry)) size) 1 size))) ⌝ }
     ensures bytes { λ _. ⌜ now (out .exit) ≡ written (now (out .entry)) 0 (rowsBytes (namedRows plots (membersOf plots (now («plot_family» .entry)) «plot_size») (membersOf plots (now (family .entry)) size) (namesIn (now (strata .entry)) (now («strata_lengths» .entry)) «plot_size») (namesFrom treatment (now (text .entry)) plots (now (levels .entry)) (membersOf plots (now (family .entry)) size) 1 size))) ⌝ }
 {
@@ -413,6 +431,7 @@ fn print_named(
         levels,
         plots,
         Kind::Treatment,
+        columns,
         family,
         size,
         names,

@@ -3,6 +3,8 @@ ghost use mathlib.Core.Path.{_≡_};
 ghost use Prim.Native.Nat.{_*_, _≤_};
 ghost use lib.ListN.{length};
 ghost use Rattle.rules.specs.Family.{membersOf};
+ghost use Rattle.rules.specs.Naming.{markOf};
+ghost use Rattle.rules.specs.Sheet.{countKind, header};
 ghost use Rattle.rules.specs.Table.{namesFrom};
 ghost use Rattle.naming.specs.Answers.{kindOf, startingWith};
 ghost use Rattle.table.specs.Names.{Nameable, Named, namesIn, placedName};
@@ -10,22 +12,33 @@ use limits::Level;
 use limits::PLOTS;
 use naming::Kind;
 
-// Names each of the first `size` members in its 96 bytes, and keeps how many bytes the name has.
+// Names each of the first `size` members in its 96 bytes, by the `count` columns of the kind, and keeps how many bytes the name has.
 pub fn fill_names(
     text: &[u8],
     levels: &[Level],
     plots: usize,
     kind: Kind,
+    count: usize,
     family: &[u8],
     size: usize,
     names: &mut [u8],
     lengths: &mut [usize],
 )
-    requires { ⌜ Nameable (now text) (now levels) (now family) plots × (size ≤ 32) × (96 * size ≤ length (now names)) × (size ≤ length (now lengths)) ⌝ }
+    requires { ⌜ Nameable (now text) (now levels) (now family) plots × (size ≤ 32) × (96 * size ≤ length (now names)) × (size ≤ length (now lengths)) × (count ≡ countKind (markOf (kindOf kind)) (header (now text))) ⌝ }
     ensures names { λ _. ⌜ namesIn (now (names .exit)) (now (lengths .exit)) size ≡ namesFrom (kindOf kind) (now (text .entry)) plots (now (levels .entry)) (membersOf plots (now (family .entry)) size) 1 size ⌝ }
     ensures named { λ _. ⌜ Named (now (names .exit)) (now (lengths .exit)) size ⌝ }
 {
-    naming::name_members(text, levels, plots, kind, family, size, names, lengths);
+    naming::name_members(
+        text,
+        levels,
+        plots,
+        kind,
+        count,
+        family,
+        size,
+        names,
+        lengths,
+    );
 }
 
 // Names the member at a place, from 1; `-` at place 0.

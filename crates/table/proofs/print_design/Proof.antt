@@ -109,7 +109,7 @@ print-accepted-requires c κs =
     let s = start f in
     let g = c .before .before .before .before .answer .given in
     let e = f .full-design .ensures in
-    (s .pre .0, s .pre .3, accepted-in (number f) (s .pre .1) (s .pre .2) (design f) (tells f) empty empty long long (now (s .args .text)) (now (s .args .levels)) _ (sym (ap fullNumbers (g .1)) ∙ e .0) refl (f .full-design .last .1 .1 .1 .1 .1 .0) (f .full-design .last .1 .1 .1 .1 .1 .1 .0) (e .1 .0) (e .1 .1))
+    (s .pre .0, s .pre .3, accepted-in (number f) (s .pre .1) (s .pre .2) (design f) (tells f) empty empty long long (now (s .args .text)) (now (s .args .levels)) _ (sym (ap fullNumbers (g .1)) ∙ e .0) refl (f .full-design .last .1 .1 .1 .1 .1 .0) (f .full-design .last .1 .1 .1 .1 .1 .1 .0) (e .1 .0) (e .1 .1), s .pre .4, s .pre .5)
 
 same-length-2 : tie.Need-same-length-2
 same-length-2 c = search needs

@@ -72,6 +72,8 @@ print-design-requires c κs =
       w .plots-some,
       w .plots-few,
       levels-long text (sheet .last .1 .0) (own-table text (k .plots) (k .«plot_columns») (k .«treatment_columns») (sheet .last .1 .0) (sym e) (sheet .ensures .1)),
+      w .plot-columns,
+      w .treatment-columns,
     )
 
 same-length-2 : tie.Need-same-length-2

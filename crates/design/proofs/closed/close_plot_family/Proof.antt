@@ -16,8 +16,24 @@ use Rattle.design.proofs.Judge.{plot-held, plot-left, plot-ready}
 use Rattle.design.proofs.closed.close_plot_family.Statement.{statement}
 use Rattle.design.proofs.closed.close_plot_family.Tie as tie
 
+place-plot-columns-requires : tie.Need-place-plot-columns-requires
+place-plot-columns-requires c κs = search needs
+
+-- where the function starts, seen from the place at which the columns are placed
+abbrev start : tie.After-place-plot-columns → tie.Start
+start p = p .before .before .before .before .before .before
+
+look-crossed-requires : tie.Need-look-crossed-requires
+look-crossed-requires c κs =
+    let p = c .before .before .before in
+    (p .place-plot-columns .ensures .held .few, start p .pre .1)
+
 close-by-infima-requires : tie.Need-close-by-infima-requires
-close-by-infima-requires c κs = search needs
+close-by-infima-requires c κs =
+    let p = c .before .before .before .before .before .before .before .before .before in
+    let s = start p in
+    let held = p .place-plot-columns .ensures .held in
+    (s .pre .0, s .pre .1, s .pre .2, s .pre .3, s .pre .4, held .room, held .places, s .pre .6)
 
 same-length : tie.Need-same-length
 same-length c = search needs
@@ -32,7 +48,8 @@ on s = column-length (s .args .n) (now (s .args .levels)) (s .args .columns) 0 (
 returns : tie.Need-returns
 returns c =
     let f = c .before .before .before .before in
-    let s = f .before .before .before .before .before .before .before .before .before in
+    let p = f .before .before .before .before .before .before .before .before .before .before in
+    let s = start p in
     let n = s .args .n in
     let Fs : List Column = columnsFrom n (now (s .args .levels)) 0 (s .args .columns) in
     let l = f .close-by-infima .ensures in (
@@ -43,14 +60,10 @@ returns c =
       ),
     )
 
-place-plot-columns-requires : tie.Need-place-plot-columns-requires
-place-plot-columns-requires c κs = search needs
-
 close-family-requires : tie.Need-close-family-requires
 close-family-requires c κs =
-    let p = c .before .before .before .before .before .before in
-    let s = p .before .before .before .before .before .before .before in
-    (begun-own (p .place-plot-columns .ensures), s .pre .6, s .pre .4)
+    let p = c .before .before .before .before .before .before .before .before .before in
+    (begun-own (p .place-plot-columns .ensures), start p .pre .6, start p .pre .4)
 
 same-length-3 : tie.Need-same-length-3
 same-length-3 c = search needs
@@ -61,8 +74,8 @@ same-length-4 c = search needs
 returns-2 : tie.Need-returns-2
 returns-2 c =
     let f = c .before .before .before .before in
-    let p = f .before .before .before .before .before .before .before in
-    let s = p .before .before .before .before .before .before .before in
+    let p = f .before .before .before .before .before .before .before .before .before .before in
+    let s = start p in
     let n = s .args .n in
     let Fs : List Column = columnsFrom n (now (s .args .levels)) 0 (s .args .columns) in
     let l = by-counts (f .close-family .ensures (plotGenerators n Fs) (p .place-plot-columns .ensures)) in (
@@ -77,11 +90,12 @@ pub close-plot-family-spec : {M : Type 1} → statement M
 close-plot-family-spec =
     tie.close
     (tie.spec
+    place-plot-columns-requires
+    look-crossed-requires
     close-by-infima-requires
     same-length
     same-length-2
     returns
-    place-plot-columns-requires
     close-family-requires
     same-length-3
     same-length-4

@@ -17,14 +17,14 @@ use Rattle.families.proofs.Lent.{part-of}
 use Rattle.decimal.specs.Writing.{written, placeAfter}
 use Rattle.decimal.proofs.Writing.{written-all, place-all, length-written}
 use Rattle.naming.specs.Answers.{startingWith}
-use Rattle.naming.specs.Members.{namesWritten, lengthsWritten, nameBy}
-use Rattle.naming.proofs.Members.{names-turn, lengths-turn, slot-put, name-by-short}
+use Rattle.naming.specs.Members.{namesWritten, lengthsWritten, nameBy, held}
+use Rattle.naming.proofs.Members.{names-turn, lengths-turn, slot-put, written-held, place-held}
 use Rattle.naming.proofs.compose.put_each.Statement.{statement}
 use Rattle.naming.proofs.compose.put_each.Tie as tie
 
 abbrev Inv-loop : tie.InvT-loop
 Inv-loop text mark columns n count family size names₀ lengths₀ i₀ names lengths i =
-    (i ≤ size) × (size ≤ 32) × (n ≤ 240) × (7680 ≤ length family) × (length names ≡ length names₀) × (96 * size ≤ length names₀) × (length lengths ≡ length lengths₀) × (size ≤ length lengths₀) × (names ≡ namesWritten (nameBy (columnNames mark (header text)) (membersOf n columns count) n family) names₀ i) × (lengths ≡ lengthsWritten (nameBy (columnNames mark (header text)) (membersOf n columns count) n family) lengths₀ i)
+    (i ≤ size) × (size ≤ 32) × (n ≤ 240) × (7680 ≤ length family) × (length names ≡ length names₀) × (96 * size ≤ length names₀) × (length lengths ≡ length lengths₀) × (size ≤ length lengths₀) × (names ≡ namesWritten (held (nameBy (columnNames mark (header text)) (membersOf n columns count) n family)) names₀ i) × (lengths ≡ lengthsWritten (held (nameBy (columnNames mark (header text)) (membersOf n columns count) n family)) lengths₀ i)
 
 abbrev μ-loop : tie.MeasureT-loop
 μ-loop text mark columns n count family size names₀ lengths₀ i₀ names lengths i = size - i
@@ -95,19 +95,19 @@ loop-again c =
     let family = now (a .family) in
     let S = membersOf n (now (a .columns)) (a .count) in
     let columns = columnNames (a .mark) (header (now (a .text))) in
-    let f = nameBy columns S n family in
+    let whole = nameBy columns S n family in
+    let f = held whole in
     let i = b .loop .i in
     let k = 96 * i + 96 - 96 * i in
     let mid = midOf (96 * i) k (b .loop .names) in
     let w = c .before .before .put-member in
-    let same : bytesOf columns (nameOf n S (i + 1) (take (240 * i + n - 240 * i) (drop (240 * i) family))) ≡ f i =
+    let same : bytesOf columns (nameOf n S (i + 1) (take (240 * i + n - 240 * i) (drop (240 * i) family))) ≡ whole i =
     ap₂ (λ (p : ℕ) (F : Column). bytesOf columns (nameOf n S p F)) (add-one i) (part-of n i family) in
-    let sized : length S ≡ a .count = length-members n (s .pre .0 .few-plots) (now (a .columns)) (a .count) in
-    let short : length (f i) ≤ 96 = name-by-short columns S n family i (s .pre .2 .short) (omega (arith, s .pre .0 .few)) (omega arith) in
     let part : length mid ≡ 96 = simp (length-take, length-drop) (omega arith) in
+    let short : length (f i) ≤ 96 = simp length-take (omega arith) in
     let fits : length (f i) ≤ length mid = omega arith in
-    let back : w .last .1 .1 .1 .1 .1 .1 .1 .0 ≡ startingWith (f i) mid = w .ensures .1 ∙ ap (written mid 0) same ∙ written-all mid (f i) fits in
-    let long : w .result ≡ length (f i) = w .ensures .0 ∙ ap (placeAfter mid 0) same ∙ place-all mid (f i) fits in
+    let back : w .last .1 .1 .1 .1 .1 .1 .1 .0 ≡ startingWith (f i) mid = w .ensures .1 ∙ ap (written mid 0) same ∙ written-held mid (whole i) ∙ ap (λ (m : ℕ). written mid 0 (take m (whole i))) part ∙ written-all mid (f i) fits in
+    let long : w .result ≡ length (f i) = w .ensures .0 ∙ ap (placeAfter mid 0) same ∙ place-held mid (whole i) ∙ ap (λ (m : ℕ). placeAfter mid 0 (take m (whole i))) part ∙ place-all mid (f i) fits in
     let names-are : putMid (96 * i) k (b .loop .names) (w .last .1 .1 .1 .1 .1 .1 .1 .0) ≡ namesWritten f (now (a .names)) (i + 1) =
     ap (putMid (96 * i) k (b .loop .names)) back ∙ slot-put i k (b .loop .names) (f i) (omega arith) (omega arith) short
     ∙ ap (λ (x : List ℕ). take (96 * i) x ++ startingWith (f i) (drop (96 * i) x)) (b .loop .inv .8) ∙ sym (names-turn f (now (a .names)) (now (a .lengths)) i) in
@@ -135,7 +135,7 @@ returns : tie.Need-returns Inv-loop μ-loop
 returns c =
     let b = c .before in
     let a = b .before .before .before .before .before .before .args in
-    let f = nameBy (columnNames (a .mark) (header (now (a .text)))) (membersOf (a .n) (now (a .columns)) (a .count)) (a .n) (now (a .family)) in
+    let f = held (nameBy (columnNames (a .mark) (header (now (a .text)))) (membersOf (a .n) (now (a .columns)) (a .count)) (a .n) (now (a .family))) in
     let e : b .loop .i ≡ a .size = omega arith in
     (b .loop .inv .8 ∙ ap (namesWritten f (now (a .names))) e, b .loop .inv .9 ∙ ap (lengthsWritten f (now (a .lengths))) e)
 

@@ -5,12 +5,12 @@ use mathlib.Core.List.{List, map}
 use Prim.Native.Nat.{ℕ}
 use native.Mathlib.Omega.{arith}
 use denote.Ref.{now}
-use lib.ListN.{length}
+use lib.ListN.{length, take}
 use Rattle.rules.specs.Factor.{Column, number}
 use Rattle.rules.specs.Family.{columnsFrom, allNumbered}
 use Rattle.rules.specs.Sheet.{columnNames, header}
 use Rattle.naming.specs.Columns.{numberedFrom}
-use Rattle.naming.specs.Members.{namesWritten, lengthsWritten, nameBy}
+use Rattle.naming.specs.Members.{namesWritten, lengthsWritten, nameBy, held}
 use Rattle.naming.proofs.Members.{names-ext, lengths-ext, name-by-numbered}
 use Rattle.naming.proofs.Tables.{columns-on, all-numbered}
 use borrow.Author.Needs.{needs}
@@ -56,8 +56,8 @@ returns c =
     let w = c .before .before .before .before .put-each .ensures in
     let on = columns-on n (now (a .levels)) (a .first) (a .count) (omega arith) (omega arith) in
     let same : (i : ℕ) → nameBy columns (map number Cs) n family i ≡ nameBy columns Cs n family i = name-by-numbered columns n Cs on family in (
-      w .0 ∙ ap (λ (D : List Column). namesWritten (nameBy columns D n family) (now (a .names)) (a .size)) (m .ensures) ∙ names-ext (nameBy columns (map number Cs) n family) (nameBy columns Cs n family) (now (a .names)) (a .size) (λ i h. same i),
-      w .1 ∙ ap (λ (D : List Column). lengthsWritten (nameBy columns D n family) (now (a .lengths)) (a .size)) (m .ensures) ∙ lengths-ext (nameBy columns (map number Cs) n family) (nameBy columns Cs n family) (now (a .lengths)) (a .size) (λ i h. same i),
+      w .0 ∙ ap (λ (D : List Column). namesWritten (held (nameBy columns D n family)) (now (a .names)) (a .size)) (m .ensures) ∙ names-ext (held (nameBy columns (map number Cs) n family)) (held (nameBy columns Cs n family)) (now (a .names)) (a .size) (λ i h. ap (take 96) (same i)),
+      w .1 ∙ ap (λ (D : List Column). lengthsWritten (held (nameBy columns D n family)) (now (a .lengths)) (a .size)) (m .ensures) ∙ lengths-ext (held (nameBy columns (map number Cs) n family)) (held (nameBy columns Cs n family)) (now (a .lengths)) (a .size) (λ i h. ap (take 96) (same i)),
     )
 
 pub put-names-spec : {M : Type 1} → statement M

@@ -1,15 +1,18 @@
 -- `fill_names` meets its contract: the members fit, and the names written are those of the family.
 -- Assumes nothing.
-use mathlib.Core.Path.{_∙_}
+use mathlib.Core.Path.{_≡_, ap, _∙_}
 use Prim.Native.Nat.{ℕ, suc, _<_, _≤_}
 use native.Mathlib.Omega.{arith}
 use denote.Ref.{now}
-use lib.ListN.{length}
+use lib.ListN.{length, take}
+use lib.Seq.{take-all}
 use borrow.Author.Needs.{needs}
 use Rattle.naming.specs.Answers.{kindOf}
-use Rattle.naming.specs.Members.{namesWritten, lengthsWritten, memberName}
+use Rattle.naming.specs.Members.{namesWritten, lengthsWritten, memberName, countedName, held}
+use Rattle.naming.proofs.Entry.{few-columns}
+use Rattle.naming.proofs.Members.{counted-name, names-ext, lengths-ext}
 use Rattle.table.specs.Names.{placedName}
-use Rattle.table.proofs.NameTable.{Filled, filled-written, filled-names, filled-named, family-nameable, member-placed, placed-short}
+use Rattle.table.proofs.NameTable.{Filled, filled-written, filled-names, filled-named, members-fit, member-placed, placed-short}
 use Rattle.table.proofs.names.fill_names.Statement.{statement}
 use Rattle.table.proofs.names.fill_names.Tie as tie
 
@@ -33,12 +36,15 @@ returns c =
     let size = a .size in
     let w = c .before .before .before .before .name-members in
     let name = memberName k text (a .plots) levels buffer in
-    let fits = family-nameable text levels buffer (a .plots) size (length (now (a .names))) (length (now (a .lengths))) (s .pre .0) (s .pre .1) (omega arith) (omega arith) in
-    let names = rw fits at (w .ensures .1 .0) in
-    let lengths = rw fits at (w .ensures .1 .1) in
+    let whole = countedName k text (a .plots) levels (a .count) buffer in
+    let columns = few-columns (a .kind) text (s .pre .0 .form) in
+    let fits = members-fit text levels buffer (a .plots) (a .count) size (length (now (a .names))) (length (now (a .lengths))) (s .pre .0) (omega (arith, s .pre .4, columns)) (s .pre .1) (omega arith) (omega arith) in
     let short : (j : ℕ) → j < size → length (name j) ≤ 96 = λ j h.
     let few : j < 32 = omega (arith, s .pre .1) in
     rw (member-placed k text levels buffer (a .plots) j) (omega (arith, placed-short k text levels buffer (a .plots) j (s .pre .0) few)) in
+    let same : (j : ℕ) → j < size → held whole j ≡ name j = λ j h. ap (take 96) (counted-name k text (a .plots) levels (a .count) buffer (s .pre .4) j) ∙ take-all 96 (name j) (short j h) in
+    let names = (rw fits at (w .ensures .1 .0)) ∙ names-ext (held whole) name (now (a .names)) size same in
+    let lengths = (rw fits at (w .ensures .1 .1)) ∙ lengths-ext (held whole) name (now (a .lengths)) size same in
     let N = namesWritten name (now (a .names)) size in
     let L = lengthsWritten name (now (a .lengths)) size in
     let f = filled-written name (now (a .names)) (now (a .lengths)) size short (omega (arith, s .pre .1)) (omega (arith, s .pre .1)) in
