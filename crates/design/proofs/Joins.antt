@@ -2,9 +2,9 @@
 -- Assumes nothing.
 use mathlib.Core.Path.{_≡_, refl, sym, ap, ap₂, _∙_, subst}
 use mathlib.Core.Logic.{_⊎_, inl, inr}
-use mathlib.Core.Bool.{Bool, true, false}
+use mathlib.Core.Bool.{true, false}
 use mathlib.Core.List.{List, [], _∷_, _++_, append-nil, List·Memᴰ·head, List·Memᴰ·tail, List·Memᴰ·cases-cons, List·Memᴰ·append-cases, List·Memᴰ·eq-of-singleton, Memᴰ·append-left, Memᴰ·append-right}
-use Prim.Native.Nat.{ℕ, zero, suc, _+_, _*_, _≤_, _<_}
+use Prim.Native.Nat.{ℕ, zero, suc, _+_, _*_, _/_, _%_, _≤_, _<_}
 use native.Mathlib.Nat.{le-trans, add-comm, one-mul}
 use native.Mathlib.Numerals.{add-one}
 use native.Mathlib.Omega.{arith}
@@ -14,7 +14,7 @@ use lib.Seq.{drop-cons, getD-set-same, getD-set-other}
 use borrow.Author.Tests.{eqb-true, eqb-false}
 use Rattle.rules.specs.Factor.{Column, Finer, number, classes, supremum, orthogonal}
 use Rattle.rules.specs.Lists.{bitAt}
-use Rattle.rules.specs.Family.{Family, _∈_, membersOf, insertAll}
+use Rattle.rules.specs.Family.{Family, _∈_, membersOf}
 use Rattle.rules.specs.Closing.{onlySupremum, productsOf, products}
 use Rattle.rules.proofs.Numbering.{by-cases}
 use Rattle.rules.proofs.Bounds.{supremum-left}
@@ -244,13 +244,19 @@ module _ (n : ℕ) (store : List ℕ) (size : ℕ) (X F : Column) (after counts�
 pub joins-none : (n : ℕ) (plot first store : List ℕ) (size : ℕ) → Joins n plot first store size (replicate 1024 0)
 joins-none n plot first store size = record { cells = length-replicate {A = ℕ} 1024 0; sound = λ i j q hi hj e. absurd (let w : suc q ≡ 0 = sym e ∙ zero-at 1024 (32 * i + j) in omega arith) }
 
--- the pair of a cell that is not 0 is orthogonal
-pub joins-tested : (n : ℕ) (plot first store : List ℕ) (size : ℕ) (joins : List ℕ) → Joins n plot first store size joins → (i j : ℕ) → i < 32 → j < 32 → Tested n plot first joins i j
-joins-tested n plot first store size joins t i j hi hj d = go (getD joins (32 * i + j) 0) refl
+-- what the table tells of a pair, and a pair that is not orthogonal of itself
+pub joins-tested : (n : ℕ) (plot first store : List ℕ) (size : ℕ) (joins : List ℕ) → Joins n plot first store size joins → (apart : ℕ) → orthogonalAt n plot first (apart / 32) (apart % 32) ≡ false → (i j : ℕ) → i < 32 → j < 32 → Tested n plot first joins apart i j
+joins-tested n plot first store size joins t apart f i j hi hj = (λ d. go (getD joins (32 * i + j) 0) refl d, λ e. itself e)
   where
-    go : (x : ℕ) → getD joins (32 * i + j) 0 ≡ x → orthogonalAt n plot first i j ≡ true
-    go zero e = absurd (d e)
-    go (suc q) e = t .sound i j q hi hj e .test
+    go : (x : ℕ) → getD joins (32 * i + j) 0 ≡ x → (getD joins (32 * i + j) 0 ≡ 0 → ⊥) → orthogonalAt n plot first i j ≡ true
+    go zero e d = absurd (d e)
+    go (suc q) e d = t .sound i j q hi hj e .test
+
+    itself : 32 * i + j ≡ apart → orthogonalAt n plot first i j ≡ false
+    itself e =
+        let p : i ≡ apart / 32 = omega arith in
+        let q : j ≡ apart % 32 = omega arith in
+        rw (p, q) f
 
 module _ {n : ℕ} {plot first : List ℕ} where
   -- what it has stays true when the store grows

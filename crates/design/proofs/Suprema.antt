@@ -3,22 +3,22 @@
 use mathlib.Core.Path.{_≡_, refl, sym, ap, ap₂, _∙_, subst}
 use mathlib.Core.Logic.{_⊎_, inl, inr}
 use mathlib.Core.Bool.{Bool, true, false, _||_}
-use mathlib.Core.List.{List, [], _∷_, _++_, append-nil, append-assoc, List·Memᴰ·not-nil, List·Memᴰ·append-cases, List·Memᴰ·eq-of-singleton, Memᴰ·cast, Memᴰ·append-left, Memᴰ·append-right}
+use mathlib.Core.List.{List, [], _∷_, _++_, List·Memᴰ·not-nil, List·Memᴰ·append-cases, List·Memᴰ·eq-of-singleton, Memᴰ·cast, Memᴰ·append-left, Memᴰ·append-right}
 use Prim.Native.Nat.{ℕ, suc, _+_, _*_, _-_, _≤_, _<_, max}
-use native.Mathlib.Nat.{le-of-eq, le-trans, zero-add, lt-irrefl}
+use native.Mathlib.Nat.{le-of-eq, lt-irrefl}
 use native.Mathlib.Numerals.{add-one}
 use native.Mathlib.Omega.{arith}
 use lib.Dec.{eqb, ltb}
 use lib.ListN.{length, getD, take, drop, length-append}
-use lib.Seq.{paste, take-all, take-at, length-take-le, getD-take}
+use lib.Seq.{take-all, take-at, length-take-le, getD-take}
 use borrow.Author.Tests.{eqb-true, ltb-true, ltb-false}
 use Rattle.rules.specs.Factor.{Column, at, number, indexOf, classes, supremum, finer, orthogonal}
 use Rattle.rules.proofs.Numbering.{by-cases, eqb-self, has-or-new, has-getD, getD-place}
 use Rattle.rules.proofs.Walk.{Next, next}
-use Rattle.rules.specs.Family.{Family, _∈_, empty, columnsFrom, membersOf, insertAll, written}
-use Rattle.rules.specs.Closing.{onlySupremum, productsOf, products, finalTreatmentFamily}
+use Rattle.rules.specs.Family.{Family, _∈_, empty, membersOf, insertAll}
+use Rattle.rules.specs.Closing.{onlySupremum, products, finalTreatmentFamily}
 use Rattle.rules.specs.Relation.{memberAt}
-use Rattle.rules.proofs.Buffer.{length-members, columns-snoc}
+use Rattle.rules.proofs.Buffer.{length-members}
 use Rattle.rules.proofs.ClassCount.{classes-most}
 use Rattle.rules.proofs.Closing.{pigeonhole, ascending-distinct}
 use Rattle.rules.proofs.Members.{insertAll-has, insertAll-only, ascending-insertAll, ascending-unique}

@@ -1,11 +1,11 @@
 -- What is kept while plot members are crossed with treatment members: suprema in a store, and the place of each pair's in a table.
 -- Members are counted from 0 here. Assumes nothing.
 use mathlib.Core.Path.{_≡_}
-use mathlib.Core.Bool.{true}
+use mathlib.Core.Bool.{Bool, true, false}
 use mathlib.Core.List.{List}
-use Prim.Native.Nat.{ℕ, suc, _+_, _*_, _≤_, _<_, min}
+use Prim.Native.Nat.{ℕ, suc, _+_, _*_, _-_, _/_, _%_, _≤_, _<_, min}
 use lib.ListN.{length, getD, set}
-use Rattle.rules.specs.Factor.{Column, Finer, classes, supremum, orthogonal}
+use Rattle.rules.specs.Factor.{Column, Finer, supremum, orthogonal}
 use Rattle.rules.specs.Lists.{bitAt}
 use Rattle.design.specs.State.{columnIn, Held}
 use Rattle.design.specs.Treatments.{Member, orthogonalAt}
@@ -44,9 +44,13 @@ pub record Joins (n : ℕ) (plot first store : List ℕ) (size : ℕ) (joins : L
   pub cells : length joins ≡ 1024
   pub sound : (i j q : ℕ) → i < 32 → j < 32 → getD joins (32 * i + j) 0 ≡ suc q → Join n (columnIn n plot i) (columnIn n first j) store size q
 
--- plot member i and treatment member j are orthogonal if their cell is not 0
-abbrev pub Tested : ℕ → List ℕ → List ℕ → List ℕ → ℕ → ℕ → Type 0
-Tested n plot first joins i j = (getD joins (32 * i + j) 0 ≡ 0 → ⊥) → orthogonalAt n plot first i j ≡ true
+-- plot member i and treatment member j are orthogonal if their cell is not 0, and are not if it is the cell `apart`
+abbrev pub Tested : ℕ → List ℕ → List ℕ → List ℕ → ℕ → ℕ → ℕ → Type 0
+Tested n plot first joins apart i j = ((getD joins (32 * i + j) 0 ≡ 0 → ⊥) → orthogonalAt n plot first i j ≡ true) × (32 * i + j ≡ apart → orthogonalAt n plot first i j ≡ false)
+
+-- `apart` is the cell, from 1, of a pair that is not orthogonal
+abbrev pub Failing : (ℕ → ℕ → Bool) → ℕ → ℕ → Type 0
+Failing test n apart = ((apart - 1) % 32 < n) × (test ((apart - 1) / 32) ((apart - 1) % 32) ≡ false)
 
 -- the table once the column F is added: its place is noted in a cell, or it has none
 pub data Entered (n : ℕ) (F : Column) (store : List ℕ) (size : ℕ) (joins : List ℕ) (at : ℕ) (after : List ℕ) : Type 0 where

@@ -9,7 +9,7 @@ use lib.ListN.{length, getD}
 use Rattle.rules.specs.Factor.{Column, number, classes, infimum, orthogonal}
 use Rattle.rules.specs.Family.{membersOf, insertAll}
 use Rattle.rules.specs.Closing.{onlySupremum, tooMany, close, infimumAll}
-use Rattle.design.specs.State.{columnIn, Held, Begun}
+use Rattle.design.specs.State.{columnIn, Begun}
 
 -- the choices of fewer than k columns
 unfoldable pub shorter : ℕ → List (List Column) → List (List Column)

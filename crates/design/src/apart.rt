@@ -1,7 +1,7 @@
 // The places of the first pair of a plot and a treatment member that are not orthogonal.
 ghost use mathlib.Core.Path.{_≡_};
 ghost use Prim.Native.Nat.{ℕ, _+_, _*_, _≤_, _<_};
-ghost use lib.ListN.{length, getD};
+ghost use lib.ListN.{length};
 ghost use Rattle.design.specs.Search.{crossPartner, crossFirst, crossSecond};
 ghost use Rattle.design.specs.Treatments.{orthogonalAt, Member};
 ghost use Rattle.design.specs.Crossing.{Counted, Tested};
@@ -24,7 +24,8 @@ fn walk_orthogonal(plot: &[u8], i: usize, first: &[u8], j: usize, n: usize) -> b
     standing::crossing_of(&plot[a..c], &first[b..d], &mut column).orthogonal
 }
 
-// The same, of a pair that the table may have, with `f` and `g` classes: of two that are nested it is known.
+// The same, of members with `f` and `g` classes, which may be known: by the table, by the cell `apart` of a pair that is not, or by the
+// numbers of classes.
 fn pair_orthogonal(
     plot: &[u8],
     i: usize,
@@ -34,12 +35,17 @@ fn pair_orthogonal(
     g: u8,
     n: usize,
     joins: &[u8; PAIRS],
+    apart: usize,
 ) -> bool
-    requires { ⌜ (1 ≤ n) × (n ≤ 240) × Member n (now plot) i f × Member n (now first) j g × Tested n (now plot) (now first) (now joins) i j ⌝ }
+    requires { ⌜ (1 ≤ n) × (n ≤ 240) × Member n (now plot) i f × Member n (now first) j g × Tested n (now plot) (now first) (now joins) apart i j ⌝ }
     ensures { λ r. ⌜ r ≡ orthogonalAt n (now (plot .entry)) (now (first .entry)) i j ⌝ }
 {
-    if joins[MEMBERS * i + j] != 0 {
+    let at = MEMBERS * i + j;
+    if joins[at] != 0 {
         return true;
+    }
+    if at == apart {
+        return false;
     }
     if known_finer(n, f, g) {
         return true;
@@ -60,19 +66,20 @@ fn apart_row(
     firsts: &[u8; MEMBERS],
     n: usize,
     joins: &[u8; PAIRS],
+    apart: usize,
 ) -> usize
-    requires { ⌜ (1 ≤ n) × (n ≤ 240) × Member n (now plot) i f × («first_size» ≤ 32) × Counted n (now first) (now firsts) «first_size» × ((j : ℕ) → j < 32 → Tested n (now plot) (now first) (now joins) i j) ⌝ }
+    requires { ⌜ (1 ≤ n) × (n ≤ 240) × Member n (now plot) i f × («first_size» ≤ 32) × Counted n (now first) (now firsts) «first_size» × ((j : ℕ) → j < 32 → Tested n (now plot) (now first) (now joins) apart i j) ⌝ }
     ensures { λ r. ⌜ r ≡ crossPartner (orthogonalAt n (now (plot .entry)) (now (first .entry))) «first_size» i ⌝ }
 {
     for j in 0..first_size {
-        if !pair_orthogonal(plot, i, f, first, j, firsts[j], n, joins) {
+        if !pair_orthogonal(plot, i, f, first, j, firsts[j], n, joins, apart) {
             return j + 1;
         }
     }
     0
 }
 
-// The first pair that is not orthogonal.
+// The first pair that is not orthogonal, where `apart` is the cell of one.
 pub fn first_apart(
     plot: &[u8],
     plot_size: usize,
@@ -82,13 +89,24 @@ pub fn first_apart(
     firsts: &[u8; MEMBERS],
     n: usize,
     joins: &[u8; PAIRS],
+    apart: usize,
 ) -> Places
-    requires { ⌜ (1 ≤ n) × (n ≤ 240) × («plot_size» ≤ 32) × Counted n (now plot) (now plots) «plot_size» × («first_size» ≤ 32) × Counted n (now first) (now firsts) «first_size» × ((i j : ℕ) → i < 32 → j < 32 → Tested n (now plot) (now first) (now joins) i j) ⌝ }
+    requires { ⌜ (1 ≤ n) × (n ≤ 240) × («plot_size» ≤ 32) × Counted n (now plot) (now plots) «plot_size» × («first_size» ≤ 32) × Counted n (now first) (now firsts) «first_size» × ((i j : ℕ) → i < 32 → j < 32 → Tested n (now plot) (now first) (now joins) apart i j) ⌝ }
     ensures first { λ r. ⌜ r .first ≡ crossFirst (orthogonalAt n (now (plot .entry)) (now (first .entry))) «plot_size» «first_size» ⌝ }
     ensures second { λ r. ⌜ r .second ≡ crossSecond (orthogonalAt n (now (plot .entry)) (now (first .entry))) «first_size» (r .first) ⌝ }
 {
     for i in 0..plot_size {
-        let second = apart_row(plot, i, plots[i], first, first_size, firsts, n, joins);
+        let second = apart_row(
+            plot,
+            i,
+            plots[i],
+            first,
+            first_size,
+            firsts,
+            n,
+            joins,
+            apart,
+        );
         if second != 0 {
             let at = i + 1;
             return Places { first: at, second };

@@ -3,7 +3,7 @@
 ghost use mathlib.Core.Path.{_≡_};
 ghost use mathlib.Core.Bool.{true, false};
 ghost use mathlib.Core.List.{List, [], _∷_, _++_};
-ghost use Prim.Native.Nat.{ℕ, _≤_, _<_};
+ghost use Prim.Native.Nat.{ℕ, _-_, _/_, _≤_, _<_};
 ghost use lib.ListN.{length, getD};
 ghost use Rattle.rules.specs.Factor.{Column, number, classes, supremum, orthogonal};
 ghost use Rattle.rules.specs.Family.{membersOf};
@@ -11,11 +11,12 @@ ghost use Rattle.rules.specs.Closing.{onlySupremum, productsOf, products};
 ghost use Rattle.design.specs.State.{columnIn};
 ghost use Rattle.design.specs.Search.{crossFirst, crossSecond};
 ghost use Rattle.design.specs.Treatments.{Placing, orthogonalAt, Member, Numbered};
-ghost use Rattle.design.specs.Crossing.{Counted, Below, heldOf, Growing, Grown, Joins, Entered};
+ghost use Rattle.design.specs.Crossing.{Counted, Below, heldOf, Growing, Grown, Joins, Failing, Entered};
 use crate::apart::first_apart;
 use crate::closing::PAIRS;
 use crate::closing::TOO_MANY;
 use crate::following::following;
+use crate::nesting::Entry;
 use crate::nesting::class_counts;
 use crate::nesting::finer_words;
 use crate::nesting::known_finer;
@@ -25,9 +26,19 @@ use crate::store::place;
 use limits::MEMBERS;
 use limits::PLOTS;
 
-// Whether pairs are orthogonal, and how many different suprema there are with theirs, or TOO_MANY.
-pub struct Step {
+// Fewer members than these leave so little to follow from the order of the other family's members that it is not sought.
+const SOME_MEMBERS: usize = 4;
+
+// Whether a pair is orthogonal, and how many different suprema there are with its own, or TOO_MANY.
+pub struct Pair {
     pub orthogonal: bool,
+    pub size: usize,
+}
+
+// The cell of a pair that is not orthogonal, from 1, or 0; and how many different suprema there are, or TOO_MANY, which says something
+// only where all are orthogonal.
+pub struct Row {
+    pub apart: usize,
     pub size: usize,
 }
 
@@ -100,7 +111,7 @@ fn walk_pair(
     counts: &mut [u8; MEMBERS],
     size: usize,
     joins: &mut [u8; PAIRS],
-) -> Step
+) -> Pair
     requires { ⌜ Growing n (now store) (now counts) size × Joins n (now plot) (now first) (now store) (heldOf size) (now joins) × (7680 ≤ length (now plot)) × (7680 ≤ length (now first)) × (i < 32) × (j < 32) ⌝ }
     ensures test { λ r. ⌜ r .orthogonal ≡ orthogonalAt n (now (plot .entry)) (now (first .entry)) i j ⌝ }
     ensures kept { λ r. ⌜ Growing n (now (store .exit)) (now (counts .exit)) (r .size) × Joins n (now (plot .entry)) (now (first .entry)) (now (store .exit)) (heldOf (r .size)) (now (joins .exit)) ⌝ }
@@ -113,7 +124,7 @@ fn walk_pair(
     let mut column = [0u8; PLOTS];
     let crossing = standing::crossing_of(&plot[a..c], &first[b..d], &mut column);
     if !crossing.orthogonal {
-        return Step {
+        return Pair {
             orthogonal: false,
             size,
         };
@@ -121,119 +132,81 @@ fn walk_pair(
     let k = crossing.supremum;
     let at = MEMBERS * i + j;
     let held = add(store, counts, size, &column[..n], k as u8, joins, at);
-    Step {
+    Pair {
         orthogonal: true,
         size: held,
     }
 }
 
-// Plot member `i`, which has `f` classes, with treatment member `j`, which has `g`, whose numbers of classes do not tell that they are
-// nested: by what follows from finer members, or by a walk.
+// A plot member `f` with a treatment member `g`: by what follows from finer members, or by a walk.
 fn meet_pair(
     plot: &[u8],
-    i: usize,
-    f: u8,
-    finer_plots: u32,
+    f: Entry,
     first: &[u8],
-    j: usize,
-    g: u8,
-    finer_firsts: u32,
+    g: Entry,
     n: usize,
     store: &mut [u8],
     counts: &mut [u8; MEMBERS],
     size: usize,
     joins: &mut [u8; PAIRS],
-) -> Step
-    requires { ⌜ Growing n (now store) (now counts) size × Joins n (now plot) (now first) (now store) (heldOf size) (now joins) × Member n (now plot) i f × Below n (now plot) «finer_plots» i × Member n (now first) j g × Below n (now first) «finer_firsts» j ⌝ }
-    ensures test { λ r. ⌜ r .orthogonal ≡ orthogonalAt n (now (plot .entry)) (now (first .entry)) i j ⌝ }
+) -> Pair
+    requires { ⌜ Growing n (now store) (now counts) size × Joins n (now plot) (now first) (now store) (heldOf size) (now joins) × Member n (now plot) (f .place) (f .count) × Below n (now plot) (f .finer) (f .place) × Member n (now first) (g .place) (g .count) × Below n (now first) (g .finer) (g .place) ⌝ }
+    ensures test { λ r. ⌜ r .orthogonal ≡ orthogonalAt n (now (plot .entry)) (now (first .entry)) (f .place) (g .place) ⌝ }
     ensures kept { λ r. ⌜ Growing n (now (store .exit)) (now (counts .exit)) (r .size) × Joins n (now (plot .entry)) (now (first .entry)) (now (store .exit)) (heldOf (r .size)) (now (joins .exit)) ⌝ }
-    ensures places { λ r. ⌜ (r .orthogonal ≡ true → (As : List Column) → Placing n As (now (store .entry)) (now (counts .entry)) size → Placing n (As ++ supremum (columnIn n (now (plot .entry)) i) (columnIn n (now (first .entry)) j) ∷ []) (now (store .exit)) (now (counts .exit)) (r .size)) ⌝ }
+    ensures places { λ r. ⌜ (r .orthogonal ≡ true → (As : List Column) → Placing n As (now (store .entry)) (now (counts .entry)) size → Placing n (As ++ supremum (columnIn n (now (plot .entry)) (f .place)) (columnIn n (now (first .entry)) (g .place)) ∷ []) (now (store .exit)) (now (counts .exit)) (r .size)) ⌝ }
 {
-    let told = following(
-        plot,
-        i,
-        f,
-        finer_plots,
-        first,
-        j,
-        g,
-        finer_firsts,
-        n,
-        store,
-        counts,
-        size,
-        joins,
-    );
+    let told = following(plot, f, first, g, n, store, counts, size, joins);
+    let i = f.place;
+    let j = g.place;
     if told == 0 {
         return walk_pair(plot, i, first, j, n, store, counts, size, joins);
     }
     joins[MEMBERS * i + j] = told;
-    Step {
+    Pair {
         orthogonal: true,
         size,
     }
 }
 
-// Plot member `i`, which has `f` classes, with treatment member `j`, which has `g`: of two that are nested the supremum is the
-// coarser one, and they are orthogonal. The words have bits for the members that are finer.
+// A plot member `f` with a treatment member `g`: of two that are nested the supremum is the coarser one, and they are orthogonal.
 fn cross_pair(
     plot: &[u8],
-    i: usize,
-    f: u8,
-    finer_plots: u32,
+    f: Entry,
     first: &[u8],
-    j: usize,
-    g: u8,
-    finer_firsts: u32,
+    g: Entry,
     n: usize,
     store: &mut [u8],
     counts: &mut [u8; MEMBERS],
     size: usize,
     joins: &mut [u8; PAIRS],
-) -> Step
-    requires { ⌜ Growing n (now store) (now counts) size × Joins n (now plot) (now first) (now store) (heldOf size) (now joins) × Member n (now plot) i f × Below n (now plot) «finer_plots» i × Member n (now first) j g × Below n (now first) «finer_firsts» j ⌝ }
-    ensures test { λ r. ⌜ r .orthogonal ≡ orthogonalAt n (now (plot .entry)) (now (first .entry)) i j ⌝ }
+) -> Pair
+    requires { ⌜ Growing n (now store) (now counts) size × Joins n (now plot) (now first) (now store) (heldOf size) (now joins) × Member n (now plot) (f .place) (f .count) × Below n (now plot) (f .finer) (f .place) × Member n (now first) (g .place) (g .count) × Below n (now first) (g .finer) (g .place) ⌝ }
+    ensures test { λ r. ⌜ r .orthogonal ≡ orthogonalAt n (now (plot .entry)) (now (first .entry)) (f .place) (g .place) ⌝ }
     ensures kept { λ r. ⌜ Growing n (now (store .exit)) (now (counts .exit)) (r .size) × Joins n (now (plot .entry)) (now (first .entry)) (now (store .exit)) (heldOf (r .size)) (now (joins .exit)) ⌝ }
-    ensures places { λ r. ⌜ (r .orthogonal ≡ true → (As : List Column) → Placing n As (now (store .entry)) (now (counts .entry)) size → Placing n (As ++ supremum (columnIn n (now (plot .entry)) i) (columnIn n (now (first .entry)) j) ∷ []) (now (store .exit)) (now (counts .exit)) (r .size)) ⌝ }
+    ensures places { λ r. ⌜ (r .orthogonal ≡ true → (As : List Column) → Placing n As (now (store .entry)) (now (counts .entry)) size → Placing n (As ++ supremum (columnIn n (now (plot .entry)) (f .place)) (columnIn n (now (first .entry)) (g .place)) ∷ []) (now (store .exit)) (now (counts .exit)) (r .size)) ⌝ }
 {
-    let at = MEMBERS * i + j;
-    if known_finer(n, f, g) {
-        let held = add_member(first, j, g, n, store, counts, size, joins, at);
-        return Step {
+    let at = MEMBERS * f.place + g.place;
+    if known_finer(n, f.count, g.count) {
+        let held = add_member(first, g.place, g.count, n, store, counts, size, joins, at);
+        return Pair {
             orthogonal: true,
             size: held,
         };
     }
-    if known_finer(n, g, f) {
-        let held = add_member(plot, i, f, n, store, counts, size, joins, at);
-        return Step {
+    if known_finer(n, g.count, f.count) {
+        let held = add_member(plot, f.place, f.count, n, store, counts, size, joins, at);
+        return Pair {
             orthogonal: true,
             size: held,
         };
     }
-    meet_pair(
-        plot,
-        i,
-        f,
-        finer_plots,
-        first,
-        j,
-        g,
-        finer_firsts,
-        n,
-        store,
-        counts,
-        size,
-        joins,
-    )
+    meet_pair(plot, f, first, g, n, store, counts, size, joins)
 }
 
-// Plot member `i` with each treatment member, from the last on, up to one that is not orthogonal.
+// A plot member `f` with each treatment member, from the last on, up to one that is not orthogonal.
 fn cross_row(
     plot: &[u8],
-    i: usize,
-    f: u8,
-    finer_plots: u32,
+    f: Entry,
     first: &[u8],
     first_size: usize,
     firsts: &[u8; MEMBERS],
@@ -243,102 +216,34 @@ fn cross_row(
     counts: &mut [u8; MEMBERS],
     size: usize,
     joins: &mut [u8; PAIRS],
-) -> Step
-    requires { ⌜ Growing n (now store) (now counts) size × Joins n (now plot) (now first) (now store) (heldOf size) (now joins) × Member n (now plot) i f × Below n (now plot) «finer_plots» i × («first_size» ≤ 32) × Counted n (now first) (now firsts) «first_size» × ((k : ℕ) → Below n (now first) (getD (now «finer_firsts») k 0) k) ⌝ }
-    ensures all { λ r. ⌜ (r .orthogonal ≡ true → (j : ℕ) → j < «first_size» → orthogonalAt n (now (plot .entry)) (now (first .entry)) i j ≡ true) ⌝ }
-    ensures some { λ r. ⌜ (r .orthogonal ≡ false → ((j : ℕ) → j < «first_size» → orthogonalAt n (now (plot .entry)) (now (first .entry)) i j ≡ true) → ⊥) ⌝ }
+) -> Row
+    requires { ⌜ Growing n (now store) (now counts) size × Joins n (now plot) (now first) (now store) (heldOf size) (now joins) × Member n (now plot) (f .place) (f .count) × Below n (now plot) (f .finer) (f .place) × («first_size» ≤ 32) × Counted n (now first) (now firsts) «first_size» × ((k : ℕ) → Below n (now first) (getD (now «finer_firsts») k 0) k) ⌝ }
+    ensures all { λ r. ⌜ (r .apart ≡ 0 → (j : ℕ) → j < «first_size» → orthogonalAt n (now (plot .entry)) (now (first .entry)) (f .place) j ≡ true) ⌝ }
+    ensures apart { λ r. ⌜ ((r .apart ≡ 0 → ⊥) → ((r .apart - 1) / 32 ≡ f .place) × Failing (orthogonalAt n (now (plot .entry)) (now (first .entry))) «first_size» (r .apart)) ⌝ }
     ensures kept { λ r. ⌜ Growing n (now (store .exit)) (now (counts .exit)) (r .size) × Joins n (now (plot .entry)) (now (first .entry)) (now (store .exit)) (heldOf (r .size)) (now (joins .exit)) ⌝ }
-    ensures places { λ r. ⌜ (r .orthogonal ≡ true → (As : List Column) → Placing n As (now (store .entry)) (now (counts .entry)) size → Placing n (As ++ productsOf onlySupremum (columnIn n (now (plot .entry)) i) (membersOf n (now (first .entry)) «first_size»)) (now (store .exit)) (now (counts .exit)) (r .size)) ⌝ }
+    ensures places { λ r. ⌜ (r .apart ≡ 0 → (As : List Column) → Placing n As (now (store .entry)) (now (counts .entry)) size → Placing n (As ++ productsOf onlySupremum (columnIn n (now (plot .entry)) (f .place)) (membersOf n (now (first .entry)) «first_size»)) (now (store .exit)) (now (counts .exit)) (r .size)) ⌝ }
 {
     let mut now = size;
     let mut j = first_size;
     while 0 < j {
         j -= 1;
-        let pair = cross_pair(
-            plot,
-            i,
-            f,
-            finer_plots,
-            first,
-            j,
-            firsts[j],
-            finer_firsts[j],
-            n,
-            store,
-            counts,
-            now,
-            joins,
-        );
+        let g = Entry {
+            place: j,
+            count: firsts[j],
+            finer: finer_firsts[j],
+        };
+        let pair = cross_pair(plot, f, first, g, n, store, counts, now, joins);
         now = pair.size;
         if !pair.orthogonal {
-            return Step {
-                orthogonal: false,
-                size: now,
-            };
+            let apart = MEMBERS * f.place + j + 1;
+            return Row { apart, size: now };
         }
     }
-    Step {
-        orthogonal: true,
+    Row {
+        apart: 0,
         size: now,
     }
 }
-
-// Each plot member with each treatment member, from the last ones on, up to a pair that is not orthogonal.
-fn cross_all(
-    plot: &[u8],
-    plot_size: usize,
-    plots: &[u8; MEMBERS],
-    finer_plots: &[u32; MEMBERS],
-    first: &[u8],
-    first_size: usize,
-    firsts: &[u8; MEMBERS],
-    finer_firsts: &[u32; MEMBERS],
-    n: usize,
-    store: &mut [u8],
-    counts: &mut [u8; MEMBERS],
-    joins: &mut [u8; PAIRS],
-) -> Step
-    requires { ⌜ Growing n (now store) (now counts) 0 × Joins n (now plot) (now first) (now store) 0 (now joins) × («plot_size» ≤ 32) × Counted n (now plot) (now plots) «plot_size» × ((k : ℕ) → Below n (now plot) (getD (now «finer_plots») k 0) k) × («first_size» ≤ 32) × Counted n (now first) (now firsts) «first_size» × ((k : ℕ) → Below n (now first) (getD (now «finer_firsts») k 0) k) ⌝ }
-    ensures all { λ r. ⌜ (r .orthogonal ≡ true → (i j : ℕ) → i < «plot_size» → j < «first_size» → orthogonalAt n (now (plot .entry)) (now (first .entry)) i j ≡ true) ⌝ }
-    ensures some { λ r. ⌜ (r .orthogonal ≡ false → ((i j : ℕ) → i < «plot_size» → j < «first_size» → orthogonalAt n (now (plot .entry)) (now (first .entry)) i j ≡ true) → ⊥) ⌝ }
-    ensures kept { λ r. ⌜ (length (now (store .exit)) ≡ 7680) × Joins n (now (plot .entry)) (now (first .entry)) (now (store .exit)) (heldOf (r .size)) (now (joins .exit)) ⌝ }
-    ensures places { λ r. ⌜ (r .orthogonal ≡ true → Placing n (products onlySupremum (membersOf n (now (plot .entry)) «plot_size») (membersOf n (now (first .entry)) «first_size»)) (now (store .exit)) (now (counts .exit)) (r .size)) ⌝ }
-{
-    let mut size = 0;
-    let mut i = plot_size;
-    while 0 < i {
-        i -= 1;
-        let row = cross_row(
-            plot,
-            i,
-            plots[i],
-            finer_plots[i],
-            first,
-            first_size,
-            firsts,
-            finer_firsts,
-            n,
-            store,
-            counts,
-            size,
-            joins,
-        );
-        size = row.size;
-        if !row.orthogonal {
-            return Step {
-                orthogonal: false,
-                size,
-            };
-        }
-    }
-    Step {
-        orthogonal: true,
-        size,
-    }
-}
-
-// Fewer members than these leave so little to follow from the order of the other family's members that it is not sought.
-const SOME_MEMBERS: usize = 4;
 
 // Words with a bit for each member that is finer, by place, where the other family has members enough for them to be of use.
 fn order_words(
@@ -355,6 +260,57 @@ fn order_words(
         return [0u32; MEMBERS];
     }
     finer_words(family, counts, size, n)
+}
+
+// Each plot member with each treatment member, from the last ones on, up to a pair that is not orthogonal.
+fn cross_all(
+    plot: &[u8],
+    plot_size: usize,
+    plots: &[u8; MEMBERS],
+    first: &[u8],
+    first_size: usize,
+    firsts: &[u8; MEMBERS],
+    n: usize,
+    store: &mut [u8],
+    counts: &mut [u8; MEMBERS],
+    joins: &mut [u8; PAIRS],
+) -> Row
+    requires { ⌜ Growing n (now store) (now counts) 0 × Joins n (now plot) (now first) (now store) 0 (now joins) × («plot_size» ≤ 32) × Counted n (now plot) (now plots) «plot_size» × («first_size» ≤ 32) × Counted n (now first) (now firsts) «first_size» ⌝ }
+    ensures all { λ r. ⌜ (r .apart ≡ 0 → (i j : ℕ) → i < «plot_size» → j < «first_size» → orthogonalAt n (now (plot .entry)) (now (first .entry)) i j ≡ true) ⌝ }
+    ensures apart { λ r. ⌜ ((r .apart ≡ 0 → ⊥) → ((r .apart - 1) / 32 < «plot_size») × Failing (orthogonalAt n (now (plot .entry)) (now (first .entry))) «first_size» (r .apart)) ⌝ }
+    ensures kept { λ r. ⌜ (length (now (store .exit)) ≡ 7680) × Joins n (now (plot .entry)) (now (first .entry)) (now (store .exit)) (heldOf (r .size)) (now (joins .exit)) ⌝ }
+    ensures places { λ r. ⌜ (r .apart ≡ 0 → Placing n (products onlySupremum (membersOf n (now (plot .entry)) «plot_size») (membersOf n (now (first .entry)) «first_size»)) (now (store .exit)) (now (counts .exit)) (r .size)) ⌝ }
+{
+    let finer_plots = order_words(plot, plots, plot_size, n, first_size);
+    let finer_firsts = order_words(first, firsts, first_size, n, plot_size);
+    let mut size = 0;
+    let mut i = plot_size;
+    while 0 < i {
+        i -= 1;
+        let f = Entry {
+            place: i,
+            count: plots[i],
+            finer: finer_plots[i],
+        };
+        let row = cross_row(
+            plot,
+            f,
+            first,
+            first_size,
+            firsts,
+            &finer_firsts,
+            n,
+            store,
+            counts,
+            size,
+            joins,
+        );
+        if row.apart != 0 {
+            return row;
+        }
+        size = row.size;
+    }
+    Row { apart: 0, size }
 }
 
 // Each plot member with each treatment member. The places of a pair that is not orthogonal are sought from the first pair on.
@@ -374,32 +330,29 @@ pub fn cross(
 {
     let plots = class_counts(plot, n, plot_size);
     let firsts = class_counts(first, n, first_size);
-    let finer_plots = order_words(plot, &plots, plot_size, n, first_size);
-    let finer_firsts = order_words(first, &firsts, first_size, n, plot_size);
     let mut joins = [0u8; PAIRS];
     let all = cross_all(
         plot,
         plot_size,
         &plots,
-        &finer_plots,
         first,
         first_size,
         &firsts,
-        &finer_firsts,
         n,
         store,
         counts,
         &mut joins,
     );
     let size = all.size;
-    if all.orthogonal {
+    if all.apart == 0 {
         return Crossed {
             first: 0,
             second: 0,
             size,
         };
     }
-    let apart = first_apart(
+    let at = all.apart - 1;
+    let places = first_apart(
         plot,
         plot_size,
         &plots,
@@ -408,10 +361,11 @@ pub fn cross(
         &firsts,
         n,
         &joins,
+        at,
     );
     Crossed {
-        first: apart.first,
-        second: apart.second,
+        first: places.first,
+        second: places.second,
         size,
     }
 }

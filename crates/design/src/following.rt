@@ -11,6 +11,7 @@ ghost use Rattle.design.specs.State.{columnIn};
 ghost use Rattle.design.specs.Treatments.{Member};
 ghost use Rattle.design.specs.Crossing.{Below, heldOf, Growing, Join, Joins, Chosen};
 use crate::closing::PAIRS;
+use crate::nesting::Entry;
 use crate::nesting::found_finer;
 use limits::MEMBERS;
 
@@ -79,39 +80,37 @@ fn under(
     found_finer(family, i, f, store, q, counts[q], n)
 }
 
-// The place, from 1, of the supremum of plot member `i` and treatment member `j` where it follows from those of finer plot or of finer
-// treatment members; 0 where it does not. The words have bits for these.
+// The place, from 1, of the supremum of a plot member `f` and a treatment member `g` where it follows from those of finer members; 0
+// where it does not.
 pub fn following(
     plot: &[u8],
-    i: usize,
-    f: u8,
-    finer_plots: u32,
+    f: Entry,
     first: &[u8],
-    j: usize,
-    g: u8,
-    finer_firsts: u32,
+    g: Entry,
     n: usize,
     store: &[u8],
     counts: &[u8; MEMBERS],
     size: usize,
     joins: &[u8; PAIRS],
 ) -> u8
-    requires { ⌜ Growing n (now store) (now counts) size × Joins n (now plot) (now first) (now store) (heldOf size) (now joins) × Member n (now plot) i f × Below n (now plot) «finer_plots» i × Member n (now first) j g × Below n (now first) «finer_firsts» j ⌝ }
-    ensures { λ r. ⌜ ((q : ℕ) → r ≡ suc q → Join n (columnIn n (now (plot .entry)) i) (columnIn n (now (first .entry)) j) (now (store .entry)) (heldOf size) q) ⌝ }
+    requires { ⌜ Growing n (now store) (now counts) size × Joins n (now plot) (now first) (now store) (heldOf size) (now joins) × Member n (now plot) (f .place) (f .count) × Below n (now plot) (f .finer) (f .place) × Member n (now first) (g .place) (g .count) × Below n (now first) (g .finer) (g .place) ⌝ }
+    ensures { λ r. ⌜ ((q : ℕ) → r ≡ suc q → Join n (columnIn n (now (plot .entry)) (f .place)) (columnIn n (now (first .entry)) (g .place)) (now (store .entry)) (heldOf size) q) ⌝ }
 {
-    let p = coarsest(joins, counts, j, MEMBERS, finer_plots, i + 1);
-    let q = coarsest(joins, counts, MEMBERS * i, 1, finer_firsts, j + 1);
+    let i = f.place;
+    let j = g.place;
+    let p = coarsest(joins, counts, j, MEMBERS, f.finer, i + 1);
+    let q = coarsest(joins, counts, MEMBERS * i, 1, g.finer, j + 1);
     if p == q {
         return p;
     }
     let r = fewer(counts, p, q);
     if r == p {
-        if under(plot, i, f, store, counts, r, n) {
+        if under(plot, i, f.count, store, counts, r, n) {
             return r;
         }
         return 0;
     }
-    if under(first, j, g, store, counts, r, n) {
+    if under(first, j, g.count, store, counts, r, n) {
         return r;
     }
     0

@@ -11,6 +11,13 @@ use crate::store::largest;
 use limits::MEMBERS;
 use limits::PLOTS;
 
+// A member of a family: its place, its number of classes, and a word with a bit for each member that is finer.
+pub struct Entry {
+    pub place: usize,
+    pub count: u8,
+    pub finer: u32,
+}
+
 // Numbers of classes by place.
 pub fn class_counts(family: &[u8], n: usize, size: usize) -> [u8; MEMBERS]
     requires { ⌜ (n ≤ 240) × Numbered n (now family) size ⌝ }

@@ -2,7 +2,7 @@
 -- Assumes nothing.
 use mathlib.Core.Path.{_≡_, sym, _∙_}
 use mathlib.Core.Bool.{Bool, true, false}
-use Prim.Native.Nat.{ℕ, _+_, _-_, _≤_}
+use Prim.Native.Nat.{ℕ, _-_, _≤_}
 use native.Mathlib.Omega.{arith}
 use borrow.Author.Tests.{not-true, not-false}
 use denote.Ref.{now}
@@ -13,10 +13,10 @@ use Rattle.design.proofs.apart.apart_row.Statement.{statement}
 use Rattle.design.proofs.apart.apart_row.Tie as tie
 
 abbrev Inv-loop : tie.InvT-loop
-Inv-loop plot i f first first-size firsts n joins j₀ j = (j ≤ first-size) × (crossPartner (orthogonalAt n plot first) first-size i ≡ firstFrom (orthogonalAt n plot first i) j (first-size - j))
+Inv-loop plot i f first first-size firsts n joins apart j₀ j = (j ≤ first-size) × (crossPartner (orthogonalAt n plot first) first-size i ≡ firstFrom (orthogonalAt n plot first i) j (first-size - j))
 
 abbrev μ-loop : tie.MeasureT-loop
-μ-loop plot i f first first-size firsts n joins j₀ j = first-size - j
+μ-loop plot i f first first-size firsts n joins apart j₀ j = first-size - j
 
 -- whether plot member i is orthogonal to treatment member j
 abbrev test : tie.Start Inv-loop μ-loop → ℕ → Bool

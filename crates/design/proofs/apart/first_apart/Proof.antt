@@ -2,7 +2,7 @@
 -- Assumes nothing.
 use mathlib.Core.Path.{_≡_, refl, sym, _∙_}
 use mathlib.Core.Bool.{Bool, false}
-use Prim.Native.Nat.{ℕ, _+_, _-_, _≤_, _<_}
+use Prim.Native.Nat.{ℕ, _-_, _≤_, _<_}
 use native.Mathlib.Omega.{arith}
 use borrow.Author.Tests.{ne-eqb}
 use denote.Ref.{now}
@@ -13,10 +13,10 @@ use Rattle.design.proofs.apart.first_apart.Statement.{statement}
 use Rattle.design.proofs.apart.first_apart.Tie as tie
 
 abbrev Inv-loop : tie.InvT-loop
-Inv-loop plot plot-size plots first first-size firsts n joins i₀ i = (i ≤ plot-size) × (crossFirst (orthogonalAt n plot first) plot-size first-size ≡ firstFrom (crossAlone (orthogonalAt n plot first) first-size) i (plot-size - i))
+Inv-loop plot plot-size plots first first-size firsts n joins apart i₀ i = (i ≤ plot-size) × (crossFirst (orthogonalAt n plot first) plot-size first-size ≡ firstFrom (crossAlone (orthogonalAt n plot first) first-size) i (plot-size - i))
 
 abbrev μ-loop : tie.MeasureT-loop
-μ-loop plot plot-size plots first first-size firsts n joins i₀ i = plot-size - i
+μ-loop plot plot-size plots first first-size firsts n joins apart i₀ i = plot-size - i
 
 -- whether a plot member and a treatment member are orthogonal
 abbrev test : tie.Start Inv-loop μ-loop → ℕ → ℕ → Bool

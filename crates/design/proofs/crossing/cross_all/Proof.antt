@@ -1,19 +1,18 @@
 -- `cross_all` meets its contract: the plot members from `i` on are orthogonal to all treatment members, and their suprema are placed.
 -- Assumes nothing.
 use mathlib.Core.Path.{_≡_, refl, sym, _∙_, subst}
-use mathlib.Core.Bool.{true, false}
-use mathlib.Core.List.{List, [], _++_}
+use mathlib.Core.Bool.{true}
+use mathlib.Core.List.{List, _++_}
 use Prim.Native.Nat.{ℕ, _+_, _-_, _≤_, _<_}
 use native.Mathlib.Omega.{arith}
 use lib.Dec.{eqb}
-use borrow.Author.Tests.{eqb-true, eqb-false, not-true, not-false}
+use borrow.Author.Tests.{eqb-true, eqb-false}
 use denote.Ref.{now}
 use lib.ListN.{drop}
 use Rattle.rules.specs.Factor.{Column}
 use Rattle.rules.specs.Family.{Family, membersOf}
 use Rattle.rules.specs.Closing.{onlySupremum, productsOf, products}
 use Rattle.rules.proofs.Numbering.{by-cases}
-use Rattle.rules.proofs.Members.{clash}
 use Rattle.design.specs.State.{columnIn, Begun}
 use Rattle.design.specs.Treatments.{Placing, begun, orthogonalAt}
 use Rattle.design.specs.Crossing.{heldOf, Growing, Joins}
@@ -23,7 +22,7 @@ use Rattle.design.proofs.crossing.cross_all.Statement.{statement}
 use Rattle.design.proofs.crossing.cross_all.Tie as tie
 
 abbrev Inv-loop : tie.InvT-loop
-Inv-loop plot plot-size plots finer-plots first first-size firsts finer-firsts n store₀ counts₀ joins₀ size₀ i₀ store counts joins size i =
+Inv-loop plot plot-size plots first first-size firsts n store₀ counts₀ joins₀ finer-plots finer-firsts size₀ i₀ store counts joins size i =
     (i ≤ plot-size)
     × Growing n store counts size
     × Joins n plot first store (heldOf size) joins
@@ -31,15 +30,25 @@ Inv-loop plot plot-size plots finer-plots first first-size firsts finer-firsts n
     × Placing n (products onlySupremum (drop i (membersOf n plot plot-size)) (membersOf n first first-size)) store counts size
 
 abbrev μ-loop : tie.MeasureT-loop
-μ-loop plot plot-size plots finer-plots first first-size firsts finer-firsts n store₀ counts₀ joins₀ size₀ i₀ store counts joins size i = i
+μ-loop plot plot-size plots first first-size firsts n store₀ counts₀ joins₀ finer-plots finer-firsts size₀ i₀ store counts joins size i = i
 
 -- the treatment members
 abbrev treatments : tie.Start Inv-loop μ-loop → Family
 treatments start = let s = start .args in membersOf (s .n) (now (s .first)) (s .first-size)
 
+order-words-requires : tie.Need-order-words-requires Inv-loop μ-loop
+order-words-requires c κs =
+    let s = c .before .before .before in
+    (s .pre .0 .held .some, s .pre .0 .held .most, s .pre .2, s .pre .3)
+
+order-words-requires-2 : tie.Need-order-words-requires-2 Inv-loop μ-loop
+order-words-requires-2 c κs =
+    let s = c .before .before .before .before in
+    (s .pre .0 .held .some, s .pre .0 .held .most, s .pre .4, s .pre .5)
+
 loop-holds : tie.Need-loop-holds Inv-loop μ-loop
 loop-holds c =
-    let start = c .before .before .before in
+    let start = c .before .before .before .before .before in
     let s = start .args in
     let held = start .pre .0 .held in (
       omega arith,
@@ -52,37 +61,39 @@ loop-holds c =
 sub-i : tie.Need-sub-i Inv-loop μ-loop
 sub-i c = omega arith
 
-element-copy-out-cross-row : tie.Need-element-copy-out-cross-row Inv-loop μ-loop
-element-copy-out-cross-row c = omega arith
+element-copy-out-t21 : tie.Need-element-copy-out-t21 Inv-loop μ-loop
+element-copy-out-t21 c = omega arith
 
-mul-cross-row : tie.Need-mul-cross-row Inv-loop μ-loop
-mul-cross-row c = omega arith
+mul-t22 : tie.Need-mul-t22 Inv-loop μ-loop
+mul-t22 c = omega arith
 
-element-copy-out-cross-row-2 : tie.Need-element-copy-out-cross-row-2 Inv-loop μ-loop
-element-copy-out-cross-row-2 c = omega arith
+array-read-t25 : tie.Need-array-read-t25 Inv-loop μ-loop
+array-read-t25 c = omega arith
 
 cross-row-requires : tie.Need-cross-row-requires Inv-loop μ-loop
 cross-row-requires c κs =
     let b = c .before .before .before .before .before .before in
-    let start = b .before .before .before .before in
+    let start = b .before .before .before .before .before .before in
     let i = b .loop .i - 1 in
-    (b .loop .inv .1, b .loop .inv .2, start .pre .3 i (omega arith), start .pre .4 i, start .pre .5, start .pre .6, start .pre .7)
+    (b .loop .inv .1, b .loop .inv .2, start .pre .3 i (omega arith), b .before .before .order-words .ensures i, start .pre .4, start .pre .5, b .before .order-words2 .ensures)
 
 same-length : tie.Need-same-length Inv-loop μ-loop
 same-length c =
     let q = c .before .before .before .before in
-    let start = q .before .before .before .before .before .before .before .before .before .before .before in
+    let start = q .before .before .before .before .before .before .before .before .before .before .before .before .before in
     q .cross-row .ensures .1 .1 .0 .0 .held .room ∙ sym (start .pre .0 .held .room)
 
 returns : tie.Need-returns Inv-loop μ-loop
 returns c =
     let q = c .before .before .before .before in
-    let b = q .before .before .before .before .before .before .before in
-    let kept = q .cross-row .ensures .1 .1 .0 in (
-      λ e. clash e refl,
+    let t = q .before .before .before .before .before .before in
+    let b = t .before in
+    let kept = q .cross-row .ensures .1 .1 .0 in
+    let w = q .cross-row .ensures .1 .0 (c .if1 .taken) in (
+      λ z. absurd (c .if1 .taken z),
       (
-        λ _ h. q .cross-row .ensures .1 .0 (not-true _ (c .if1 .taken)) (λ j k. h (b .loop .i - 1) j (omega arith) k),
-        ((kept .0 .held .room, kept .1), λ e. clash e refl),
+        λ _. (omega (arith, w .0, t .loop-test .taken, b .loop .inv .0), w .1),
+        ((kept .0 .held .room, kept .1), λ z. absurd (c .if1 .taken z)),
       ),
     )
 
@@ -92,16 +103,17 @@ loop-less c = omega arith
 loop-again : tie.Need-loop-again Inv-loop μ-loop
 loop-again c =
     let q = c .before .before .before .before in
-    let b = q .before .before .before .before .before .before .before in
-    let start = b .before .before .before .before in
+    let t = q .before .before .before .before .before .before in
+    let b = t .before in
+    let start = b .before .before .before .before .before .before in
     let s = start .args in
-    let F = columnIn (s .n) (now (s .plot)) (b .loop .i - 1) in
-    let P = membersOf (s .n) (now (s .plot)) (s .plot-size) in
     let i = b .loop .i - 1 in
-    let next : b .loop .i ≡ i + 1 = omega (arith, q .before .before .before .before .before .before .loop-test .taken) in
-    let o = not-false _ (c .if1 .left) in
-    let store = q .cross-row .last .1 .1 .1 .1 .1 .1 .1 .1 .1 .0 in
-    let counts = q .cross-row .last .1 .1 .1 .1 .1 .1 .1 .1 .1 .1 .0 in (
+    let F = columnIn (s .n) (now (s .plot)) i in
+    let P = membersOf (s .n) (now (s .plot)) (s .plot-size) in
+    let next : b .loop .i ≡ i + 1 = omega (arith, t .loop-test .taken) in
+    let o = c .if1 .left in
+    let store = q .cross-row .last .1 .1 .1 .1 .1 .1 .1 .0 in
+    let counts = q .cross-row .last .1 .1 .1 .1 .1 .1 .1 .1 .0 in (
       omega arith,
       q .cross-row .ensures .1 .1 .0 .0,
       q .cross-row .ensures .1 .1 .0 .1,
@@ -112,18 +124,18 @@ loop-again c =
     )
 
 same-length-2 : tie.Need-same-length-2 Inv-loop μ-loop
-same-length-2 c = c .before .loop .inv .1 .held .room ∙ sym (c .before .before .before .before .before .pre .0 .held .room)
+same-length-2 c = c .before .loop .inv .1 .held .room ∙ sym (c .before .before .before .before .before .before .before .pre .0 .held .room)
 
 returns-2 : tie.Need-returns-2 Inv-loop μ-loop
 returns-2 c =
     let b = c .before in
-    let start = b .before .before .before .before in
+    let start = b .before .before .before .before .before .before in
     let s = start .args in
     let P = membersOf (s .n) (now (s .plot)) (s .plot-size) in
     let e : b .loop .i ≡ 0 = omega arith in (
       λ _ a k l m. b .loop .inv .3 a k (omega arith) l m,
       (
-        λ z. clash refl z,
+        λ z. absurd (z refl),
         (
           (b .loop .inv .1 .held .room, b .loop .inv .2),
           λ _. subst (λ (x : ℕ). Placing (s .n) (products onlySupremum (drop x P) (treatments start)) (b .loop .store) (b .loop .counts) (b .loop .size)) e (b .loop .inv .4),
@@ -137,11 +149,13 @@ cross-all-spec =
     (tie.spec
     Inv-loop
     μ-loop
+    order-words-requires
+    order-words-requires-2
     loop-holds
     sub-i
-    element-copy-out-cross-row
-    mul-cross-row
-    element-copy-out-cross-row-2
+    element-copy-out-t21
+    mul-t22
+    array-read-t25
     cross-row-requires
     same-length
     returns

@@ -1,7 +1,7 @@
 -- `cross_pair` meets its contract: the coarser of two nested members, or as `meet_pair` has it.
 -- Assumes nothing.
-use mathlib.Core.Path.{_≡_, sym, _∙_, subst}
-use mathlib.Core.List.{List, [], _∷_, _++_}
+use mathlib.Core.Path.{sym, _∙_, subst}
+use mathlib.Core.List.{[], _∷_, _++_}
 use Prim.Native.Nat.{_+_, _*_}
 use denote.Ref.{now}
 use Rattle.rules.specs.Factor.{Column}
@@ -32,16 +32,16 @@ returns : tie.Need-returns
 returns c = let q = c .before .before in
     let t = q .before .before .before .before in
     let k = t .before in
-    let s = k .before .before .before .before in
+    let s = k .before .before .before .before .before .before in
     let a = s .args in
     let small = s .pre .0 .held .most in
-    let w = treatment-coarser (a .n) (a .i) (a .j) (a .f) (a .g) (now (a .plot)) (now (a .first)) (s .pre .0 .held .some) small (s .pre .2) (s .pre .4) (sym (k .known-finer .ensures) ∙ t .if1 .taken) in
+    let w = treatment-coarser (a .n) (a .f .place) (a .g .place) (a .f .count) (a .g .count) (now (a .plot)) (now (a .first)) (s .pre .0 .held .some) small (s .pre .2) (s .pre .4) (sym (k .known-finer .ensures) ∙ t .if1 .taken) in
     let e = q .add-member .ensures in
     let store = q .add-member .last .1 .1 .1 .1 .0 in
     let r = q .add-member .result in (
       w .0,
       (
-        (e .0 .growing, joins-entered (a .i) (a .j) (s .pre .2 .place) (s .pre .4 .place) (e .0) (subst (λ (H : Column). Entered (a .n) H store (heldOf r) (now (a .joins)) (32 * a .i + a .j) (q .add-member .last .1 .1 .1 .1 .1 .1 .1 .0)) (w .1) (e .1 .0)) (sym (w .0)) (s .pre .1)),
+        (e .0 .growing, joins-entered (a .f .place) (a .g .place) (s .pre .2 .place) (s .pre .4 .place) (e .0) (subst (λ (H : Column). Entered (a .n) H store (heldOf r) (now (a .joins)) (32 * a .f .place + a .g .place) (q .add-member .last .1 .1 .1 .1 .1 .1 .1 .0)) (w .1) (e .1 .0)) (sym (w .0)) (s .pre .1)),
         λ _ As p. subst (λ (H : Column). Placing (a .n) (As ++ H ∷ []) store (q .add-member .last .1 .1 .1 .1 .1 .0) r) (w .1) (e .1 .1 As p),
       ),
     )
@@ -59,16 +59,16 @@ returns-2 : tie.Need-returns-2
 returns-2 c = let q = c .before .before in
     let t = q .before .before .before .before in
     let k = t .before in
-    let s = k .before .before .before .before .before .before in
+    let s = k .before .before .before .before .before .before .before .before in
     let a = s .args in
     let small = s .pre .0 .held .most in
-    let w = plot-coarser (a .n) (a .i) (a .j) (a .f) (a .g) (now (a .plot)) (now (a .first)) (s .pre .0 .held .some) small (s .pre .2) (s .pre .4) (sym (k .known-finer2 .ensures) ∙ t .if2 .taken) in
+    let w = plot-coarser (a .n) (a .f .place) (a .g .place) (a .f .count) (a .g .count) (now (a .plot)) (now (a .first)) (s .pre .0 .held .some) small (s .pre .2) (s .pre .4) (sym (k .known-finer2 .ensures) ∙ t .if2 .taken) in
     let e = q .add-member2 .ensures in
     let store = q .add-member2 .last .1 .1 .1 .1 .0 in
     let r = q .add-member2 .result in (
       w .0,
       (
-        (e .0 .growing, joins-entered (a .i) (a .j) (s .pre .2 .place) (s .pre .4 .place) (e .0) (subst (λ (H : Column). Entered (a .n) H store (heldOf r) (now (a .joins)) (32 * a .i + a .j) (q .add-member2 .last .1 .1 .1 .1 .1 .1 .1 .0)) (w .1) (e .1 .0)) (sym (w .0)) (s .pre .1)),
+        (e .0 .growing, joins-entered (a .f .place) (a .g .place) (s .pre .2 .place) (s .pre .4 .place) (e .0) (subst (λ (H : Column). Entered (a .n) H store (heldOf r) (now (a .joins)) (32 * a .f .place + a .g .place) (q .add-member2 .last .1 .1 .1 .1 .1 .1 .1 .0)) (w .1) (e .1 .0)) (sym (w .0)) (s .pre .1)),
         λ _ As p. subst (λ (H : Column). Placing (a .n) (As ++ H ∷ []) store (q .add-member2 .last .1 .1 .1 .1 .1 .0) r) (w .1) (e .1 .1 As p),
       ),
     )

@@ -1,7 +1,6 @@
 -- `meet_pair` meets its contract: the supremum that follows is in the store.
 -- Assumes nothing.
-use mathlib.Core.Path.{_≡_, refl, sym, _∙_, subst}
-use mathlib.Core.List.{List}
+use mathlib.Core.Path.{_≡_, sym, subst}
 use Prim.Native.Nat.{ℕ, suc, _+_, _*_, _-_}
 use native.Mathlib.Omega.{arith}
 use denote.Ref.{now}
@@ -46,12 +45,12 @@ returns-2 c = let f = c .before in
     let e : told ≡ suc (told - 1) = omega arith in
     let w = f .following .ensures (told - 1) e in
     let small = s .pre .0 .held .most in
-    let F = columnIn (a .n) (now (a .plot)) (a .i) in
-    let G = columnIn (a .n) (now (a .first)) (a .j) in
-    let numbered = number-made (a .n) (a .i) (a .j) (now (a .plot)) (now (a .first)) small (member-in-buffer (a .n) (a .i) (a .f) (now (a .plot)) small (s .pre .2)) (member-in-buffer (a .n) (a .j) (a .g) (now (a .first)) small (s .pre .4)) in (
+    let F = columnIn (a .n) (now (a .plot)) (a .f .place) in
+    let G = columnIn (a .n) (now (a .first)) (a .g .place) in
+    let numbered = number-made (a .n) (a .f .place) (a .g .place) (now (a .plot)) (now (a .first)) small (member-in-buffer (a .n) (a .f .place) (a .f .count) (now (a .plot)) small (s .pre .2)) (member-in-buffer (a .n) (a .g .place) (a .g .count) (now (a .first)) small (s .pre .4)) in (
       sym (w .test),
       (
-        (s .pre .0, subst (λ (x : ℕ). Joins (a .n) (now (a .plot)) (now (a .first)) (now (a .store)) (heldOf (a .size)) (set (now (a .joins)) (32 * a .i + a .j) x)) (sym e) (joins-more (a .i) (a .j) (told - 1) (s .pre .2 .place) (s .pre .4 .place) w (s .pre .1))),
+        (s .pre .0, subst (λ (x : ℕ). Joins (a .n) (now (a .plot)) (now (a .first)) (now (a .store)) (heldOf (a .size)) (set (now (a .joins)) (32 * a .f .place + a .g .place) x)) (sym e) (joins-more (a .f .place) (a .g .place) (told - 1) (s .pre .2 .place) (s .pre .4 .place) w (s .pre .1))),
         λ _. joined-adds (a .n) (now (a .store)) (now (a .counts)) (a .size) (s .pre .0) F G (told - 1) numbered w,
       ),
     )

@@ -1,8 +1,8 @@
 -- `following` meets its contract: the supremum of a finer member that is finer than it is the pair's own.
 -- Assumes nothing.
 use mathlib.Core.Path.{_≡_, refl, sym, _∙_}
-use mathlib.Core.Logic.{_⊎_, inl, inr, ⊎-elim}
-use Prim.Native.Nat.{ℕ, suc, _+_, _*_, _≤_, _<_}
+use mathlib.Core.Logic.{_⊎_, ⊎-elim}
+use Prim.Native.Nat.{ℕ, suc, _≤_, _<_}
 use native.Mathlib.Omega.{arith}
 use denote.Ref.{now}
 use lib.ListN.{getD}
@@ -20,46 +20,46 @@ start w = w .before .before .before .before .before
 
 -- the supremum of the two members stands at place q
 abbrev Joined : tie.After-coarsest2 → ℕ → Type 0
-Joined w q = let a = start w .args in Join (a .n) (columnIn (a .n) (now (a .plot)) (a .i)) (columnIn (a .n) (now (a .first)) (a .j)) (now (a .store)) (heldOf (a .size)) q
+Joined w q = let a = start w .args in Join (a .n) (columnIn (a .n) (now (a .plot)) (a .f .place)) (columnIn (a .n) (now (a .first)) (a .g .place)) (now (a .store)) (heldOf (a .size)) q
 
 -- one of the two is finer than the member there
 abbrev PlotUnder : tie.After-coarsest2 → ℕ → Type 0
-PlotUnder w q = let a = start w .args in Finer (a .n) (columnIn (a .n) (now (a .plot)) (a .i)) (columnIn (a .n) (now (a .store)) q)
+PlotUnder w q = let a = start w .args in Finer (a .n) (columnIn (a .n) (now (a .plot)) (a .f .place)) (columnIn (a .n) (now (a .store)) q)
 
 abbrev FirstUnder : tie.After-coarsest2 → ℕ → Type 0
-FirstUnder w q = let a = start w .args in Finer (a .n) (columnIn (a .n) (now (a .first)) (a .j)) (columnIn (a .n) (now (a .store)) q)
+FirstUnder w q = let a = start w .args in Finer (a .n) (columnIn (a .n) (now (a .first)) (a .g .place)) (columnIn (a .n) (now (a .store)) q)
 
 module _ (w : tie.After-coarsest2) where
   most-plots : w .before .coarsest .result ≤ 32
   most-plots = let s = start w in let a = s .args in
-      plot-most (a .n) (now (a .plot)) (now (a .first)) (now (a .store)) (now (a .counts)) (a .size) (now (a .joins)) (s .pre .0 .held .most) (s .pre .2 .room) (s .pre .4 .room) (s .pre .0) (s .pre .1) (a .i) (a .j) (a .finer-plots) (s .pre .2 .place) (s .pre .4 .place) (s .pre .3) (w .before .coarsest .result) (w .before .coarsest .ensures)
+      plot-most (a .n) (now (a .plot)) (now (a .first)) (now (a .store)) (now (a .counts)) (a .size) (now (a .joins)) (s .pre .0 .held .most) (s .pre .2 .room) (s .pre .4 .room) (s .pre .0) (s .pre .1) (a .f .place) (a .g .place) (a .f .finer) (s .pre .2 .place) (s .pre .4 .place) (s .pre .3) (w .before .coarsest .result) (w .before .coarsest .ensures)
 
   most-firsts : w .coarsest2 .result ≤ 32
   most-firsts = let s = start w in let a = s .args in
-      first-most (a .n) (now (a .plot)) (now (a .first)) (now (a .store)) (now (a .counts)) (a .size) (now (a .joins)) (s .pre .0 .held .most) (s .pre .2 .room) (s .pre .4 .room) (s .pre .0) (s .pre .1) (a .i) (a .j) (a .finer-firsts) (s .pre .2 .place) (s .pre .4 .place) (s .pre .5) (w .coarsest2 .result) (w .coarsest2 .ensures)
+      first-most (a .n) (now (a .plot)) (now (a .first)) (now (a .store)) (now (a .counts)) (a .size) (now (a .joins)) (s .pre .0 .held .most) (s .pre .2 .room) (s .pre .4 .room) (s .pre .0) (s .pre .1) (a .f .place) (a .g .place) (a .g .finer) (s .pre .2 .place) (s .pre .4 .place) (s .pre .5) (w .coarsest2 .result) (w .coarsest2 .ensures)
 
   module _ (r q : ℕ) where
     -- the cell of a finer plot member
     by-plots : r ≡ w .before .coarsest .result → r ≡ suc q → PlotUnder w q → Joined w q
     by-plots h e f = let s = start w in let a = s .args in
-        plot-follows (a .n) (now (a .plot)) (now (a .first)) (now (a .store)) (now (a .counts)) (a .size) (now (a .joins)) (s .pre .0 .held .most) (s .pre .2 .room) (s .pre .4 .room) (s .pre .0) (s .pre .1) (a .i) (a .j) (a .finer-plots) (s .pre .2 .place) (s .pre .4 .place) (s .pre .3) (w .before .coarsest .result) (w .before .coarsest .ensures) q (sym h ∙ e) f
+        plot-follows (a .n) (now (a .plot)) (now (a .first)) (now (a .store)) (now (a .counts)) (a .size) (now (a .joins)) (s .pre .0 .held .most) (s .pre .2 .room) (s .pre .4 .room) (s .pre .0) (s .pre .1) (a .f .place) (a .g .place) (a .f .finer) (s .pre .2 .place) (s .pre .4 .place) (s .pre .3) (w .before .coarsest .result) (w .before .coarsest .ensures) q (sym h ∙ e) f
 
     -- the cell of a finer treatment member
     by-firsts : r ≡ w .coarsest2 .result → r ≡ suc q → FirstUnder w q → Joined w q
     by-firsts h e f = let s = start w in let a = s .args in
-        first-follows (a .n) (now (a .plot)) (now (a .first)) (now (a .store)) (now (a .counts)) (a .size) (now (a .joins)) (s .pre .0 .held .most) (s .pre .2 .room) (s .pre .4 .room) (s .pre .0) (s .pre .1) (a .i) (a .j) (a .finer-firsts) (s .pre .2 .place) (s .pre .4 .place) (s .pre .5) (w .coarsest2 .result) (w .coarsest2 .ensures) q (sym h ∙ e) f
+        first-follows (a .n) (now (a .plot)) (now (a .first)) (now (a .store)) (now (a .counts)) (a .size) (now (a .joins)) (s .pre .0 .held .most) (s .pre .2 .room) (s .pre .4 .room) (s .pre .0) (s .pre .1) (a .f .place) (a .g .place) (a .g .finer) (s .pre .2 .place) (s .pre .4 .place) (s .pre .5) (w .coarsest2 .result) (w .coarsest2 .ensures) q (sym h ∙ e) f
 
     -- which the plot member is finer than
     by-above : r ≡ w .coarsest2 .result → r ≡ suc q → PlotUnder w q
     by-above h e = let s = start w in let a = s .args in
-        first-above (a .n) (now (a .plot)) (now (a .first)) (now (a .store)) (now (a .counts)) (a .size) (now (a .joins)) (s .pre .0 .held .most) (s .pre .2 .room) (s .pre .4 .room) (s .pre .0) (s .pre .1) (a .i) (a .j) (a .finer-firsts) (s .pre .2 .place) (s .pre .4 .place) (s .pre .5) (w .coarsest2 .result) (w .coarsest2 .ensures) q (sym h ∙ e)
+        first-above (a .n) (now (a .plot)) (now (a .first)) (now (a .store)) (now (a .counts)) (a .size) (now (a .joins)) (s .pre .0 .held .most) (s .pre .2 .room) (s .pre .4 .room) (s .pre .0) (s .pre .1) (a .f .place) (a .g .place) (a .g .finer) (s .pre .2 .place) (s .pre .4 .place) (s .pre .5) (w .coarsest2 .result) (w .coarsest2 .ensures) q (sym h ∙ e)
 
     -- whose number of classes is known in either case
     either : (r ≡ w .before .coarsest .result) ⊎ (r ≡ w .coarsest2 .result) → r ≡ suc q → let a = start w .args in (q < 32) × (getD (now (a .counts)) q 0 ≡ classes (columnIn (a .n) (now (a .store)) q))
     either c e = let s = start w in let a = s .args in
         ⊎-elim
-        (λ h. plot-counted (a .n) (now (a .plot)) (now (a .first)) (now (a .store)) (now (a .counts)) (a .size) (now (a .joins)) (s .pre .0 .held .most) (s .pre .2 .room) (s .pre .4 .room) (s .pre .0) (s .pre .1) (a .i) (a .j) (a .finer-plots) (s .pre .2 .place) (s .pre .4 .place) (s .pre .3) (w .before .coarsest .result) (w .before .coarsest .ensures) q (sym h ∙ e))
-        (λ h. first-counted (a .n) (now (a .plot)) (now (a .first)) (now (a .store)) (now (a .counts)) (a .size) (now (a .joins)) (s .pre .0 .held .most) (s .pre .2 .room) (s .pre .4 .room) (s .pre .0) (s .pre .1) (a .i) (a .j) (a .finer-firsts) (s .pre .2 .place) (s .pre .4 .place) (s .pre .5) (w .coarsest2 .result) (w .coarsest2 .ensures) q (sym h ∙ e))
+        (λ h. plot-counted (a .n) (now (a .plot)) (now (a .first)) (now (a .store)) (now (a .counts)) (a .size) (now (a .joins)) (s .pre .0 .held .most) (s .pre .2 .room) (s .pre .4 .room) (s .pre .0) (s .pre .1) (a .f .place) (a .g .place) (a .f .finer) (s .pre .2 .place) (s .pre .4 .place) (s .pre .3) (w .before .coarsest .result) (w .before .coarsest .ensures) q (sym h ∙ e))
+        (λ h. first-counted (a .n) (now (a .plot)) (now (a .first)) (now (a .store)) (now (a .counts)) (a .size) (now (a .joins)) (s .pre .0 .held .most) (s .pre .2 .room) (s .pre .4 .room) (s .pre .0) (s .pre .1) (a .f .place) (a .g .place) (a .g .finer) (s .pre .2 .place) (s .pre .4 .place) (s .pre .5) (w .coarsest2 .result) (w .coarsest2 .ensures) q (sym h ∙ e))
         c
 
 add-coarsest : tie.Need-add-coarsest
@@ -68,7 +68,7 @@ add-coarsest c = search needs
 coarsest-requires : tie.Need-coarsest-requires
 coarsest-requires c κs = let s = c .before .before .before in
     let a = s .args in
-    (omega (arith, s .pre .4 .place), omega arith, plot-cells (a .n) (now (a .plot)) (now (a .first)) (now (a .store)) (now (a .counts)) (a .size) (now (a .joins)) (s .pre .0 .held .most) (s .pre .2 .room) (s .pre .4 .room) (s .pre .0) (s .pre .1) (a .i) (a .j) (a .finer-plots) (s .pre .2 .place) (s .pre .4 .place) (s .pre .3))
+    (omega (arith, s .pre .4 .place), omega arith, plot-cells (a .n) (now (a .plot)) (now (a .first)) (now (a .store)) (now (a .counts)) (a .size) (now (a .joins)) (s .pre .0 .held .most) (s .pre .2 .room) (s .pre .4 .room) (s .pre .0) (s .pre .1) (a .f .place) (a .g .place) (a .f .finer) (s .pre .2 .place) (s .pre .4 .place) (s .pre .3))
 
 mul-coarsest : tie.Need-mul-coarsest
 mul-coarsest c = search needs
@@ -79,7 +79,7 @@ add-coarsest-2 c = search needs
 coarsest-requires-2 : tie.Need-coarsest-requires-2
 coarsest-requires-2 c κs = let s = c .before .before .before .before in
     let a = s .args in
-    (omega (arith, s .pre .2 .place), omega arith, first-cells (a .n) (now (a .plot)) (now (a .first)) (now (a .store)) (now (a .counts)) (a .size) (now (a .joins)) (s .pre .0 .held .most) (s .pre .2 .room) (s .pre .4 .room) (s .pre .0) (s .pre .1) (a .i) (a .j) (a .finer-firsts) (s .pre .2 .place) (s .pre .4 .place) (s .pre .5))
+    (omega (arith, s .pre .2 .place), omega arith, first-cells (a .n) (now (a .plot)) (now (a .first)) (now (a .store)) (now (a .counts)) (a .size) (now (a .joins)) (s .pre .0 .held .most) (s .pre .2 .room) (s .pre .4 .room) (s .pre .0) (s .pre .1) (a .f .place) (a .g .place) (a .g .finer) (s .pre .2 .place) (s .pre .4 .place) (s .pre .5))
 
 returns : tie.Need-returns
 returns c = λ q e. by-plots (c .before) _ q refl e (by-above (c .before) _ q (c .if1 .taken) e)

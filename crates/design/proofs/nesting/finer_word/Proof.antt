@@ -1,7 +1,6 @@
 -- `finer_word` meets its contract: each bit so far is the place of a finer member.
 -- Assumes nothing.
-use mathlib.Core.Path.{_≡_}
-use Prim.Native.Nat.{ℕ, _+_, _-_, _≤_, _<_}
+use Prim.Native.Nat.{_+_, _-_, _≤_}
 use native.Mathlib.Omega.{arith}
 use denote.Ref.{now}
 use Rattle.design.specs.Crossing.{Below}

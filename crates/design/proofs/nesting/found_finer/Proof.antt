@@ -1,6 +1,6 @@
 -- `found_finer` meets its contract: numbers of classes tell it, or a walk.
 -- Assumes nothing.
-use mathlib.Core.Path.{_≡_, refl, sym, _∙_}
+use mathlib.Core.Path.{refl, sym, _∙_}
 use native.Mathlib.Omega.{arith}
 use denote.Ref.{now}
 use Rattle.rules.proofs.Members.{clash}

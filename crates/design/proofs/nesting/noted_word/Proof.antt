@@ -1,6 +1,5 @@
 -- `noted_word` meets its contract: a bit more is that of a member found to be finer.
 -- Assumes nothing.
-use mathlib.Core.Path.{_≡_}
 use denote.Ref.{now}
 use lib.ListN.{getD}
 use Rattle.rules.proofs.Classes.{finer-test}
