@@ -11,10 +11,9 @@ use lib.Dec.{ltb}
 use lib.ListN.{length, getD, drop, set}
 use lib.Seq.{drop-drop}
 use borrow.Author.Tests.{ltb-true}
-use Rattle.rules.specs.Sheet.{Field, Line, upTo, has, fields, lines, all, isLevel, decimal, withPlot, withPlots, isPlotLine}
+use Rattle.rules.specs.Sheet.{Field, Line, upTo, has, fields, lines, all, decimal, withPlot, withPlots, isPlotLine}
 use Rattle.rules.proofs.Sheet.{and-left, and-right}
 use Rattle.rules.proofs.Members.{clash}
-use Rattle.rules.proofs.Numbering.{by-cases}
 use Rattle.sheet.specs.Walk.{fieldOf, levelThere, rowThere, isPlace}
 use Rattle.sheet.proofs.Stops.{AtTab, AtNewline, Stop, at-tab, at-newline, at-end, stop}
 use Rattle.sheet.proofs.RowLaws.{row-turn, row-last, not-there, lines-turn, lines-none}

@@ -4,7 +4,6 @@ use mathlib.Core.Path.{sym, _∙_}
 use native.Mathlib.Omega.{arith}
 use borrow.Author.Needs.{needs}
 use denote.Ref.{now}
-use Rattle.rules.specs.Sheet.{levelsAfter}
 use Rattle.rules.proofs.Sheet.{refused-1, too-short, too-long, text-fits}
 use borrow.Author.Needs.{needs}
 use Rattle.sheet.proofs.read_own.Statement.{statement}

@@ -1,7 +1,7 @@
 -- `sheet::rows::store` meets its contract. The loop's invariant: the lines from `at` on, after those counted, give the whole answer, and
 -- where all have the form, these lines, stored from plot `count` on, complete the work.
 -- Assumes nothing.
-use Prim.Native.Nat.{ℕ, suc, _+_, _-_, _≤_}
+use Prim.Native.Nat.{suc, _+_, _-_, _≤_}
 use mathlib.Core.Path.{_≡_, refl, sym, _∙_}
 use mathlib.Core.Bool.{true}
 use native.Mathlib.Omega.{arith}
@@ -11,7 +11,6 @@ use denote.Ref.{now}
 use lib.ListN.{length, take, drop}
 use Rattle.rules.specs.Sheet.{upTo, lines, all, isPlotLine, withPlots}
 use Rattle.rules.proofs.Members.{clash}
-use Rattle.sheet.specs.Walk.{rowEnd, rowThere}
 use Rattle.sheet.specs.Answers.{judged}
 use Rattle.sheet.proofs.RowLaws.{judge-end, judge-off, judge-on, row-end-none, row-end-some, row-end-is}
 use Rattle.sheet.proofs.StoreLaws.{More, more-none, more-plot, more-form, more-turn}
