@@ -1,7 +1,7 @@
 -- Laws of the names of all members: U and E, the bytes of each name, and numbered columns.
 -- Assumes nothing.
 use mathlib.Core.Path.{_≡_, refl, sym, ap, ap₂, _∙_}
-use mathlib.Core.Bool.{Bool, true, false, _&&_}
+use mathlib.Core.Bool.{Bool, true, _&&_}
 use mathlib.Core.Logic.{_⊎_, inl, inr, ⊎-elim}
 use mathlib.Core.List.{List, [], _∷_, _++_, map, append-assoc}
 use Prim.Native.Nat.{ℕ, zero, suc, _+_, _-_, _*_, _≤_, _<_, min}
@@ -9,7 +9,7 @@ use native.Mathlib.Nat.{not-suc-le-zero}
 use native.Mathlib.Numerals.{add-one}
 use native.Mathlib.Omega.{arith}
 use lib.Dec.{eqb, ltb, leb}
-use lib.ListN.{length, getD, take, drop, set, take-append-drop}
+use lib.ListN.{length, take, drop, set, take-append-drop}
 use lib.Seq.{take-all, length-take-le}
 use borrow.Author.Tests.{eqb-true, eqb-false, eq-eqb, ne-eqb, leb-true, leb-false}
 use borrow.Rule.Slice.PartMut.{midOf, putMid}
@@ -17,7 +17,7 @@ use Rattle.rules.specs.Factor.{Column, number, classes}
 use Rattle.rules.specs.Design.{plotsWithin}
 use Rattle.rules.specs.Family.{columnsFrom}
 use Rattle.rules.specs.Naming.{Kind as Rule, markOf, firstColumn, kindColumns, nameOn}
-use Rattle.rules.specs.Sheet.{columnNames, countKind, header, question3}
+use Rattle.rules.specs.Sheet.{columnNames, countKind, header}
 use Rattle.rules.specs.Names.{equivalentColumn, nameByColumn, nameOf, bytesOf}
 use Rattle.rules.proofs.Numbering.{by-cases}
 use Rattle.rules.proofs.Sheet.{and-left, and-right}
@@ -27,7 +27,7 @@ use Rattle.decimal.proofs.Writing.{written-nil, place-nil, place-all}
 use Rattle.naming.specs.Answers.{startingWith}
 use Rattle.naming.specs.Members.{namesWritten, lengthsWritten, membersFit, memberName, nameBy, countedName, extremeName}
 use Rattle.naming.proofs.Numbered.{On, by-column-numbered}
-use Rattle.naming.proofs.Rules.{one-class, all-classes, between, name-short}
+use Rattle.naming.proofs.Rules.{one-class, all-classes, between}
 
 -- ---- U and E
 
@@ -128,11 +128,6 @@ module _ (out W : List ℕ) where
       (λ e. let h = leb-false (length W) (length out) e in
       let l : length (take (length out) W) ≡ length out = length-take-le (length out) W (omega arith) in
       omega arith)
-
--- a name has at most 96 bytes
-pub name-by-short : (names : List (List ℕ)) (Cs : List Column) (n : ℕ) (buffer : List ℕ) (i : ℕ) → ((c : ℕ) → length (getD names c []) ≤ 12) → length Cs ≤ 6 → i < 32 → length (nameBy names Cs n buffer i) ≤ 96
-unfolding nameBy
-name-by-short names Cs n buffer i short few h = name-short names short n Cs (suc i) (columnAt n buffer i) few (omega arith)
 
 -- ---- names side by side
 

@@ -1,7 +1,6 @@
 -- `name_members` meets its contract: what does not fit is not named.
 -- Assumes nothing.
 use mathlib.Core.Path.{_≡_, sym, ap, _∙_}
-use mathlib.Core.Bool.{true, false}
 use Prim.Native.Nat.{ℕ}
 use native.Mathlib.Omega.{arith}
 use denote.Ref.{now}
@@ -9,9 +8,9 @@ use lib.ListN.{length, take}
 use borrow.Author.Tests.{not-true, not-false}
 use Rattle.rules.specs.Family.{columnsFrom}
 use Rattle.rules.specs.Sheet.{columnNames, header}
-use Rattle.rules.specs.Naming.{markOf, firstColumn}
+use Rattle.rules.specs.Naming.{firstColumn}
 use Rattle.naming.specs.Answers.{kindOf}
-use Rattle.naming.specs.Members.{nameBy, countedName, held, membersFit}
+use Rattle.naming.specs.Members.{nameBy, countedName, held}
 use Rattle.naming.proofs.Entry.{first-column}
 use Rattle.naming.proofs.Members.{names-ext, lengths-ext, counted-by, family-fits}
 use borrow.Author.Needs.{needs}

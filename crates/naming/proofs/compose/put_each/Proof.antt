@@ -12,7 +12,6 @@ use Rattle.rules.specs.Factor.{Column}
 use Rattle.rules.specs.Family.{membersOf}
 use Rattle.rules.specs.Sheet.{columnNames, header}
 use Rattle.rules.specs.Names.{nameOf, bytesOf}
-use Rattle.rules.proofs.Buffer.{length-members}
 use Rattle.families.proofs.Lent.{part-of}
 use Rattle.decimal.specs.Writing.{written, placeAfter}
 use Rattle.decimal.proofs.Writing.{written-all, place-all, length-written}

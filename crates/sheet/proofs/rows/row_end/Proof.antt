@@ -1,12 +1,10 @@
 -- `sheet::rows::row_end` meets its contract. The loop's invariant: the line ends where the rest of it does.
 -- Assumes nothing.
 use Prim.Native.Nat.{ℕ, suc, _+_, _-_, _≤_}
-use mathlib.Core.Path.{_≡_, sym, ap, _∙_}
-use mathlib.Core.Bool.{true, _||_}
+use mathlib.Core.Path.{_≡_, ap, _∙_}
 use native.Mathlib.Omega.{arith}
 use native.Mathlib.Nat.{sub-zero}
 use denote.Ref.{now}
-use lib.Dec.{eqb}
 use lib.ListN.{drop}
 use Rattle.sheet.specs.Walk.{stopBefore, rowEnd, levelEnd}
 use Rattle.sheet.proofs.LevelLaws.{then-end}

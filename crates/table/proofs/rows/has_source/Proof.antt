@@ -1,14 +1,10 @@
 -- `has_source`: the places before are others.
 -- Assumes nothing.
-use mathlib.Core.Path.{_≡_, refl, sym, ap, _∙_, subst}
-use mathlib.Core.List.{List, [], _∷_, _++_}
-use Prim.Native.Nat.{ℕ, _+_, _-_, _*_, _<_, _≤_}
+use mathlib.Core.Path.{_≡_, sym}
+use Prim.Native.Nat.{_-_, _≤_}
 use native.Mathlib.Omega.{arith}
 use denote.Ref.{now}
-use lib.IntN.{ℤ, pos}
-use lib.ListN.{length, getD, take, drop}
-use Rattle.rules.specs.Table.{rowBytes, rowsBytes, signed}
-use Rattle.decimal.proofs.Writing.{wrote-nil, wrote-as, wrote-then}
+use lib.ListN.{take}
 use mathlib.Core.Bool.{false}
 use Rattle.table.specs.Names.{among}
 use Rattle.table.proofs.RowLaws.{among-none, among-yes, among-more}

@@ -1,19 +1,18 @@
 -- `put_sources`: what is still to be written is the rest of the whole.
 -- Assumes nothing.
-use mathlib.Core.Path.{_≡_, refl, sym, ap, _∙_, subst}
-use mathlib.Core.List.{List, [], _∷_, _++_}
-use Prim.Native.Nat.{ℕ, _+_, _-_, _*_, _<_, _≤_}
+use mathlib.Core.Path.{_≡_, refl, _∙_}
+use mathlib.Core.List.{List, [], _∷_}
+use Prim.Native.Nat.{ℕ, _+_, _-_, _*_, _≤_}
 use native.Mathlib.Omega.{arith}
 use denote.Ref.{now}
-use lib.IntN.{ℤ, pos}
+use lib.IntN.{pos}
 use lib.ListN.{length, getD, take, drop}
 use mir.Syntax.{w64}
 use mir.Val.{SFits, ofZ, toZ}
 use mir.ValLaws.{toZ-ofZ}
-use borrow.Author.Needs.{needs}
-use Rattle.rules.specs.Table.{rowBytes, rowsBytes, signed, sourceRows}
-use Rattle.decimal.proofs.Writing.{Rest, rest-then, rest-as, rest-end, wrote-as, wrote-length}
-use Rattle.table.specs.Names.{namesIn, Named}
+use Rattle.rules.specs.Table.{rowsBytes, sourceRows}
+use Rattle.decimal.proofs.Writing.{Rest, rest-then, rest-end, wrote-as, wrote-length}
+use Rattle.table.specs.Names.{namesIn}
 use Rattle.table.proofs.RowLaws.{source-step, source-end, length-names}
 use Rattle.table.proofs.rows.put_sources.Statement.{statement}
 use Rattle.table.proofs.rows.put_sources.Tie as tie

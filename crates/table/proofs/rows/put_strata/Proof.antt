@@ -1,18 +1,18 @@
 -- `put_strata`: what is still to be written is the rest of the whole.
 -- Assumes nothing.
-use mathlib.Core.Path.{_≡_, refl, sym, ap, _∙_, subst}
-use mathlib.Core.List.{List, [], _∷_, _++_}
-use Prim.Native.Nat.{ℕ, _+_, _-_, _*_, _<_, _≤_}
+use mathlib.Core.Path.{_≡_, refl, _∙_}
+use mathlib.Core.List.{List}
+use Prim.Native.Nat.{ℕ, _+_, _-_, _*_, _≤_}
 use native.Mathlib.Omega.{arith}
 use denote.Ref.{now}
-use lib.IntN.{ℤ, pos}
+use lib.IntN.{pos}
 use lib.ListN.{length, getD, take, drop}
 use mir.Syntax.{w64}
 use mir.Val.{SFits, ofZ, toZ}
 use mir.ValLaws.{toZ-ofZ}
 use Rattle.rules.specs.Table.{rowsBytes, stratumRows, strataRows}
 use Rattle.decimal.proofs.Writing.{Rest, rest-then, rest-end, wrote-as, wrote-length}
-use Rattle.table.specs.Names.{namesIn, Named}
+use Rattle.table.specs.Names.{namesIn}
 use Rattle.table.proofs.RowLaws.{strata-step, strata-end, length-names}
 use Rattle.table.proofs.rows.put_strata.Statement.{statement}
 use Rattle.table.proofs.rows.put_strata.Tie as tie

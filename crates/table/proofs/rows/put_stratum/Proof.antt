@@ -1,17 +1,17 @@
 -- `put_stratum`: sources, residual and total in turn.
 -- Assumes nothing.
-use mathlib.Core.Path.{_≡_, refl, sym, ap, ap₂, _∙_, subst}
+use mathlib.Core.Path.{_≡_, ap, ap₂}
 use mathlib.Core.Bool.{Bool}
-use mathlib.Core.List.{List, [], _∷_, _++_}
-use Prim.Native.Nat.{ℕ, _+_, _-_, _*_, _<_, _≤_}
+use mathlib.Core.List.{[], _∷_, _++_}
+use Prim.Native.Nat.{_+_, _-_}
 use native.Mathlib.Omega.{arith}
 use denote.Ref.{now}
-use lib.IntN.{ℤ, pos}
-use lib.ListN.{length, getD, take, drop}
+use lib.IntN.{ℤ}
+use lib.ListN.{take}
 use mir.Syntax.{w64}
 use mir.Val.{ofZ, toZ}
 use mir.ValLaws.{toZ-ofZ}
-use Rattle.rules.specs.Table.{rowBytes, rowsBytes, signed, sourceRows, stratumRows, wordTotal}
+use Rattle.rules.specs.Table.{rowBytes, rowsBytes, signed, sourceRows, wordTotal}
 use Rattle.decimal.proofs.Writing.{wrote-as, wrote-then}
 use Rattle.table.specs.Names.{namesIn, among, residualOf}
 use Rattle.table.proofs.RowLaws.{stratum-bytes}

@@ -1,14 +1,12 @@
 -- `put_table`: the first line, the strata, the last line.
 -- Assumes nothing.
-use mathlib.Core.Path.{_≡_, refl, sym, ap, _∙_}
-use mathlib.Core.List.{List, [], _∷_, _++_}
-use Prim.Native.Nat.{ℕ}
+use mathlib.Core.List.{[], _∷_, _++_}
 use denote.Ref.{now}
 use lib.ListN.{take}
 use Rattle.rules.specs.Lists.{decimalOf}
-use Rattle.rules.specs.Table.{rowBytes, rowsBytes, refusedRow, strataRows, wordAll, wordTotal, wordStratum, wordSource, wordDf}
+use Rattle.rules.specs.Table.{rowBytes, rowsBytes, strataRows, wordAll, wordTotal}
 use Rattle.decimal.proofs.Writing.{wrote-as, wrote-then}
-use Rattle.table.specs.Names.{namesIn, tableOf}
+use Rattle.table.specs.Names.{namesIn}
 use Rattle.table.proofs.RowLaws.{start-table, table-bytes}
 use borrow.Author.Needs.{needs}
 use Rattle.table.proofs.rows.put_table.Statement.{statement}
