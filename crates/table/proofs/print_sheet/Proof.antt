@@ -71,7 +71,7 @@ print-design-requires c κs =
       read-questions text emptyTable (k .plots) (k .«plot_columns») (k .«treatment_columns») e .1,
       w .plots-some,
       w .plots-few,
-      levels-long text (sheet .last .1 .0) (own-table text (k .plots) (k .«plot_columns») (k .«treatment_columns») (sheet .last .1 .0) (sym e) (sheet .ensures .1)),
+      levels-long text (sheet .last .1 .0) (own-table text (k .plots) (k .«plot_columns») (k .«treatment_columns») (sheet .last .1 .0) (sym e) (sheet .ensures .1 .1)),
       w .plot-columns,
       w .treatment-columns,
     )
@@ -87,7 +87,7 @@ returns-2 c =
     let given = c .before .before .before .before .before .before .reading .given in
     let k = given .0 .0 in
     let e : read (k .plots) (k .«plot_columns») (k .«treatment_columns») ≡ reading (now (a .text)) emptyTable = sym (ap outcomeOf (given .1)) ∙ sheet .ensures .0 in
-    let w = own-table (now (a .text)) (k .plots) (k .«plot_columns») (k .«treatment_columns») (sheet .last .1 .0) e (sheet .ensures .1) in
+    let w = own-table (now (a .text)) (k .plots) (k .«plot_columns») (k .«treatment_columns») (sheet .last .1 .0) e (sheet .ensures .1 .1) in
     wrote-as (now (a .out)) 0
     (read-text (now (a .text)) (k .plots) (k .«plot_columns») (k .«treatment_columns») (sheet .last .1 .0) e w)
     (c .before .before .print-design .ensures)
