@@ -2,7 +2,7 @@
 ghost use mathlib.Core.Path.{_≡_};
 ghost use Prim.Native.Nat.{ℕ, _+_, _*_, _≤_, _<_};
 ghost use lib.ListN.{length};
-ghost use Rattle.design.specs.Search.{crossPartner, crossFirst, crossSecond};
+ghost use Rattle.design.specs.Search.{crossFirst, crossSecond};
 ghost use Rattle.design.specs.Treatments.{orthogonalAt, Member};
 ghost use Rattle.design.specs.Crossing.{Counted, Tested};
 use crate::closing::PAIRS;
@@ -56,31 +56,8 @@ fn pair_orthogonal(
     walk_orthogonal(plot, i, first, j, n)
 }
 
-// The first treatment member, from 1, that is not orthogonal to plot member `i`, or 0.
-fn apart_row(
-    plot: &[u8],
-    i: usize,
-    f: u8,
-    first: &[u8],
-    first_size: usize,
-    firsts: &[u8; MEMBERS],
-    n: usize,
-    joins: &[u8; PAIRS],
-    apart: usize,
-) -> usize
-    requires { ⌜ (1 ≤ n) × (n ≤ 240) × Member n (now plot) i f × («first_size» ≤ 32) × Counted n (now first) (now firsts) «first_size» × ((j : ℕ) → j < 32 → Tested n (now plot) (now first) (now joins) apart i j) ⌝ }
-    ensures { λ r. ⌜ r ≡ crossPartner (orthogonalAt n (now (plot .entry)) (now (first .entry))) «first_size» i ⌝ }
-{
-    for j in 0..first_size {
-        if !pair_orthogonal(plot, i, f, first, j, firsts[j], n, joins, apart) {
-            return j + 1;
-        }
-    }
-    0
-}
-
 // The first pair that is not orthogonal, where `apart` is the cell of one.
-pub fn first_apart(
+pub fn first_crossed(
     plot: &[u8],
     plot_size: usize,
     plots: &[u8; MEMBERS],
@@ -95,25 +72,16 @@ pub fn first_apart(
     ensures first { λ r. ⌜ r .first ≡ crossFirst (orthogonalAt n (now (plot .entry)) (now (first .entry))) «plot_size» «first_size» ⌝ }
     ensures second { λ r. ⌜ r .second ≡ crossSecond (orthogonalAt n (now (plot .entry)) (now (first .entry))) «first_size» (r .first) ⌝ }
 {
-    for i in 0..plot_size {
-        let second = apart_row(
-            plot,
-            i,
-            plots[i],
-            first,
-            first_size,
-            firsts,
-            n,
-            joins,
-            apart,
-        );
-        if second != 0 {
-            let at = i + 1;
-            return Places { first: at, second };
+    let mut at = 0;
+    let mut second = 0;
+    'pairs: for i in 0..plot_size {
+        for j in 0..first_size {
+            if !pair_orthogonal(plot, i, plots[i], first, j, firsts[j], n, joins, apart) {
+                at = i + 1;
+                second = j + 1;
+                break 'pairs;
+            }
         }
     }
-    Places {
-        first: 0,
-        second: 0,
-    }
+    Places { first: at, second }
 }

@@ -12,7 +12,7 @@ ghost use Rattle.design.specs.State.{columnIn};
 ghost use Rattle.design.specs.Search.{crossFirst, crossSecond};
 ghost use Rattle.design.specs.Treatments.{Placing, orthogonalAt, Member, Numbered};
 ghost use Rattle.design.specs.Crossing.{Counted, Below, heldOf, Growing, Grown, Joins, Failing, Entered};
-use crate::apart::first_apart;
+use crate::apart::first_crossed;
 use crate::closing::PAIRS;
 use crate::closing::TOO_MANY;
 use crate::following::following;
@@ -352,7 +352,7 @@ pub fn cross(
         };
     }
     let at = all.apart - 1;
-    let places = first_apart(
+    let places = first_crossed(
         plot,
         plot_size,
         &plots,

@@ -72,8 +72,8 @@ returns c = let w = c .before .before .before .before in
 sub-at : tie.Need-sub-at
 sub-at c = search needs
 
-first-apart-requires : tie.Need-first-apart-requires
-first-apart-requires c κs = let e = c .before .before .before .before in
+first-crossed-requires : tie.Need-first-crossed-requires
+first-crossed-requires c κs = let e = c .before .before .before .before in
     let w = e .before .before .before .before in
     let k = pairs w in
     let s = start (k .before) in
@@ -91,7 +91,7 @@ returns-2 c = let e = c .before .before .before .before .before in
     let a = s .args in
     let at = w .cross-all .result .apart - 1 in
     let f = apart e in
-    let p = c .first-apart .ensures in
+    let p = c .first-crossed .ensures in
     (p .0, (p .1, λ z. clash (cross-all (test s) (a .plot-size) (a .first-size) (sym (p .0) ∙ z) (at / 32) (at % 32) (f .0) (f .1 .0)) (f .1 .1)))
 
 pub cross-spec : {M : Type 1} → statement M
@@ -104,6 +104,6 @@ cross-spec =
     same-length
     returns
     sub-at
-    first-apart-requires
+    first-crossed-requires
     same-length-2
     returns-2)
