@@ -44,6 +44,14 @@ pub decimal-start : (n : ℕ) → digits n [] ≡ decimalOf n
 unfolding decimalOf
 decimal-start n = refl
 
+-- one digit
+pub decimal-one : (n : ℕ) → n < 10 → (48 + n) ∷ [] ≡ decimalOf n
+decimal-one n h = sym (digits-one n [] h) ∙ decimal-start n
+
+-- two digits
+pub decimal-two : (n : ℕ) → 10 ≤ n → n < 100 → (48 + n / 10) ∷ (48 + n % 10) ∷ [] ≡ decimalOf n
+decimal-two n l h = sym (digits-one (n / 10) ((48 + n % 10) ∷ []) (omega arith)) ∙ sym (digits-more n [] l) ∙ decimal-start n
+
 -- a store at a place, seen from that place on
 pub drop-set : (l : List ℕ) (i v : ℕ) → i < length l → drop i (set l i v) ≡ v ∷ drop (suc i) l
 drop-set [] i v h = absurd (not-suc-le-zero h)

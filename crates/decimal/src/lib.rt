@@ -37,8 +37,24 @@ fn fitting(count: usize, room: usize, at: usize) -> usize
     count
 }
 
-// Writes a number in decimal.
+// Writes a number in decimal. Most have one digit or two.
 pub fn write_decimal(n: usize, out: &mut [u8], at: usize) -> usize
+    ensures answer { λ r. ⌜ r ≡ placeAfter (now (out .entry)) at (decimalOf n) ⌝ }
+    ensures bytes { λ _. ⌜ now (out .exit) ≡ written (now (out .entry)) at (decimalOf n) ⌝ }
+{
+    if n < 10 {
+        let one = [48 + n as u8];
+        return write_bytes(&one, out, at);
+    }
+    if n < 100 {
+        let two = [48 + (n / 10) as u8, 48 + (n % 10) as u8];
+        return write_bytes(&two, out, at);
+    }
+    write_digits(n, out, at)
+}
+
+// The same by an array that has room for any number.
+fn write_digits(n: usize, out: &mut [u8], at: usize) -> usize
     ensures answer { λ r. ⌜ r ≡ placeAfter (now (out .entry)) at (decimalOf n) ⌝ }
     ensures bytes { λ _. ⌜ now (out .exit) ≡ written (now (out .entry)) at (decimalOf n) ⌝ }
 {
