@@ -1,12 +1,14 @@
 // The infimum of two factors.
 ghost use mathlib.Core.Path.{_≡_};
-ghost use Prim.Native.Nat.{_≤_};
+ghost use Prim.Native.Nat.{_*_, _≤_};
 ghost use lib.ListN.{length, replicate};
 ghost use Rattle.rules.specs.Factor.{classes, infimum};
 ghost use Rattle.factor.specs.Lent.{onCommon, overlay};
+ghost use Rattle.standing.specs.Joining.{Below};
 ghost use Rattle.standing.specs.Cells.{Inside, Cover};
 use crate::cells::ALL_CELLS;
 use crate::cells::CELLS;
+use crate::cells::FEW_CELLS;
 use crate::cells::MANY_CELLS;
 use crate::labels::past_labels;
 use factor::common_plots;
@@ -20,35 +22,48 @@ pub fn infimum(f: &[u8], g: &[u8], out: &mut [u8; PLOTS]) -> usize
     let n = common_plots(f.len(), g.len());
     let a = past_labels(&f[..n]);
     let w = past_labels(&g[..n]);
-    let mut cell_f = [0u8; PLOTS];
-    let mut cell_g = [0u8; PLOTS];
+    infimum_whole(&f[..n], &g[..n], a, w, out)
+}
+
+// The same for two columns of one length; the labels of `f` are below `a`, those of `g` below `w`.
+fn infimum_whole(f: &[u8], g: &[u8], a: usize, w: usize, out: &mut [u8; PLOTS]) -> usize
+    requires { ⌜ (length (now f) ≤ 240) × (length (now g) ≡ length (now f)) × (a ≤ 256) × (w ≤ 256) × Below a (now f) × Below w (now g) ⌝ }
+    ensures answer { λ r. ⌜ r ≡ classes (infimum (now (f .entry)) (now (g .entry))) ⌝ }
+    ensures numbers { λ _. ⌜ now (out .exit) ≡ overlay (now (out .entry)) (infimum (now (f .entry)) (now (g .entry))) ⌝ }
+{
     let cells = a * w;
+    if cells <= FEW_CELLS {
+        let mut few = [0u8; FEW_CELLS];
+        return infimum_cells(f, g, a, w, &mut few, out);
+    }
     if cells <= CELLS {
-        let mut few = [0u8; CELLS];
-        return number_cells(&f[..n], &g[..n], w, &mut few, &mut cell_f, &mut cell_g, out);
+        let mut some = [0u8; CELLS];
+        return infimum_cells(f, g, a, w, &mut some, out);
     }
     if cells <= MANY_CELLS {
         let mut many = [0u8; MANY_CELLS];
-        return number_cells(
-            &f[..n],
-            &g[..n],
-            w,
-            &mut many,
-            &mut cell_f,
-            &mut cell_g,
-            out,
-        );
+        return infimum_cells(f, g, a, w, &mut many, out);
     }
     let mut numbers = [0u8; ALL_CELLS];
-    number_cells(
-        &f[..n],
-        &g[..n],
-        w,
-        &mut numbers,
-        &mut cell_f,
-        &mut cell_g,
-        out,
-    )
+    infimum_cells(f, g, a, w, &mut numbers, out)
+}
+
+// The same with a table of zeros that has room for the cells.
+fn infimum_cells(
+    f: &[u8],
+    g: &[u8],
+    a: usize,
+    w: usize,
+    numbers: &mut [u8],
+    out: &mut [u8; PLOTS],
+) -> usize
+    requires { ⌜ (length (now f) ≤ 240) × (length (now g) ≡ length (now f)) × (a ≤ 256) × (w ≤ 256) × Below a (now f) × Below w (now g) × (a * w ≤ length (now numbers)) × (length (now numbers) ≤ 65536) × (now numbers ≡ replicate (length (now numbers)) 0) ⌝ }
+    ensures answer { λ r. ⌜ r ≡ classes (infimum (now (f .entry)) (now (g .entry))) ⌝ }
+    ensures numbers { λ _. ⌜ now (out .exit) ≡ overlay (now (out .entry)) (infimum (now (f .entry)) (now (g .entry))) ⌝ }
+{
+    let mut cell_f = [0u8; PLOTS];
+    let mut cell_g = [0u8; PLOTS];
+    number_cells(f, g, w, numbers, &mut cell_f, &mut cell_g, out)
 }
 
 // The same for two columns of one length: a table has the number of each cell, which is 0 at first. Lists the labels of the cells.
