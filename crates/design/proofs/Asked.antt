@@ -1,6 +1,6 @@
--- Laws of the questions on one column: levels that are not 0, and classes of one size.
+-- Laws of the questions on one column: levels that are not 0, and classes of one size; and members that are numbered.
 -- Assumes nothing.
-use mathlib.Core.Path.{_≡_, sym, ap, _∙_}
+use mathlib.Core.Path.{_≡_, sym, ap, _∙_, subst}
 use mathlib.Core.Bool.{true, false}
 use mathlib.Core.List.{List, _∷_}
 use Prim.Native.Nat.{ℕ, suc, _+_, _*_, _-_, _≤_, _<_}
@@ -11,12 +11,16 @@ use lib.Dec.{eqb}
 use lib.ListN.{length, take, drop, length-drop, drop-of-length-le}
 use lib.Seq.{drop-cons, take-all, length-take-le}
 use borrow.Author.Tests.{eq-eqb, ne-eqb}
-use Rattle.rules.specs.Factor.{Column, at, uniform}
+use Rattle.rules.specs.Factor.{Column, at, number, uniform}
 use Rattle.rules.specs.Family.{columnsFrom, membersOf}
 use Rattle.rules.specs.Design.{nonzero, allNonzero, firstFailing}
+use Rattle.rules.specs.Relation.{memberAt}
 use Rattle.rules.proofs.Buffer.{length-members, member-is}
+use Rattle.rules.proofs.Made.{WellMade}
+use Rattle.rules.proofs.WorkList.{member-in}
 use Rattle.design.specs.State.{columnIn}
 use Rattle.design.specs.Search.{firstFrom}
+use Rattle.design.specs.Treatments.{Numbered}
 use Rattle.design.proofs.Search.{failing-found}
 
 -- ---- the part of a list that a slice lends
@@ -105,3 +109,15 @@ unequal-start n l size s =
     sym (
     ap (firstFrom (λ k. uniform n (columnIn n l k)) 0) (sub-zero size ∙ sym len)
     ∙ failing-found (λ k. uniform n (columnIn n l k)) (uniform n) (membersOf n l size) (λ k h. ap (uniform n) (sym (member-is n s l size k (rw len at h)))))
+
+-- ---- numbered members
+
+-- the members of a family in memory, numbered
+pub numbered-made : (n : ℕ) → n ≤ 240 → (b : List ℕ) (size : ℕ) → 7680 ≤ length b → size ≤ 32 → WellMade n (membersOf n b size) → Numbered n b size
+numbered-made n small b size room few made = record {
+  room = room;
+  few = few;
+  numbered = λ i h.
+      let is = member-is n small b size i h in
+      subst (λ (F : Column). number F ≡ F) is (made .numbered (memberAt (membersOf n b size) i) (member-in (membersOf n b size) i (rw (length-members n small b size) h)));
+}

@@ -1,6 +1,6 @@
 -- Laws of the full design's answers: what each case of questions 11 to 14 says in numbers, and what is written.
 -- Assumes nothing.
-use Rattle.rules.specs.Factor.{Column, number, orthogonal, equality}
+use Rattle.rules.specs.Factor.{Column, orthogonal, equality}
 use Rattle.rules.specs.Family.{Family, _∈_, written, membersOf}
 use Rattle.rules.specs.Closing.{Closing, tooMany, family, finalTreatmentFamily, firstTreatmentFamily, treatmentGenerators, Chosen, none-of, skipping, taking, infimumAll, InFirstTreatmentFamily, of-universal, of-infimum, of-supremum}
 use Rattle.rules.specs.Design.{Places, Answer, firstPair, firstCross, question11, question12, question13, question14, treatmentBuffer}
@@ -12,8 +12,6 @@ use Rattle.rules.proofs.Buffer.{length-members, member-is, written-members, len
 use Rattle.rules.proofs.Closing.{pigeonhole, ascending-distinct}
 use Rattle.rules.proofs.Made.{WellMade, first-made}
 use Rattle.rules.proofs.Treatments.{final-contains, final-length}
-use Rattle.rules.proofs.WorkList.{member-in}
-use Rattle.rules.specs.Relation.{memberAt}
 use Rattle.design.proofs.Rewriting.{written-over}
 use mathlib.Core.Logic.{_⊎_, inl, inr}
 use Rattle.design.proofs.Answered.{held-over, held-on}
@@ -22,6 +20,7 @@ use Rattle.design.specs.Search.{crossFirst, crossSecond}
 use Rattle.design.specs.Closings.{closedIn}
 use Rattle.design.specs.Judging.{Tells, Listed, unlisted, listed}
 use Rattle.design.specs.Treatments.{orthogonalAt, Numbered}
+use Rattle.design.proofs.Asked.{numbered-made}
 use mathlib.Core.Path.{_≡_, refl, sym, ap, _∙_, subst, ap₂}
 use mathlib.Core.Bool.{Bool, true, false}
 use mathlib.Core.List.{List, [], _∷_, List·Memᴰ·head, List·Memᴰ·tail, List·Memᴰ·cases-cons}
@@ -138,18 +137,6 @@ treatments-either n P S p = twelve (p .first) refl
     twelve : (i : ℕ) → p .first ≡ i → (question12 n P S p .treatment ≡ S) ⊎ ((question12 n P S p .treatment ≡ R) × (length R ≤ 32))
     twelve zero e = subst (λ (a : Answer). (a .treatment ≡ S) ⊎ ((a .treatment ≡ R) × (length R ≤ 32))) (sym (passed-12 P S n p e)) (thirteen (firstCross (orthogonal n) 1 P S) (firstCross (orthogonal n) 1 P S .first) refl)
     twelve (suc i) e = inl (told-12 P S n p (λ z. suc-ne-zero i (sym e ∙ z)) .written)
-
--- ---- numbered members
-
--- the members of a family in memory, numbered
-pub numbered-made : (n : ℕ) → n ≤ 240 → (b : List ℕ) (size : ℕ) → 7680 ≤ length b → size ≤ 32 → WellMade n (membersOf n b size) → Numbered n b size
-numbered-made n small b size room few made = record {
-  room = room;
-  few = few;
-  numbered = λ i h.
-      let is = member-is n small b size i h in
-      subst (λ (F : Column). number F ≡ F) is (made .numbered (memberAt (membersOf n b size) i) (member-in (membersOf n b size) i (rw (length-members n small b size) h)));
-}
 
 -- ---- the first treatment family as it is written
 

@@ -24,12 +24,15 @@ use Rattle.rules.proofs.Buffer.{length-members, written-members, length-written
 use Rattle.rules.proofs.Orthogonality.{same-test, byCounts}
 use Rattle.rules.proofs.Tests.{orthogonal-test, orthogonal-sym}
 use Rattle.rules.proofs.Questions.{question-10, plot-length}
+use Rattle.rules.proofs.Made.{WellMade, plot-made}
 use Rattle.rules.proofs.PlotInfima.{plotInfima, infima-given, infima-many, infima-whole, suprema-made, same-family}
 use Rattle.rules.proofs.WorkList.{length-sorted, member-in}
 use Rattle.design.specs.State.{columnIn, makeOf, markOf, marked, Work, Sorted}
 use Rattle.design.specs.Search.{firstPairOf}
 use Rattle.design.specs.Judging.{apartAt, Tells, Listed, unlisted, listed, PlotListed, by-counts, by-tests, Judging}
 use Rattle.design.specs.Closings.{closedIn, Ready}
+use Rattle.design.specs.Treatments.{Numbered}
+use Rattle.design.proofs.Asked.{numbered-made}
 use Rattle.design.proofs.Answered.{eight-over, eight-buffer, held-over, held-on}
 use Rattle.design.proofs.Order.{sorted-columns}
 use Rattle.design.proofs.Search.{pair-found, marked-below, marked-above}
@@ -131,12 +134,18 @@ module _ (n : ℕ) (small : n ≤ 240) (some : 1 ≤ n) (Fs : List Column) (on :
     unfolding membersOf
     held-members = ap₂ (λ (b : List ℕ) (m : ℕ). membersOf n b m) e q ∙ written-members n small S before 0 (plot-length n Fs on S is) (omega (arith, room, h, q))
 
+    -- and numbered
+    held-numbered : Numbered n after r
+    held-numbered =
+        numbered-made n small after r (rw e (rw (length-written n small S before 0 (plot-length n Fs on S is) (omega (arith, room, h, q))) room)) h
+        (subst (WellMade n) (sym held-members) (plot-made n Fs on S is))
+
     -- what questions 9 and 10 need to know
     judging : Tells byCounts S order marks r → Judging n r after order marks
     judging t = record {
+      some = some;
       most = small;
-      few = h;
-      room = rw e (rw (length-written n small S before 0 (plot-length n Fs on S is) (omega (arith, room, h, q))) room);
+      members = held-numbered;
       places = t .places;
       tells = λ z. rw held-members (told (rw held-members at z));
     }
@@ -147,9 +156,9 @@ module _ (n : ℕ) (small : n ≤ 240) (some : 1 ≤ n) (Fs : List Column) (on :
     -- the same by marks that tell it of themselves
     judging-tests : Tells (orthogonal n) S order marks r → Judging n r after order marks
     judging-tests t = record {
+      some = some;
       most = small;
-      few = h;
-      room = rw e (rw (length-written n small S before 0 (plot-length n Fs on S is) (omega (arith, room, h, q))) room);
+      members = held-numbered;
       places = t .places;
       tells = λ z. rw held-members t;
     }
@@ -172,8 +181,8 @@ module _ (n : ℕ) (small : n ≤ 240) (some : 1 ≤ n) (Fs : List Column) (on :
   pub plot-ready : PlotListed n Fs before after marks order r → Ready n r after order marks
   unfolding plotFamily
   plot-ready (by-counts (unlisted q t e)) = record { most = small; room = rw e room; judging = λ d. absurd (d q) }
-  plot-ready (by-counts (listed S is q h e t)) = let j = judging S is q h e t in record { most = small; room = j .room; judging = λ d. j }
-  plot-ready (by-tests S is q h e t) = let j = judging-tests S is q h e t in record { most = small; room = j .room; judging = λ d. j }
+  plot-ready (by-counts (listed S is q h e t)) = let j = judging S is q h e t in record { most = small; room = j .members .room; judging = λ d. j }
+  plot-ready (by-tests S is q h e t) = let j = judging-tests S is q h e t in record { most = small; room = j .members .room; judging = λ d. j }
 
 -- ---- the plot family by the infima of its columns
 

@@ -19,7 +19,7 @@ use Rattle.rules.proofs.Buffer.{length-members}
 use Rattle.rules.proofs.Families.{plot-family-lists}
 use Rattle.rules.proofs.Made.{plot-made}
 use Rattle.design.specs.Treatments.{Numbered}
-use Rattle.design.proofs.FullAnswered.{numbered-made}
+use Rattle.design.proofs.Asked.{numbered-made}
 use Rattle.design.specs.Answers.{PlotNumbers, plotNumbersOf, fullNumbersOf, fullRefusing}
 use Rattle.design.specs.Closings.{closedIn, goesOn}
 use Rattle.design.proofs.Answered.{accepting, held-over, held-on, Limits, limits}

@@ -12,6 +12,7 @@ use Rattle.rules.specs.Design.{Places, firstFailing, firstPair}
 use Rattle.design.specs.declared.questions.Places as found
 use Rattle.design.specs.State.{makeOf, markOf, marked}
 use Rattle.design.specs.Search.{firstPairOf}
+use Rattle.design.specs.Treatments.{Numbered}
 
 -- the first pair in the order without a mark
 unfoldable pub apartAt : List ℕ → List ℕ → ℕ → found.Places
@@ -36,8 +37,8 @@ pub data PlotListed (n : ℕ) (Fs : List Column) (before after marks order : Lis
 
 -- the plot family in memory: where all members have classes of one size, the marks tell those that are orthogonal
 pub record Judging (n size : ℕ) (plot order marks : List ℕ) : Type 0 where
+  pub some : 1 ≤ n
   pub most : n ≤ 240
-  pub few : size ≤ 32
-  pub room : 7680 ≤ length plot
+  pub members : Numbered n plot size
   pub places : (i : ℕ) → i < size → getD order i 0 < 32
   pub tells : firstFailing (uniform n) 1 (membersOf n plot size) ≡ 0 → Tells (orthogonal n) (membersOf n plot size) order marks size

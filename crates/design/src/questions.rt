@@ -2,12 +2,14 @@
 ghost use mathlib.Core.Path.{_≡_};
 ghost use Prim.Native.Nat.{ℕ, _+_, _*_, _≤_, _<_};
 ghost use lib.ListN.{length, getD};
-ghost use Rattle.rules.specs.Factor.{uniform};
+ghost use Rattle.rules.specs.Factor.{number, uniform};
 ghost use Rattle.rules.specs.Family.{membersOf, columnsFrom};
 ghost use Rattle.rules.specs.Design.{withinLimits, fullWithinLimits, nonzero, allNonzero, firstFailing};
-ghost use Rattle.design.specs.State.{marked};
+ghost use Rattle.design.specs.State.{columnIn, marked};
 ghost use Rattle.design.specs.Search.{firstPairOf};
+ghost use Rattle.design.specs.Treatments.{Numbered};
 use crate::closing::PAIRS;
+use crate::store::largest;
 use limits::COLUMNS;
 use limits::FAMILY;
 use limits::INTERACTION;
@@ -95,15 +97,31 @@ pub fn all_nonzero(levels: &[Level], n: usize, first: usize, count: usize) -> bo
     true
 }
 
+// Whether the classes of member `i` have one size. They are not counted where the largest number tells it: one class, or a class for
+// each plot.
+fn member_uniform(family: &[u8], n: usize, i: usize) -> bool
+    requires { ⌜ (1 ≤ n) × (n ≤ 240) × (7680 ≤ length (now family)) × (i < 32) × (number (columnIn n (now family) i) ≡ columnIn n (now family) i) ⌝ }
+    ensures { λ r. ⌜ r ≡ uniform n (columnIn n (now (family .entry)) i) ⌝ }
+{
+    let at = PLOTS * i;
+    let end = at + n;
+    let k = largest(&family[at..end]);
+    if k == 1 {
+        return true;
+    }
+    if k as usize == n {
+        return true;
+    }
+    factor::uniform(&family[at..end])
+}
+
 // 9: the place of the first member whose classes have not one size; 0 where there is none.
 pub fn first_unequal(family: &[u8], n: usize, size: usize) -> usize
-    requires { ⌜ (n ≤ 240) × (size ≤ 32) × (7680 ≤ length (now family)) ⌝ }
+    requires { ⌜ (1 ≤ n) × (n ≤ 240) × Numbered n (now family) size ⌝ }
     ensures { λ r. ⌜ r ≡ firstFailing (uniform n) 1 (membersOf n (now (family .entry)) size) ⌝ }
 {
     for i in 0..size {
-        let at = PLOTS * i;
-        let end = at + n;
-        if !factor::uniform(&family[at..end]) {
+        if !member_uniform(family, n, i) {
             return i + 1;
         }
     }

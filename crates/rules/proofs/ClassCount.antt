@@ -60,7 +60,7 @@ classes-universal (suc n) h = ap length (ones n)
 
 -- ---- the equality factor
 
-at-up : (n i u : ℕ) → u < n → at (upFrom i n) u ≡ i + u
+pub at-up : (n i u : ℕ) → u < n → at (upFrom i n) u ≡ i + u
 unfolding upFrom
 at-up zero i u h = absurd (not-suc-le-zero h)
 at-up (suc n) i zero h = sym (add-zero i)

@@ -10,6 +10,7 @@ pub mod Extremes
 pub mod Classes
 pub mod ClassCount
 pub mod Tests
+pub mod Uniform
 pub mod Sums
 pub mod Orthogonality
 pub mod Between

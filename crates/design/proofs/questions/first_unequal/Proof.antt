@@ -5,7 +5,6 @@ use mathlib.Core.Bool.{Bool, true, false}
 use Prim.Native.Nat.{ℕ, _-_, _≤_}
 use native.Mathlib.Omega.{arith}
 use denote.Ref.{now}
-use borrow.Author.Needs.{needs}
 use borrow.Author.Tests.{not-true, not-false}
 use Rattle.rules.specs.Factor.{uniform}
 use Rattle.rules.specs.Family.{membersOf}
@@ -13,7 +12,7 @@ use Rattle.rules.specs.Design.{firstFailing}
 use Rattle.design.specs.State.{columnIn}
 use Rattle.design.specs.Search.{firstFrom}
 use Rattle.design.proofs.Search.{from-on, from-here, from-end}
-use Rattle.design.proofs.Asked.{unequal-start, uniform-part}
+use Rattle.design.proofs.Asked.{unequal-start}
 use Rattle.design.proofs.questions.first_unequal.Statement.{statement}
 use Rattle.design.proofs.questions.first_unequal.Tie as tie
 
@@ -28,40 +27,21 @@ loop-holds c =
     let s = c .before .args in
     (omega arith, unequal-start (s .n) (now (s .family)) (s .size) (omega arith))
 
-mul-at : tie.Need-mul-at Inv-loop μ-loop
-mul-at c = omega arith
-
-add-end : tie.Need-add-end Inv-loop μ-loop
-add-end c = omega arith
-
-sub-uniform : tie.Need-sub-uniform Inv-loop μ-loop
-sub-uniform c = omega arith
-
-part-uniform-start : tie.Need-part-uniform-start Inv-loop μ-loop
-part-uniform-start c = omega arith
-
-part-uniform-end : tie.Need-part-uniform-end Inv-loop μ-loop
-part-uniform-end c = omega arith
-
-uniform-requires : tie.Need-uniform-requires Inv-loop μ-loop
-uniform-requires c κs = search needs
+member-uniform-requires : tie.Need-member-uniform-requires Inv-loop μ-loop
+member-uniform-requires c κs =
+    let b = c .before in
+    let s = b .before .before in
+    (s .pre .0, s .pre .1, s .pre .2 .room, omega (arith, s .pre .2 .few), s .pre .2 .numbered (b .loop .i) (omega arith))
 
 add-result : tie.Need-add-result Inv-loop μ-loop
 add-result c = omega arith
 
--- the member at i passes the test that the call answers
-tested : (c : tie.After-uniform Inv-loop μ-loop) → c .uniform .result ≡ uniform (c .before .before .before .before .before .args .n) (columnIn (c .before .before .before .before .before .args .n) (now (c .before .before .before .before .before .args .family)) (c .before .before .before .loop .i))
-tested c =
-    let b = c .before .before .before in
-    let s = b .before .before .args in
-    c .uniform .ensures ∙ uniform-part (s .n) (now (s .family)) (b .loop .i) (omega arith) (omega arith)
-
 returns : tie.Need-returns Inv-loop μ-loop
 returns c =
-    let b = c .before .before .before .before in
+    let b = c .before .before .before in
     let s = b .before .before .args in
     let t : ℕ → Bool = λ k. uniform (s .n) (columnIn (s .n) (now (s .family)) k) in
-    let e : t (b .loop .i) ≡ false = sym (tested (c .before)) ∙ not-true _ (c .if1 .taken) in
+    let e : t (b .loop .i) ≡ false = sym (c .before .member-uniform .ensures) ∙ not-true _ (c .if1 .taken) in
     sym (b .loop .inv .1 ∙ from-here t (b .loop .i) (s .size) (omega arith) e)
 
 add-i : tie.Need-add-i Inv-loop μ-loop
@@ -72,10 +52,10 @@ loop-less c = omega arith
 
 loop-again : tie.Need-loop-again Inv-loop μ-loop
 loop-again c =
-    let b = c .before .before .before .before in
+    let b = c .before .before .before in
     let s = b .before .before .args in
     let t : ℕ → Bool = λ k. uniform (s .n) (columnIn (s .n) (now (s .family)) k) in
-    let e : t (b .loop .i) ≡ true = sym (tested (c .before)) ∙ not-false _ (c .if1 .left) in
+    let e : t (b .loop .i) ≡ true = sym (c .before .member-uniform .ensures) ∙ not-false _ (c .if1 .left) in
     (omega arith, b .loop .inv .1 ∙ from-on t (b .loop .i) (s .size) (omega arith) e)
 
 returns-2 : tie.Need-returns-2 Inv-loop μ-loop
@@ -92,12 +72,7 @@ first-unequal-spec =
     Inv-loop
     μ-loop
     loop-holds
-    mul-at
-    add-end
-    sub-uniform
-    part-uniform-start
-    part-uniform-end
-    uniform-requires
+    member-uniform-requires
     add-result
     returns
     add-i

@@ -93,7 +93,7 @@ unfolding AcceptedHere plotNumbers
 accepted-here c =
     let f = c .before .before in
     let s = start f in
-    goes-on (s .args .n) (memory f) (closed f .close-plot-family .result .size) (s .pre .1) (λ ne. closed f .close-plot-family .ensures .1 .1 .judging ne .few)
+    goes-on (s .args .n) (memory f) (closed f .close-plot-family .result .size) (s .pre .1) (λ ne. closed f .close-plot-family .ensures .1 .1 .judging ne .members .few)
     (sym (ap plotNumbers (c .answer2 .given .1)) ∙ f .judge-plots .ensures)
 
 slice-aggregate-full-from-11 : tie.Need-slice-aggregate-full-from-11
