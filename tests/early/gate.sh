@@ -1,7 +1,7 @@
 #!/usr/bin/env bash
 # The gate turns red where it must: a stand-in for `rt` shows how `test` takes its verdict, and the real one what it refuses.
 set -u
-here=$(cd "$(dirname "$0")/.." && pwd)
+here=$(cd "$(dirname "$0")/../.." && pwd)
 work=$(mktemp -d)
 trap 'rm -rf "$work"' EXIT
 bad=0
@@ -23,7 +23,7 @@ stand_in() {
   chmod +x "$work/bin/rt"
 }
 
-mkdir -p "$work/bin" "$work/gate/tests"
+mkdir -p "$work/bin" "$work/gate/tests/early"
 cp "$here/test" "$work/gate/test"
 
 stand_in 0 '"rt: ok" "7 passed, 0 failed"'
@@ -39,6 +39,10 @@ echo 'exit 1' >"$work/gate/tests/red.sh"
 verdict 'a test beside it fails' 1 '7 passed, 1 failed'
 echo 'exit 0' >"$work/gate/tests/red.sh"
 verdict 'a test beside it passes' 0 '8 passed, 0 failed'
+echo 'exit 1' >"$work/gate/tests/early/red.sh"
+verdict 'an early test fails' 1 '8 passed, 1 failed'
+echo 'exit 0' >"$work/gate/tests/early/red.sh"
+verdict 'an early test passes' 0 '9 passed, 0 failed'
 
 # refused NAME: the real gate must refuse the repository in $work/repo
 refused() {

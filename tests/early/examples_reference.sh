@@ -1,7 +1,7 @@
 #!/usr/bin/env bash
 # The second implementation prints the expected table of every example, in its literal and in its fast version.
 set -u
-cd "$(dirname "$0")/.." || exit 1
+cd "$(dirname "$0")/../.." || exit 1
 cargo build --release --offline --quiet --manifest-path reference/Cargo.toml || exit 1
 program=${CARGO_TARGET_DIR:-reference/target}/release/reference
 bash examples/compare.sh "$program" && bash examples/compare.sh "$program" --fast
