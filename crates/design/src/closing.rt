@@ -77,13 +77,14 @@ fn member_finer(store: &[u8], n: usize, i: usize, j: usize) -> bool
 }
 
 // Whether member `i` is found to be finer than member `j`: it is known, or a walk shows it, which is then noted. None is walked that has not
-// more classes.
+// more classes, nor where infima are formed too: these tell it as well.
 fn found_finer(
     store: &[u8],
     counts: &[u8; MEMBERS],
     above: &mut [u32; MEMBERS],
     size: usize,
     n: usize,
+    infima: bool,
     i: usize,
     j: usize,
 ) -> bool
@@ -96,6 +97,9 @@ fn found_finer(
     let word = above[i];
     if told_finer(n, a, b, word, j) {
         return true;
+    }
+    if infima {
+        return false;
     }
     if a <= b {
         return false;
@@ -294,7 +298,7 @@ fn combine_join(
     combine_supremum(store, counts, marks, above, size, n, i, j)
 }
 
-// Combines members `i` and `j`; answers the new size, or TOO_MANY. Two that are nested make nothing new, and have the mark.
+// Combines members `i` and `j`; answers the new size, or TOO_MANY. Two that are found to be nested make nothing new, and have the mark.
 fn combine(
     store: &mut [u8],
     counts: &mut [u8; MEMBERS],
@@ -311,11 +315,11 @@ fn combine(
     ensures step { λ r. ⌜ ((Gs : List Column) → Work n infima Gs (now (store .entry)) (now (counts .entry)) (now (marks .entry)) size i j → Stepped n infima Gs (now (store .exit)) (now (counts .exit)) (now (marks .exit)) r i (j + 1)) ⌝ }
 {
     let at = MEMBERS * i + j;
-    if found_finer(store, counts, above, size, n, i, j) {
+    if found_finer(store, counts, above, size, n, infima, i, j) {
         marks[at] = entry(true, j);
         return size;
     }
-    if found_finer(store, counts, above, size, n, j, i) {
+    if found_finer(store, counts, above, size, n, infima, j, i) {
         marks[at] = entry(true, i);
         return size;
     }

@@ -35,25 +35,28 @@ returns c =
 returns-2 : tie.Need-returns-2
 returns-2 c = (λ e. clash e refl, c .before .before .before .before .before .before .before .pre .3)
 
+returns-3 : tie.Need-returns-3
+returns-3 c = (λ e. clash e refl, c .before .before .before .before .before .before .before .before .pre .3)
+
 member-finer-requires : tie.Need-member-finer-requires
 member-finer-requires c κs = search needs
 
 note-finer-requires : tie.Need-note-finer-requires
 note-finer-requires c κs = search needs
 
-returns-3 : tie.Need-returns-3
-returns-3 c =
+returns-4 : tie.Need-returns-4
+returns-4 c =
     let t = c .before .before in
     let m = t .before in
-    let s = m .before .before .before .before .before .before .before .before in
+    let s = m .before .before .before .before .before .before .before .before .before in
     let store = now (s .args .store) in
     let n = s .args .n in
-    let e = sym (m .member-finer .ensures) ∙ t .if3 .taken in
+    let e = sym (m .member-finer .ensures) ∙ t .if4 .taken in
     let k = known-noted (s .pre .0 .few) (s .pre .1) (s .pre .2) (finer-test n (columnIn n store (s .args .i)) (columnIn n store (s .args .j)) .0 e) (s .pre .3) in
     (λ _. e, subst (λ (above : List ℕ). Known n store above (s .args .size)) (sym (c .note-finer .ensures)) k)
 
-returns-4 : tie.Need-returns-4
-returns-4 c = (λ e. clash e refl, c .before .before .before .before .before .before .before .before .before .pre .3)
+returns-5 : tie.Need-returns-5
+returns-5 c = (λ e. clash e refl, c .before .before .before .before .before .before .before .before .before .before .pre .3)
 
 pub found-finer-spec : {M : Type 1} → statement M
 found-finer-spec =
@@ -66,7 +69,8 @@ found-finer-spec =
     told-finer-requires
     returns
     returns-2
+    returns-3
     member-finer-requires
     note-finer-requires
-    returns-3
-    returns-4)
+    returns-4
+    returns-5)
