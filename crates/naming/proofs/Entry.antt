@@ -1,9 +1,9 @@
 -- Laws of the entries: the kind's columns, and the answers by their questions.
 -- Assumes nothing.
-use mathlib.Core.Path.{_≡_, refl, sym, ap, _∙_}
+use mathlib.Core.Path.{_≡_, refl, ap, _∙_}
 use mathlib.Core.Bool.{Bool, true, false, _&&_}
 use mathlib.Core.List.{List, []}
-use Prim.Native.Nat.{ℕ, suc, _+_, _*_, _≤_, _<_}
+use Prim.Native.Nat.{ℕ, suc, _≤_, _<_}
 use native.Mathlib.Omega.{arith}
 use lib.Dec.{eqb, ltb, leb}
 use lib.ListN.{length}
@@ -12,7 +12,7 @@ use Rattle.rules.specs.Factor.{Column}
 use Rattle.rules.specs.Family.{Family, membersOf, wellFormed}
 use Rattle.rules.specs.Design.{plotsWithin, allNonzero}
 use Rattle.rules.specs.Sheet.{upTo, countKind, header, question2, question3}
-use Rattle.rules.specs.Naming.{Kind as Rule, markOf, firstColumn, kindColumns, nameOn, nameAt, nameRefused, NameAnswer, namingWithin, namingFrom7, naming}
+use Rattle.rules.specs.Naming.{Kind as Rule, markOf, firstColumn, kindColumns, nameOn, nameAt, nameRefused, namingWithin, namingFrom7, naming}
 use Rattle.rules.proofs.Sheet.{and-left, and-right, header-form}
 use Rattle.sheet.specs.Answers.{headed}
 use Rattle.sheet.specs.declared.header.Header.{Header}

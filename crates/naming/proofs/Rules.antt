@@ -1,8 +1,8 @@
 -- The rules of a name, one by one, and how long a name is.
 -- Assumes nothing.
-use mathlib.Core.Path.{_≡_, refl, sym, ap, _∙_}
+use mathlib.Core.Path.{_≡_, refl}
 use mathlib.Core.Bool.{Bool, true, false, _&&_, _||_}
-use mathlib.Core.List.{List, [], _∷_, _++_}
+use mathlib.Core.List.{List, [], _∷_}
 use Prim.Native.Nat.{ℕ, zero, suc, _+_, _*_, _/_, _%_, _^_, _≤_, _<_}
 use native.Mathlib.Nat.{pow-suc}
 use native.Mathlib.Omega.{arith}
@@ -13,9 +13,8 @@ use Rattle.rules.specs.Factor.{Column, classes}
 use Rattle.rules.specs.Family.{alike}
 use Rattle.rules.specs.Lists.{passingFrom, digitsBefore, decimalOf}
 use Rattle.rules.specs.Sheet.{Field, all, letter, letterOrDigit, within, isName, isColumn, isKind, columnNames}
-use Rattle.rules.specs.Names.{Name, name-U, name-E, name-column, name-infimum, name-place, equivalentColumn, infimumAbove, listed, nameByInfimum, nameByColumn, nameOf, withCommas, bytesOf}
+use Rattle.rules.specs.Names.{name-U, name-E, name-column, name-infimum, name-place, equivalentColumn, infimumAbove, listed, nameByInfimum, nameByColumn, nameOf, withCommas, bytesOf}
 use Rattle.rules.proofs.Sheet.{and-left, and-right}
-use Rattle.rules.proofs.Members.{clash}
 use Rattle.rules.proofs.Numbering.{by-cases}
 use Rattle.naming.specs.Listing.{afterCommas}
 use Rattle.naming.proofs.Listing.{commas-first}

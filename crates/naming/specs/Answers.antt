@@ -9,7 +9,7 @@ use Rattle.rules.specs.Limits.{tableCells, nameBytes}
 use Rattle.rules.specs.Factor.{Column}
 use Rattle.rules.specs.Design.{plotsWithin}
 use Rattle.rules.specs.Sheet.{question3}
-use Rattle.rules.specs.Naming.{Kind as Rule, plot, treatment, nameOn, NameAnswer}
+use Rattle.rules.specs.Naming.{Kind as Rule, plot, treatment, nameOn}
 use Rattle.sheet.specs.declared.header.Header.{Header}
 use Rattle.naming.specs.declared.Kind.{Kind}
 use Rattle.naming.specs.declared.Kind.the-variants.{Plot, Treatment}
