@@ -1,25 +1,28 @@
 -- Laws of the entries: the kind's columns, and the answers by their questions.
 -- Assumes nothing.
-use mathlib.Core.Path.{_≡_, refl, sym, ap, _∙_}
+use mathlib.Core.Path.{_≡_, refl, ap, _∙_}
 use mathlib.Core.Bool.{Bool, true, false, _&&_}
 use mathlib.Core.List.{List, []}
-use Prim.Native.Nat.{ℕ, suc, _+_, _*_, _≤_, _<_}
+use Prim.Native.Nat.{ℕ, suc, _≤_, _<_}
 use native.Mathlib.Omega.{arith}
 use lib.Dec.{eqb, ltb, leb}
-use lib.ListN.{length}
+use lib.ListN.{length, take}
+use lib.Seq.{take-all}
 use borrow.Author.Tests.{leb-true, ltb-true, eqb-true, lt-ltb, lt-leb, le-leb, eq-eqb}
 use Rattle.rules.specs.Factor.{Column}
-use Rattle.rules.specs.Family.{Family, membersOf, wellFormed}
+use Rattle.rules.specs.Family.{Family, columnsFrom, membersOf, wellFormed}
 use Rattle.rules.specs.Design.{plotsWithin, allNonzero}
 use Rattle.rules.specs.Sheet.{upTo, countKind, header, question2, question3}
-use Rattle.rules.specs.Naming.{Kind as Rule, markOf, firstColumn, kindColumns, nameOn, nameAt, nameRefused, NameAnswer, namingWithin, namingFrom7, naming}
+use Rattle.rules.specs.Naming.{Kind as Rule, markOf, firstColumn, kindNames, kindColumns, nameOn, nameAt, nameRefused, namingWithin, namingFrom7, naming}
+use Rattle.rules.proofs.Buffer.{length-columns}
+use Rattle.rules.proofs.NameSize.{names-short, bytes-length}
 use Rattle.rules.proofs.Sheet.{and-left, and-right, header-form}
 use Rattle.sheet.specs.Answers.{headed}
 use Rattle.sheet.specs.declared.header.Header.{Header}
 use Rattle.sheet.proofs.HeaderLaws.{headed-yes}
 use Rattle.naming.specs.declared.Kind.{Kind}
 use Rattle.naming.specs.declared.Kind.the-variants.{Plot, Treatment}
-use Rattle.naming.specs.Answers.{kindOf, countIn, memberFits, nameable, nameFor}
+use Rattle.naming.specs.Answers.{kindOf, countIn, memberFits, countedOn, nameFor}
 
 -- ---- the columns of the kind
 
@@ -44,38 +47,52 @@ first-column Treatment = omega arith
 
 -- ---- one member
 
-pub record Fits (n tableLength nameLength memberLength : ℕ) : Type 0 where
+pub record Fits (n count tableLength nameLength memberLength : ℕ) : Type 0 where
   pub few-plots : n ≤ 240
+  pub few : count ≤ 6
   pub long : 2880 ≤ tableLength
   pub room : 96 ≤ nameLength
   pub on : memberLength ≡ n
 
-pub fits : (n tableLength nameLength memberLength : ℕ) → memberFits n tableLength nameLength memberLength ≡ true → Fits n tableLength nameLength memberLength
+pub fits : (n count tableLength nameLength memberLength : ℕ) → memberFits n count tableLength nameLength memberLength ≡ true → Fits n count tableLength nameLength memberLength
 unfolding memberFits plotsWithin
-fits n t r m e =
+fits n c t r m e =
     let p : Bool = ltb 0 n && leb n 240 in
-    let e1 = and-left (p && leb 2880 t && leb 96 r) (eqb m n) e in
-    let e2 = and-left (p && leb 2880 t) (leb 96 r) e1 in
-    let e3 = and-left p (leb 2880 t) e2 in
+    let e1 = and-left (p && leb c 6 && leb 2880 t && leb 96 r) (eqb m n) e in
+    let e2 = and-left (p && leb c 6 && leb 2880 t) (leb 96 r) e1 in
+    let e3 = and-left (p && leb c 6) (leb 2880 t) e2 in
+    let e4 = and-left p (leb c 6) e3 in
     record {
-      few-plots = leb-true n 240 (and-right (ltb 0 n) (leb n 240) e3);
-      long = leb-true 2880 t (and-right p (leb 2880 t) e2);
-      room = leb-true 96 r (and-right (p && leb 2880 t) (leb 96 r) e1);
-      on = eqb-true m n (and-right (p && leb 2880 t && leb 96 r) (eqb m n) e);
+      few-plots = leb-true n 240 (and-right (ltb 0 n) (leb n 240) e4);
+      few = leb-true c 6 (and-right p (leb c 6) e3);
+      long = leb-true 2880 t (and-right (p && leb c 6) (leb 2880 t) e2);
+      room = leb-true 96 r (and-right (p && leb c 6 && leb 2880 t) (leb 96 r) e1);
+      on = eqb-true m n (and-right (p && leb c 6 && leb 2880 t && leb 96 r) (eqb m n) e);
     }
 
-module _ (kind : Rule) (text levels : List ℕ) (n : ℕ) (F : Column) (place room : ℕ) where
-  pub unnamed-line : question3 text ≡ false → nameFor kind text levels n F place room ≡ []
-  unfolding nameFor nameable
-  unnamed-line e = rw (e, nameFor)
+-- by the columns counted in the first line it is the rules' name
+pub counted-on : (kind : Rule) (text : List ℕ) (n : ℕ) (levels : List ℕ) (count place : ℕ) (F : Column) → count ≡ countKind (markOf kind) (header text) → countedOn kind text n levels count place F ≡ nameOn kind text n levels place F
+unfolding countedOn nameOn kindColumns
+counted-on kind text n levels count place F e = rw e
 
-  pub unnamed-fits : question3 text ≡ true → memberFits n (length levels) room (length F) ≡ false → nameFor kind text levels n F place room ≡ []
-  unfolding nameFor nameable
-  unnamed-fits e f = rw (e, f, nameFor)
+module _ (kind : Rule) (text levels : List ℕ) (n count : ℕ) (F : Column) (place room : ℕ) where
+  pub unnamed : memberFits n count (length levels) room (length F) ≡ false → nameFor kind text levels n count F place room ≡ []
+  unfolding nameFor
+  unnamed e = rw (e, nameFor)
 
-  pub named-for : question3 text ≡ true → memberFits n (length levels) room (length F) ≡ true → nameFor kind text levels n F place room ≡ nameOn kind text n levels place F
-  unfolding nameFor nameable
-  named-for e f = rw (e, f, nameFor)
+  pub named : memberFits n count (length levels) room (length F) ≡ true → nameFor kind text levels n count F place room ≡ take room (countedOn kind text n levels count place F)
+  unfolding nameFor
+  named e = rw (e, nameFor)
+
+  -- by the columns of a first line of the form there is room for the name
+  pub named-for : question3 text ≡ true → count ≡ countKind (markOf kind) (header text) → place ≤ 32 → memberFits n count (length levels) room (length F) ≡ true → nameFor kind text levels n count F place room ≡ nameOn kind text n levels place F
+  unfolding countedOn
+  named-for q is h e =
+      let f = fits n count (length levels) room (length F) e in
+      let Cs = columnsFrom n levels (firstColumn kind) count in
+      let size : length Cs ≡ count = length-columns n levels (firstColumn kind) count in
+      let short = bytes-length (kindNames kind (header text)) (names-short kind (header text) (header-form text q .columns)) n Cs place F (omega (arith, f .few)) (omega arith) in
+      named e ∙ take-all room (countedOn kind text n levels count place F) (omega (arith, f .room, short)) ∙ counted-on kind text n levels count place F is
 
 -- ---- the entry's questions
 
@@ -150,7 +167,7 @@ ranges n size place t f r e =
       room = leb-true 96 r (and-right (p && ltb 0 place && leb place size && leb 2880 t && leb 7680 f) (leb 96 r) e);
     }
 
-pub ranges-fit : (n size place t f r m : ℕ) → Ranges n size place t f r → m ≡ n → memberFits n t r m ≡ true
+pub ranges-fit : (n count size place t f r m : ℕ) → Ranges n size place t f r → count ≤ 6 → m ≡ n → memberFits n count t r m ≡ true
 unfolding memberFits plotsWithin
-ranges-fit n size place t f r m w e =
-    rw (lt-ltb 0 n (w .some-plots), le-leb n 240 (w .few-plots), le-leb 2880 t (w .table), le-leb 96 r (w .room), eq-eqb m n e)
+ranges-fit n count size place t f r m w few e =
+    rw (lt-ltb 0 n (w .some-plots), le-leb n 240 (w .few-plots), le-leb count 6 few, le-leb 2880 t (w .table), le-leb 96 r (w .room), eq-eqb m n e)

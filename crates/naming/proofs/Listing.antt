@@ -3,15 +3,15 @@
 use mathlib.Core.Path.{_≡_, refl, sym, ap, ap₂, _∙_}
 use mathlib.Core.Bool.{Bool, true, false}
 use mathlib.Core.List.{List, [], _∷_, _++_, append-nil}
-use Prim.Native.Nat.{ℕ, zero, suc, _+_, _-_, _≤_, _<_, min}
+use Prim.Native.Nat.{ℕ, suc, _+_, _-_, _≤_, _<_}
 use native.Mathlib.Nat.{sub-zero}
 use native.Mathlib.Omega.{arith}
 use lib.ListN.{length, getD, take, drop}
-use lib.Seq.{paste-zero, slice, take-add, drop-at, length-take-le}
+use lib.Seq.{slice, take-add, drop-at, length-take-le}
 use Rattle.rules.specs.Lists.{passingFrom}
 use Rattle.rules.specs.Names.{withCommas}
-use Rattle.decimal.specs.Writing.{fits, written, placeAfter}
-use Rattle.decimal.proofs.Writing.{written-append}
+use Rattle.decimal.specs.Writing.{written, placeAfter}
+use Rattle.decimal.proofs.Writing.{written-nil, place-nil, written-append}
 use Rattle.naming.specs.Listing.{separated, afterCommas, listing}
 
 -- ---- the numbers that pass, from i on
@@ -53,18 +53,6 @@ pub listing-none : (first : Bool) (names : List (List ℕ)) → listing first na
 unfolding withCommas afterCommas
 listing-none true names = refl
 listing-none false names = refl
-
--- ---- nothing written
-
-pub written-none : (out : List ℕ) (at : ℕ) → written out at [] ≡ out
-unfolding written fits
-written-none out at =
-    let z : min 0 (length out - at) ≡ 0 = omega arith in
-    rw z (sym (paste-zero out at []))
-
-pub place-none : (out : List ℕ) (at : ℕ) → placeAfter out at [] ≡ at
-unfolding placeAfter fits
-place-none out at = omega arith
 
 -- ---- one text after another
 
@@ -123,8 +111,8 @@ module _ (names : List (List ℕ)) (t : ℕ → Bool) (count : ℕ) (out₀ : Li
 
     pub lists-end : count ≤ i → (out ≡ written out₀ at (withCommas names (passingFrom t 0 count))) × (end ≡ placeAfter out₀ at (withCommas names (passingFrom t 0 count)))
     lists-end h = (
-      sym (ap (written out end) none ∙ written-none out end) ∙ is .bytes,
-      sym (ap (placeAfter out end) none ∙ place-none out end) ∙ is .place,
+      sym (ap (written out end) none ∙ written-nil out end) ∙ is .bytes,
+      sym (ap (placeAfter out end) none ∙ place-nil out end) ∙ is .place,
     )
       where
         none : listing first names (passingFrom t i (count - i)) ≡ []

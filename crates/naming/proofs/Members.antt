@@ -9,14 +9,14 @@ use native.Mathlib.Nat.{not-suc-le-zero}
 use native.Mathlib.Numerals.{add-one}
 use native.Mathlib.Omega.{arith}
 use lib.Dec.{eqb, ltb, leb}
-use lib.ListN.{length, take, drop, set, take-append-drop}
-use lib.Seq.{take-all, length-take-le}
-use borrow.Author.Tests.{eqb-true, eqb-false, eq-eqb, ne-eqb, leb-true, leb-false}
+use lib.ListN.{length, take, drop, set, length-take, take-append-drop}
+use lib.Seq.{take-take, take-length}
+use borrow.Author.Tests.{eqb-true, eqb-false, eq-eqb, ne-eqb, leb-true}
 use borrow.Rule.Slice.PartMut.{midOf, putMid}
 use Rattle.rules.specs.Factor.{Column, number, classes}
 use Rattle.rules.specs.Design.{plotsWithin}
 use Rattle.rules.specs.Family.{columnsFrom}
-use Rattle.rules.specs.Naming.{Kind as Rule, markOf, firstColumn, kindColumns, nameOn}
+use Rattle.rules.specs.Naming.{Kind as Rule, markOf, firstColumn}
 use Rattle.rules.specs.Sheet.{columnNames, countKind, header}
 use Rattle.rules.specs.Names.{equivalentColumn, nameByColumn, nameOf, bytesOf}
 use Rattle.rules.proofs.Numbering.{by-cases}
@@ -24,8 +24,9 @@ use Rattle.rules.proofs.Sheet.{and-left, and-right}
 use Rattle.families.specs.Lent.{columnAt}
 use Rattle.decimal.specs.Writing.{fits, written, placeAfter}
 use Rattle.decimal.proofs.Writing.{written-nil, place-nil, place-all}
-use Rattle.naming.specs.Answers.{startingWith}
+use Rattle.naming.specs.Answers.{startingWith, countedOn}
 use Rattle.naming.specs.Members.{namesWritten, lengthsWritten, membersFit, memberName, nameBy, countedName, extremeName}
+use Rattle.naming.proofs.Entry.{counted-on}
 use Rattle.naming.proofs.Numbered.{On, by-column-numbered}
 use Rattle.naming.proofs.Rules.{one-class, all-classes, between}
 
@@ -88,46 +89,34 @@ pub name-by-numbered : (names : List (List ℕ)) (n : ℕ) (Cs : List Column) �
 unfolding nameBy
 name-by-numbered names n Cs on buffer i = ap (bytesOf names) (name-numbered n (columnAt n buffer i) Cs on (suc i))
 
--- the columns of the kind
-pub name-by-kind : (kind : Rule) (text : List ℕ) (n : ℕ) (levels buffer : List ℕ) (mark first count : ℕ) → mark ≡ markOf kind → first ≡ firstColumn kind → count ≡ countKind (markOf kind) (header text)
-    → (i : ℕ) → nameBy (columnNames mark (header text)) (columnsFrom n levels first count) n buffer i ≡ memberName kind text n levels buffer i
-unfolding nameBy memberName nameOn kindColumns
-name-by-kind kind text n levels buffer mark first count em ef ec i = rw (em, ef, ec)
-
--- the same of the columns counted in the first line
+-- by the columns counted in the first line it is the name by its kind
 pub counted-name : (kind : Rule) (text : List ℕ) (n : ℕ) (levels : List ℕ) (count : ℕ) (buffer : List ℕ) → count ≡ countKind (markOf kind) (header text)
     → (i : ℕ) → countedName kind text n levels count buffer i ≡ memberName kind text n levels buffer i
-unfolding countedName
-counted-name kind text n levels count buffer e i = name-by-kind kind text n levels buffer (markOf kind) (firstColumn kind) count refl refl e i
+unfolding countedName memberName
+counted-name kind text n levels count buffer e i = counted-on kind text n levels count (suc i) (columnAt n buffer i) e
 
 -- the names that a call is given by the kind's byte and first column
 pub counted-by : (kind : Rule) (text : List ℕ) (n : ℕ) (levels : List ℕ) (count : ℕ) (buffer : List ℕ) (mark first : ℕ) → mark ≡ markOf kind → first ≡ firstColumn kind
     → (i : ℕ) → nameBy (columnNames mark (header text)) (columnsFrom n levels first count) n buffer i ≡ countedName kind text n levels count buffer i
-unfolding countedName
+unfolding nameBy countedName countedOn
 counted-by kind text n levels count buffer mark first em ef i = rw (em, ef)
 
 -- as much of a text as there is room for
 module _ (out W : List ℕ) where
-  pub written-held : written out 0 W ≡ written out 0 (take (length out) W)
+  held-length : length (take (length out) W) ≡ min (length W) (length out - 0)
+  held-length = omega (arith, length-take (length out) W)
+
+  pub written-held : written out 0 W ≡ startingWith (take (length out) W) out
   unfolding written fits
   written-held =
-      by-cases (leb (length W) (length out))
-      (λ e. rw (take-all (length out) W (leb-true _ _ e)))
-      (λ e. let h = leb-false (length W) (length out) e in
-      let l : length (take (length out) W) ≡ length out = length-take-le (length out) W (omega arith) in
-      let a : min (length W) (length out - 0) ≡ length out = omega arith in
-      let b : min (length (take (length out) W)) (length out - 0) ≡ length out = omega arith in
-      let t : take (length out) (take (length out) W) ≡ take (length out) W = take-all (length out) (take (length out) W) (omega arith) in
-      rw (a, b) (ap (λ (x : List ℕ). take 0 out ++ x ++ drop (0 + length out) out) (sym t)))
+      let X = take (length out) W in
+      let front : take (length X) W ≡ X = sym (take-take (length X) (length out) W (omega (arith, held-length))) ∙ take-length X in
+      let z : 0 + length X ≡ length X = omega arith in
+      rw (← held-length, z, front)
 
-  pub place-held : placeAfter out 0 W ≡ placeAfter out 0 (take (length out) W)
+  pub place-held : placeAfter out 0 W ≡ length (take (length out) W)
   unfolding placeAfter fits
-  place-held =
-      by-cases (leb (length W) (length out))
-      (λ e. rw (take-all (length out) W (leb-true _ _ e)))
-      (λ e. let h = leb-false (length W) (length out) e in
-      let l : length (take (length out) W) ≡ length out = length-take-le (length out) W (omega arith) in
-      omega arith)
+  place-held = omega (arith, held-length)
 
 -- ---- names side by side
 

@@ -8,7 +8,7 @@ use native.Mathlib.Nat.{add-zero, zero-add, not-suc-le-zero, le-of-suc-le-suc, l
 use native.Mathlib.Numerals.{add-one}
 use native.Mathlib.Omega.{arith}
 use lib.Dec.{ltb}
-use lib.ListN.{length, getD, take, drop, replicate, drop-of-length-le, length-append, length-drop}
+use lib.ListN.{length, getD, take, drop, replicate, drop-of-length-le, length-drop}
 use lib.Seq.{drop-cons, take-all, take-at, take-length, length-take-le}
 use Rattle.rules.specs.Factor.{Column, every, finer, number, infimum, universal}
 use Rattle.rules.specs.Family.{alike, columnsFrom, membersOf, allNumbered}
@@ -18,10 +18,7 @@ use Rattle.rules.proofs.Words.{bit-word}
 use Rattle.rules.proofs.Bits.{every-suc, every-ext}
 use Rattle.rules.proofs.Buffer.{put, members-add, columns-snoc, length-columns, length-members, column-at, member-is}
 use Rattle.rules.proofs.Members.{alike-self, clash}
-use Rattle.rules.proofs.Numbering.{by-cases, length-number, number-number, number-infimum}
-use Rattle.rules.proofs.Bounds.{finer-refl, numbered-equal, length-infimum′, infimum-left, infimum-greatest}
-use Rattle.rules.proofs.ClassCount.{finer-universal}
-use Rattle.rules.proofs.Extremes.{length-universal}
+use Rattle.rules.proofs.Numbering.{by-cases, length-number, number-number}
 use Rattle.rules.proofs.Tests.{every-at}
 use Rattle.factor.specs.Lent.{common, onCommon, overlay, plotsOf}
 use Rattle.decimal.proofs.Writing.{written-all}
@@ -53,7 +50,7 @@ numbered-part n at out l s h =
     ap (λ (F : Column). take n (overlay out (number F))) e ∙ overlay-front n out (number (take n (drop at l))) (length-number (take n (drop at l)) ∙ len)
 
 -- the infimum of a column on n plots and the first n numbers of an array
-module _ (n : ℕ) (out : List ℕ) (F M : Column) (s : n ≤ 240) (lO : length out ≡ 240) (lF : length F ≡ n) (lM : length M ≡ 240) (l : length (infimum F (take n M)) ≡ n) where
+module _ (n : ℕ) (out : List ℕ) (F M : Column) (s : n ≤ 240) (lF : length F ≡ n) (lM : length M ≡ 240) (l : length (infimum F (take n M)) ≡ n) where
   common-is : onCommon infimum F M ≡ infimum F (take n M)
   common-is =
       let e : common F M ≡ n = rw (lF, lM) (omega arith) in
@@ -62,17 +59,12 @@ module _ (n : ℕ) (out : List ℕ) (F M : Column) (s : n ≤ 240) (lO : length 
   pub infimum-part : take n (overlay out (onCommon infimum F M)) ≡ infimum F (take n M)
   infimum-part = ap (λ (X : Column). take n (overlay out X)) common-is ∙ overlay-front n out (infimum F (take n M)) l
 
-  pub infimum-length : length (overlay out (onCommon infimum F M)) ≡ 240
-  infimum-length = ap (λ (X : Column). length (overlay out X)) common-is ∙ rw (length-append, length-drop, l, lO) (omega arith)
-
 -- the column itself, written into an array
-pub column-part : (n at : ℕ) (zeros l : List ℕ) → n ≤ 240 → at + n ≤ length l → length zeros ≡ 240
-    → (take n (written zeros 0 (take (at + n - at) (drop at l))) ≡ take n (drop at l)) × (length (written zeros 0 (take (at + n - at) (drop at l))) ≡ 240)
-column-part n at zeros l small h z =
+pub column-part : (n at : ℕ) (out l : List ℕ) → n ≤ 240 → at + n ≤ length l → length out ≡ 240 → take n (written out 0 (take (at + n - at) (drop at l))) ≡ take n (drop at l)
+column-part n at out l small h z =
     let X = take n (drop at l) in
     let len : length X ≡ n = length-part n at l h in
-    let is : written zeros 0 (take (at + n - at) (drop at l)) ≡ X ++ drop (length X) zeros = ap (written zeros 0) (part-is n at l) ∙ written-all zeros X (omega arith) in
-    (ap (take n) is ∙ take-at X (drop (length X) zeros) n len, ap length is ∙ rw (length-append, length-drop, len, z) (omega arith))
+    ap (λ (Y : Column). take n (written out 0 Y)) (part-is n at l) ∙ ap (take n) (written-all out X (omega arith)) ∙ take-at X (drop (length X) out) n len
 
 pub ones : (n m : ℕ) → n ≤ m → take n (replicate m 1) ≡ universal n
 unfolding universal

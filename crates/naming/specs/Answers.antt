@@ -4,12 +4,14 @@ use mathlib.Core.Bool.{Bool, true, false, _&&_}
 use mathlib.Core.List.{List, [], _++_}
 use Prim.Native.Nat.{ℕ}
 use lib.Dec.{eqb, leb}
-use lib.ListN.{length, drop}
-use Rattle.rules.specs.Limits.{tableCells, nameBytes}
+use lib.ListN.{length, take, drop}
+use Rattle.rules.specs.Limits.{mostColumns, tableCells, nameBytes}
 use Rattle.rules.specs.Factor.{Column}
 use Rattle.rules.specs.Design.{plotsWithin}
-use Rattle.rules.specs.Sheet.{question3}
-use Rattle.rules.specs.Naming.{Kind as Rule, plot, treatment, nameOn, NameAnswer}
+use Rattle.rules.specs.Family.{columnsFrom}
+use Rattle.rules.specs.Sheet.{columnNames, header}
+use Rattle.rules.specs.Names.{nameOf, bytesOf}
+use Rattle.rules.specs.Naming.{Kind as Rule, plot, treatment, firstColumn, kindNames}
 use Rattle.sheet.specs.declared.header.Header.{Header}
 use Rattle.naming.specs.declared.Kind.{Kind}
 use Rattle.naming.specs.declared.Kind.the-variants.{Plot, Treatment}
@@ -26,20 +28,20 @@ abbrev pub countIn : Kind → Header → ℕ
 countIn Plot h = h .«plot_columns»
 countIn Treatment h = h .«treatment_columns»
 
--- 1 to 240 plots, lent slices long enough, and a member on these plots
-unfoldable pub memberFits : ℕ → ℕ → ℕ → ℕ → Bool
+-- 1 to 240 plots, at most 6 columns of the kind, lent slices long enough, and a member on these plots
+unfoldable pub memberFits : ℕ → ℕ → ℕ → ℕ → ℕ → Bool
 unfolding plotsWithin
-memberFits n tableLength nameLength memberLength = plotsWithin n && leb tableCells tableLength && leb nameBytes nameLength && eqb memberLength n
+memberFits n count tableLength nameLength memberLength = plotsWithin n && leb count mostColumns && leb tableCells tableLength && leb nameBytes nameLength && eqb memberLength n
 
--- what one member is named by: a first line of the form, and what fits it
-unfoldable pub nameable : List ℕ → List ℕ → ℕ → Column → ℕ → Bool
-unfolding question3 memberFits
-nameable text levels n F room = question3 text && memberFits n (length levels) room (length F)
+-- the name of the member F at a place, from 1, by the first `count` columns of its kind
+unfoldable pub countedOn : Rule → List ℕ → ℕ → List ℕ → ℕ → ℕ → Column → List ℕ
+unfolding bytesOf nameOf columnNames columnsFrom header
+countedOn kind text n levels count place F = bytesOf (kindNames kind (header text)) (nameOf n (columnsFrom n levels (firstColumn kind) count) place F)
 
--- the name of one member, whatever its family; no byte where it cannot be named
-unfoldable pub nameFor : Rule → List ℕ → List ℕ → ℕ → Column → ℕ → ℕ → List ℕ
-unfolding nameable nameOn
-nameFor kind text levels n F place room = elim (nameable text levels n F room) [ true ↦ nameOn kind text n levels place F | false ↦ [] ]
+-- as much of it as the buffer holds; no byte where the member cannot be named
+unfoldable pub nameFor : Rule → List ℕ → List ℕ → ℕ → ℕ → Column → ℕ → ℕ → List ℕ
+unfolding memberFits countedOn
+nameFor kind text levels n count F place room = elim (memberFits n count (length levels) room (length F)) [ true ↦ take room (countedOn kind text n levels count place F) | false ↦ [] ]
 
 -- a buffer that starts with these bytes, and past them is as it was
 abbrev pub startingWith : List ℕ → List ℕ → List ℕ

@@ -8,12 +8,10 @@ use lib.ListN.{length, take, drop, set}
 use Rattle.rules.specs.Limits.{mostMembers, mostColumns, tableCells, familyBytes, nameBytes}
 use Rattle.rules.specs.Factor.{Column, classes}
 use Rattle.rules.specs.Design.{plotsWithin}
-use Rattle.rules.specs.Family.{columnsFrom}
-use Rattle.rules.specs.Sheet.{columnNames, header}
 use Rattle.rules.specs.Names.{name-U, name-E, nameOf, bytesOf}
-use Rattle.rules.specs.Naming.{Kind as Rule, markOf, firstColumn, nameOn}
+use Rattle.rules.specs.Naming.{Kind as Rule, nameOn}
 use Rattle.families.specs.Lent.{columnAt}
-use Rattle.naming.specs.Answers.{startingWith}
+use Rattle.naming.specs.Answers.{startingWith, countedOn}
 
 -- the buffer once the first m of the names f 0, f 1, .. are written, name i from byte 96 × i on
 unfoldable pub namesWritten : (ℕ → List ℕ) → List ℕ → ℕ → List ℕ
@@ -43,8 +41,8 @@ nameBy names Cs n buffer i = bytesOf names (nameOf n Cs (suc i) (columnAt n buff
 
 -- the name of member i, from 0, by the first `count` columns of its kind
 unfoldable pub countedName : Rule → List ℕ → ℕ → List ℕ → ℕ → List ℕ → ℕ → List ℕ
-unfolding columnNames header columnsFrom nameBy
-countedName kind text n levels count buffer i = nameBy (columnNames (markOf kind) (header text)) (columnsFrom n levels (firstColumn kind) count) n buffer i
+unfolding countedOn
+countedName kind text n levels count buffer i = countedOn kind text n levels count (suc i) (columnAt n buffer i)
 
 -- as much of a name as its 96 bytes hold; by columns of a first line of the form it is the name
 abbrev pub held : (ℕ → List ℕ) → ℕ → List ℕ

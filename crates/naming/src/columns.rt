@@ -122,38 +122,34 @@ pub fn equivalent_column(columns: &[u8], n: usize, count: usize, member: &[u8]) 
     0
 }
 
-// Column `c` met with what was met before it, in the first `n` bytes: the column itself where nothing was.
-fn meet(columns: &[u8], n: usize, c: usize, met: [u8; PLOTS], some: bool) -> [u8; PLOTS]
-    requires { ⌜ (n ≤ 240) × (1440 ≤ length (now columns)) × (c < 6) × (number (columnAt n (now columns) c) ≡ columnAt n (now columns) c) × (length met ≡ 240) × (some ≡ false → take n met ≡ universal n) ⌝ }
-    ensures { λ r. ⌜ take n r ≡ infimum (columnAt n (now (columns .entry)) c) (take n met) ⌝ }
-    ensures { λ r. ⌜ length r ≡ 240 ⌝ }
+// Meets column `c` with what was met before it, in the first `n` bytes. Where nothing was it is the column itself.
+fn meet(columns: &[u8], n: usize, c: usize, some: bool, met: &mut [u8; PLOTS])
+    requires { ⌜ (n ≤ 240) × (1440 ≤ length (now columns)) × (c < 6) × (number (columnAt n (now columns) c) ≡ columnAt n (now columns) c) × (some ≡ false → take n (now met) ≡ universal n) ⌝ }
+    ensures { λ _. ⌜ take n (now (met .exit)) ≡ infimum (columnAt n (now (columns .entry)) c) (take n (now (met .entry))) ⌝ }
 {
     let a = PLOTS * c;
     let e = a + n;
-    let mut next = [0u8; PLOTS];
     if some {
-        standing::infimum(&columns[a..e], &met, &mut next);
-        return next;
+        let mut next = [0u8; PLOTS];
+        standing::infimum(&columns[a..e], met, &mut next);
+        *met = next;
+        return;
     }
-    decimal::write_bytes(&columns[a..e], &mut next, 0);
-    next
+    decimal::write_bytes(&columns[a..e], met, 0);
 }
 
-// The infimum of all columns in the word, in the first `n` bytes. The last column is met first.
-pub fn infimum_above(columns: &[u8], n: usize, count: usize, above: u32) -> [u8; PLOTS]
-    requires { ⌜ Columns n count (now columns) × (allNumbered (membersOf n (now columns) count) ≡ true) ⌝ }
-    ensures { λ r. ⌜ take n r ≡ infimumBy (bitAt above) n 0 (membersOf n (now (columns .entry)) count) ⌝ }
+// The infimum of all columns in the word, in the first `n` bytes of `met`, which are 1 before. The last column is met first.
+pub fn infimum_above(columns: &[u8], n: usize, count: usize, above: u32, met: &mut [u8; PLOTS])
+    requires { ⌜ Columns n count (now columns) × (allNumbered (membersOf n (now columns) count) ≡ true) × (take n (now met) ≡ universal n) ⌝ }
+    ensures { λ _. ⌜ take n (now (met .exit)) ≡ infimumBy (bitAt above) n 0 (membersOf n (now (columns .entry)) count) ⌝ }
 {
-    let mut met = [1u8; PLOTS];
     let mut some = false;
     let mut c = count;
     while 0 < c {
         c -= 1;
         if has(above, c) {
-            let next = meet(columns, n, c, met, some);
-            met = next;
+            meet(columns, n, c, some, met);
             some = true;
         }
     }
-    met
 }

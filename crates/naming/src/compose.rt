@@ -2,7 +2,7 @@
 ghost use mathlib.Core.Path.{_≡_};
 ghost use mathlib.Core.Bool.{true};
 ghost use mathlib.Core.List.{[]};
-ghost use Prim.Native.Nat.{_+_, _≤_, _<_};
+ghost use Prim.Native.Nat.{_+_, _≤_};
 ghost use lib.ListN.{length, getD};
 ghost use Rattle.rules.specs.Family.{membersOf, columnsFrom, allNumbered};
 ghost use Rattle.rules.specs.Lists.{passingFrom, bitAt};
@@ -105,7 +105,8 @@ fn by_infimum(
     ensures { λ _. ⌜ now (out .exit) ≡ written (now (out .entry)) 0 (bytesOf (columnNames mark (header (now (text .entry)))) (nameByInfimum n (membersOf n (now (columns .entry)) count) place (now (member .entry)))) ⌝ }
 {
     let above = columns::above_word(columns, n, count, member);
-    let met = columns::infimum_above(columns, n, count, above);
+    let mut met = [1u8; PLOTS];
+    columns::infimum_above(columns, n, count, above, &mut met);
     if factor::alike(&met[..n], member) {
         return put_infimum(text, mark, columns, n, count, above, out);
     }

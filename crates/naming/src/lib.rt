@@ -30,31 +30,26 @@ pub enum Named {
     Refused(u32),
 }
 
-// Names one member, whatever its family, and answers how many bytes the name has: 0 where the first line has not the form, a count or a length is out of range,
-// or the member is not on these plots.
-pub fn name_of(
+// Names one member, whatever its family and whatever the first line, by the first `count` columns of the kind, as far as the buffer holds
+// the name. Answers how many bytes are written: 0 where a count or a length is out of range, or the member is not on these plots.
+pub fn name_counted(
     text: &[u8],
     levels: &[Level],
     plots: usize,
     kind: Kind,
+    count: usize,
     member: &[u8],
     place: usize,
     name: &mut [u8],
 ) -> usize
-    ensures answer { λ r. ⌜ r ≡ length (nameFor (kindOf kind) (now (text .entry)) (now (levels .entry)) plots (now (member .entry)) place (length (now (name .entry)))) ⌝ }
-    ensures buffer { λ _. ⌜ now (name .exit) ≡ startingWith (nameFor (kindOf kind) (now (text .entry)) (now (levels .entry)) plots (now (member .entry)) place (length (now (name .entry)))) (now (name .entry)) ⌝ }
+    ensures answer { λ r. ⌜ r ≡ length (nameFor (kindOf kind) (now (text .entry)) (now (levels .entry)) plots count (now (member .entry)) place (length (now (name .entry)))) ⌝ }
+    ensures buffer { λ _. ⌜ now (name .exit) ≡ startingWith (nameFor (kindOf kind) (now (text .entry)) (now (levels .entry)) plots count (now (member .entry)) place (length (now (name .entry)))) (now (name .entry)) ⌝ }
 {
-    let h = sheet::read_header(text);
-    let end = h.end;
-    if end == 0 {
-        return 0;
-    }
-    if !questions::member_fits(plots, levels.len(), name.len(), member.len()) {
+    if !questions::member_fits(plots, count, levels.len(), name.len(), member.len()) {
         return 0;
     }
     let mark = kinds::mark(kind);
     let first = kinds::first(kind);
-    let count = kinds::count(kind, h);
     compose::put_name(text, mark, levels, plots, first, count, member, place, name)
 }
 
@@ -163,6 +158,6 @@ fn from_7(
     }
     let a = PLOTS * (place - 1);
     let e = a + plots;
-    let m = name_of(text, levels, plots, kind, &family[a..e], place, name);
+    let m = name_counted(text, levels, plots, kind, count, &family[a..e], place, name);
     Named::Written(m)
 }

@@ -15,14 +15,17 @@ use limits::MEMBERS;
 use limits::NAME;
 use limits::PLOTS;
 
-// Whether one member can be named: the plots and the lengths are in range, and it is on these plots.
-pub fn member_fits(plots: usize, levels: usize, name: usize, member: usize) -> bool
-    ensures { λ r. ⌜ r ≡ memberFits plots levels name member ⌝ }
+// Whether one member can be named: the plots, the columns and the lengths are in range, and it is on these plots.
+pub fn member_fits(plots: usize, count: usize, levels: usize, name: usize, member: usize) -> bool
+    ensures { λ r. ⌜ r ≡ memberFits plots count levels name member ⌝ }
 {
     if plots < 1 {
         return false;
     }
     if PLOTS < plots {
+        return false;
+    }
+    if COLUMNS < count {
         return false;
     }
     if levels < LEVELS {

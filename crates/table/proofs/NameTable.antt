@@ -14,7 +14,8 @@ use Rattle.rules.specs.Family.{Family, membersOf}
 use Rattle.rules.specs.Design.{plotsWithin}
 use Rattle.rules.specs.Relation.{memberAt}
 use Rattle.rules.specs.Lists.{tabulate}
-use Rattle.rules.specs.Naming.{Kind, nameOn, nameAt}
+use Rattle.rules.specs.Naming.{Kind, markOf, nameOn, nameAt}
+use Rattle.rules.specs.Sheet.{countKind, header}
 use Rattle.rules.specs.Table.{namesFrom}
 use Rattle.rules.proofs.Buffer.{member-is}
 use Rattle.rules.proofs.NameSize.{name-length}
@@ -29,22 +30,22 @@ use Rattle.table.specs.Names.{Nameable, Named, nameIn, namesIn, placedNa
 -- ---- one name
 
 -- a member of the buffer has a name
-pub fits-place : (text levels buffer : List ℕ) (n i room : ℕ) → Nameable text levels buffer n → i < 32 → 96 ≤ room → memberFits n (length levels) room (length (columnAt n buffer i)) ≡ true
+pub fits-place : (text levels buffer : List ℕ) (n count i room : ℕ) → Nameable text levels buffer n → count ≤ 6 → i < 32 → 96 ≤ room → memberFits n count (length levels) room (length (columnAt n buffer i)) ≡ true
 unfolding memberFits plotsWithin
-fits-place text levels buffer n i room w h r =
+fits-place text levels buffer n count i room w k h r =
     let on : length (columnAt n buffer i) ≡ n = length-column n i buffer (w .few) h (w .long) in
-    rw (lt-ltb 0 n (w .some), le-leb n 240 (w .few), le-leb 2880 (length levels) (w .table), le-leb 96 room r, eq-eqb (length (columnAt n buffer i)) n on)
+    rw (lt-ltb 0 n (w .some), le-leb n 240 (w .few), le-leb count 6 k, le-leb 2880 (length levels) (w .table), le-leb 96 room r, eq-eqb (length (columnAt n buffer i)) n on)
 
 -- what naming the part answers is the name at the place
-pub name-placed : (kind : Kind) (text levels buffer : List ℕ) (n place room : ℕ) → Nameable text levels buffer n → 1 ≤ place → place ≤ 32 → 96 ≤ room
-    → nameFor kind text levels n (take (240 * (place - 1) + n - 240 * (place - 1)) (drop (240 * (place - 1)) buffer)) place room ≡ placedName kind text n levels buffer place
+pub name-placed : (kind : Kind) (text levels buffer : List ℕ) (n count place room : ℕ) → Nameable text levels buffer n → count ≡ countKind (markOf kind) (header text) → count ≤ 6 → 1 ≤ place → place ≤ 32 → 96 ≤ room
+    → nameFor kind text levels n count (take (240 * (place - 1) + n - 240 * (place - 1)) (drop (240 * (place - 1)) buffer)) place room ≡ placedName kind text n levels buffer place
 unfolding placedName
-name-placed kind text levels buffer n zero room w l h r = absurd (not-suc-le-zero l)
-name-placed kind text levels buffer n (suc i) room w l h r =
+name-placed kind text levels buffer n count zero room w is few l h r = absurd (not-suc-le-zero l)
+name-placed kind text levels buffer n count (suc i) room w is few l h r =
     let e : suc i - 1 ≡ i = omega arith in
-    ap (λ (k : ℕ). nameFor kind text levels n (take (240 * k + n - 240 * k) (drop (240 * k) buffer)) (suc i) room) e
-    ∙ ap (λ (F : List ℕ). nameFor kind text levels n F (suc i) room) (part-of n i buffer)
-    ∙ named-for kind text levels n (columnAt n buffer i) (suc i) room (w .form) (fits-place text levels buffer n i room w (omega arith) r)
+    ap (λ (k : ℕ). nameFor kind text levels n count (take (240 * k + n - 240 * k) (drop (240 * k) buffer)) (suc i) room) e
+    ∙ ap (λ (F : List ℕ). nameFor kind text levels n count F (suc i) room) (part-of n i buffer)
+    ∙ named-for kind text levels n count (columnAt n buffer i) (suc i) room (w .form) is h (fits-place text levels buffer n count i room w few (omega arith) r)
 
 -- no name at place 0
 pub name-none : (kind : Kind) (text levels buffer name : List ℕ) (n : ℕ) → 1 ≤ length name → set name 0 45 ≡ startingWith (placedName kind text n levels buffer 0) name

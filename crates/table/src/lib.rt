@@ -125,12 +125,13 @@ fn print_design(text: &[u8], levels: &[Level], counts: Counts, out: &mut [u8]) -
         &mut treatment_family,
     );
     let FullDesign::Accepted(sizes) = answer else {
-        let refusal = design_refusal(answer);
         return print_refusal(
             text,
             levels,
             plots,
-            refusal,
+            plot_columns,
+            treatment_columns,
+            design_refusal(answer),
             &plot_family,
             &treatment_family,
             out,
@@ -171,12 +172,14 @@ fn print_refusal(
     text: &[u8],
     levels: &[Level],
     plots: usize,
+    plot_columns: usize,
+    treatment_columns: usize,
     refusal: FullRefusal,
     plot_family: &[u8],
     treatment_family: &[u8],
     out: &mut [u8],
 ) -> usize
-    requires { ⌜ Nameable (now text) (now levels) (now «plot_family») plots × Nameable (now text) (now levels) (now «treatment_family») plots × (refusal .first ≤ 32) × (refusal .second ≤ 32) ⌝ }
+    requires { ⌜ Nameable (now text) (now levels) (now «plot_family») plots × Nameable (now text) (now levels) (now «treatment_family») plots × (refusal .first ≤ 32) × (refusal .second ≤ 32) × («plot_columns» ≡ countKind plotMark (header (now text))) × («treatment_columns» ≡ countKind treatmentMark (header (now text))) ⌝ }
     ensures answer { λ r. ⌜ r ≡ placeAfter (now (out .entry)) 0 (rowsBytes (placedRow (now (text .entry)) plots (now (levels .entry)) (now («plot_family» .entry)) (now («treatment_family» .entry)) (refusal .number) (refusal .first) (refusal .second) ∷ [])) ⌝ }
     ensures bytes { λ _. ⌜ now (out .exit) ≡ written (now (out .entry)) 0 (rowsBytes (placedRow (now (text .entry)) plots (now (levels .entry)) (now («plot_family» .entry)) (now («treatment_family» .entry)) (refusal .number) (refusal .first) (refusal .second) ∷ [])) ⌝ }
 {
@@ -189,6 +192,8 @@ fn print_refusal(
         text,
         levels,
         plots,
+        plot_columns,
+        treatment_columns,
         number,
         i,
         plot_family,
@@ -199,6 +204,8 @@ fn print_refusal(
         text,
         levels,
         plots,
+        plot_columns,
+        treatment_columns,
         number,
         j,
         plot_family,
@@ -213,21 +220,40 @@ fn first_name(
     text: &[u8],
     levels: &[Level],
     plots: usize,
+    plot_columns: usize,
+    treatment_columns: usize,
     number: u32,
     place: usize,
     plot_family: &[u8],
     treatment_family: &[u8],
     name: &mut [u8],
 ) -> usize
-    requires { ⌜ Nameable (now text) (now levels) (now «plot_family») plots × Nameable (now text) (now levels) (now «treatment_family») plots × (place ≤ 32) × (96 ≤ length (now name)) ⌝ }
+    requires { ⌜ Nameable (now text) (now levels) (now «plot_family») plots × Nameable (now text) (now levels) (now «treatment_family») plots × (place ≤ 32) × (96 ≤ length (now name)) × («plot_columns» ≡ countKind plotMark (header (now text))) × («treatment_columns» ≡ countKind treatmentMark (header (now text))) ⌝ }
     ensures answer { λ r. ⌜ r ≡ length (placedName (firstKind number) (now (text .entry)) plots (now (levels .entry)) (bufferFor (firstKind number) (now («plot_family» .entry)) (now («treatment_family» .entry))) place) ⌝ }
     ensures bytes { λ _. ⌜ now (name .exit) ≡ startingWith (placedName (firstKind number) (now (text .entry)) plots (now (levels .entry)) (bufferFor (firstKind number) (now («plot_family» .entry)) (now («treatment_family» .entry))) place) (now (name .entry)) ⌝ }
 {
     if number == 12 {
-        let kind = Kind::Treatment;
-        return names::name_at(text, levels, plots, kind, treatment_family, place, name);
+        return names::name_at(
+            text,
+            levels,
+            plots,
+            Kind::Treatment,
+            treatment_columns,
+            treatment_family,
+            place,
+            name,
+        );
     }
-    names::name_at(text, levels, plots, Kind::Plot, plot_family, place, name)
+    names::name_at(
+        text,
+        levels,
+        plots,
+        Kind::Plot,
+        plot_columns,
+        plot_family,
+        place,
+        name,
+    )
 }
 
 // Names the member at the second place of a refusal: in 10 it is a plot member.
@@ -235,21 +261,40 @@ fn second_name(
     text: &[u8],
     levels: &[Level],
     plots: usize,
+    plot_columns: usize,
+    treatment_columns: usize,
     number: u32,
     place: usize,
     plot_family: &[u8],
     treatment_family: &[u8],
     name: &mut [u8],
 ) -> usize
-    requires { ⌜ Nameable (now text) (now levels) (now «plot_family») plots × Nameable (now text) (now levels) (now «treatment_family») plots × (place ≤ 32) × (96 ≤ length (now name)) ⌝ }
+    requires { ⌜ Nameable (now text) (now levels) (now «plot_family») plots × Nameable (now text) (now levels) (now «treatment_family») plots × (place ≤ 32) × (96 ≤ length (now name)) × («plot_columns» ≡ countKind plotMark (header (now text))) × («treatment_columns» ≡ countKind treatmentMark (header (now text))) ⌝ }
     ensures answer { λ r. ⌜ r ≡ length (placedName (secondKind number) (now (text .entry)) plots (now (levels .entry)) (bufferFor (secondKind number) (now («plot_family» .entry)) (now («treatment_family» .entry))) place) ⌝ }
     ensures bytes { λ _. ⌜ now (name .exit) ≡ startingWith (placedName (secondKind number) (now (text .entry)) plots (now (levels .entry)) (bufferFor (secondKind number) (now («plot_family» .entry)) (now («treatment_family» .entry))) place) (now (name .entry)) ⌝ }
 {
     if number == 10 {
-        return names::name_at(text, levels, plots, Kind::Plot, plot_family, place, name);
+        return names::name_at(
+            text,
+            levels,
+            plots,
+            Kind::Plot,
+            plot_columns,
+            plot_family,
+            place,
+            name,
+        );
     }
-    let kind = Kind::Treatment;
-    names::name_at(text, levels, plots, kind, treatment_family, place, name)
+    names::name_at(
+        text,
+        levels,
+        plots,
+        Kind::Treatment,
+        treatment_columns,
+        treatment_family,
+        place,
+        name,
+    )
 }
 
 // Writes the table of an accepted design.

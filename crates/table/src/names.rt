@@ -41,17 +41,18 @@ pub fn fill_names(
     );
 }
 
-// Names the member at a place, from 1; `-` at place 0.
+// Names the member at a place, from 1, by the `count` columns of the kind; `-` at place 0.
 pub fn name_at(
     text: &[u8],
     levels: &[Level],
     plots: usize,
     kind: Kind,
+    count: usize,
     family: &[u8],
     place: usize,
     name: &mut [u8],
 ) -> usize
-    requires { ⌜ Nameable (now text) (now levels) (now family) plots × (place ≤ 32) × (96 ≤ length (now name)) ⌝ }
+    requires { ⌜ Nameable (now text) (now levels) (now family) plots × (place ≤ 32) × (96 ≤ length (now name)) × (count ≡ countKind (markOf (kindOf kind)) (header (now text))) ⌝ }
     ensures answer { λ r. ⌜ r ≡ length (placedName (kindOf kind) (now (text .entry)) plots (now (levels .entry)) (now (family .entry)) place) ⌝ }
     ensures bytes { λ _. ⌜ now (name .exit) ≡ startingWith (placedName (kindOf kind) (now (text .entry)) plots (now (levels .entry)) (now (family .entry)) place) (now (name .entry)) ⌝ }
 {
@@ -61,5 +62,5 @@ pub fn name_at(
     }
     let a = PLOTS * (place - 1);
     let e = a + plots;
-    naming::name_of(text, levels, plots, kind, &family[a..e], place, name)
+    naming::name_counted(text, levels, plots, kind, count, &family[a..e], place, name)
 }

@@ -110,17 +110,17 @@ mul-a c = let b = bounds c in omega (arith, b .0 .first, b .0 .few-plots, b .0 .
 add-e : tie.Need-add-e
 add-e c = let b = bounds c in omega (arith, b .0 .first, b .0 .few-plots, b .0 .family, b .1)
 
-sub-name-of : tie.Need-sub-name-of
-sub-name-of c = let b = bounds c in omega (arith, b .0 .first, b .0 .few-plots, b .0 .family, b .1)
+sub-name-counted : tie.Need-sub-name-counted
+sub-name-counted c = let b = bounds c in omega (arith, b .0 .first, b .0 .few-plots, b .0 .family, b .1)
 
-part-name-of-start : tie.Need-part-name-of-start
-part-name-of-start c = let b = bounds c in omega (arith, b .0 .first, b .0 .few-plots, b .0 .family, b .1)
+part-name-counted-start : tie.Need-part-name-counted-start
+part-name-counted-start c = let b = bounds c in omega (arith, b .0 .first, b .0 .few-plots, b .0 .family, b .1)
 
-part-name-of-end : tie.Need-part-name-of-end
-part-name-of-end c = let b = bounds c in omega (arith, b .0 .first, b .0 .few-plots, b .0 .family, b .1)
+part-name-counted-end : tie.Need-part-name-counted-end
+part-name-counted-end c = let b = bounds c in omega (arith, b .0 .first, b .0 .few-plots, b .0 .family, b .1)
 
-name-of-requires : tie.Need-name-of-requires
-name-of-requires c κs = search needs
+name-counted-requires : tie.Need-name-counted-requires
+name-counted-requires c κs = search needs
 
 same-length : tie.Need-same-length
 same-length c = search needs
@@ -145,10 +145,12 @@ returns-3 c =
     let e = naming-found k text n levels S (a .place) (asked ∙ not-false _ (c .before .before .before .before .before .before .before .if1 .left)) f in
     let is = member-is n (w .few-plots) buffer (a .size) i (omega (arith, w .first, w .last)) in
     let on : length (getD S i []) ≡ n = ap length is ∙ length-part n (240 * i) buffer (omega (arith, b .1, w .first, w .few-plots, w .family)) in
-    let same : nameFor k text levels n (take (240 * i + n - 240 * i) (drop (240 * i) buffer)) (a .place) (length out) ≡ nameAt k text n levels S (a .place) =
-    ap (λ (F : Column). nameFor k text levels n F (a .place) (length out)) (part-of n i buffer ∙ sym is)
-    ∙ named-for k text levels n (getD S i []) (a .place) (length out) (s .pre .0) (ranges-fit n (a .size) (a .place) (length levels) (length buffer) (length out) (length (getD S i [])) w on) in
-    let r = c .before .before .name-of .ensures in (
+    let few = few-columns (a .kind) text (s .pre .0) in
+    let fitting = ranges-fit n (a .count) (a .size) (a .place) (length levels) (length buffer) (length out) (length (getD S i [])) w (omega (arith, s .pre .2)) on in
+    let same : nameFor k text levels n (a .count) (take (240 * i + n - 240 * i) (drop (240 * i) buffer)) (a .place) (length out) ≡ nameAt k text n levels S (a .place) =
+    ap (λ (F : Column). nameFor k text levels n (a .count) F (a .place) (length out)) (part-of n i buffer ∙ sym is)
+    ∙ named-for k text levels n (a .count) (getD S i []) (a .place) (length out) (s .pre .0) (s .pre .2) (b .1) fitting in
+    let r = c .before .before .name-counted .ensures in (
       sym (ap (λ (r : NameAnswer). r .refusal) e),
       (
         r .0 ∙ ap length same ∙ sym (ap (λ (r : NameAnswer). length (r .name)) e),
@@ -168,9 +170,9 @@ from-7-spec =
     sub-a
     mul-a
     add-e
-    sub-name-of
-    part-name-of-start
-    part-name-of-end
-    name-of-requires
+    sub-name-counted
+    part-name-counted-start
+    part-name-counted-end
+    name-counted-requires
     same-length
     returns-3)

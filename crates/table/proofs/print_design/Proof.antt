@@ -78,6 +78,8 @@ print-refusal-requires c κs =
       treatments-nameable (number f) (s .pre .1) (s .pre .2) (design f) (tells f) empty empty long long (now (s .args .text)) (now (s .args .levels)) (s .pre .0) (s .pre .3) (f .full-design .last .1 .1 .1 .1 .1 .1 .0) (e .1 .1),
       omega (arith, one, few .0),
       omega (arith, two, few .1),
+      s .pre .4,
+      s .pre .5,
     )
 
 same-length : tie.Need-same-length

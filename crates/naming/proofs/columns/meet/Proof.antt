@@ -1,6 +1,6 @@
 -- `meet` meets its contract: the infimum, or the column itself where nothing was met.
 -- Assumes nothing.
-use mathlib.Core.Path.{_≡_, refl, sym, ap, _∙_}
+use mathlib.Core.Path.{_≡_, sym, ap, _∙_}
 use mathlib.Core.List.{List}
 use Prim.Native.Nat.{ℕ, _*_}
 use native.Mathlib.Omega.{arith}
@@ -14,7 +14,7 @@ use Rattle.rules.proofs.ClassCount.{infimum-universal}
 use Rattle.factor.specs.Lent.{onCommon, overlay}
 use Rattle.families.specs.Lent.{columnAt}
 use Rattle.families.proofs.Lent.{part-of}
-use Rattle.naming.proofs.Tables.{length-part, infimum-part, infimum-length, column-part}
+use Rattle.naming.proofs.Tables.{length-part, infimum-part, column-part}
 use Rattle.naming.proofs.columns.meet.Statement.{statement}
 use Rattle.naming.proofs.columns.meet.Tie as tie
 
@@ -33,26 +33,23 @@ part-infimum-start c = search needs
 part-infimum-end : tie.Need-part-infimum-end
 part-infimum-end c = search needs
 
-slice-aggregate-infimum : tie.Need-slice-aggregate-infimum
-slice-aggregate-infimum c = search needs
-
 infimum-requires : tie.Need-infimum-requires
 infimum-requires c κs = search needs
 
 returns : tie.Need-returns
 returns c =
-    let a = c .before .before .before .before .before .before .args in
+    let a = c .before .before .before .before .before .before .before .args in
     let n = a .n in
     let t = now (a .columns) in
     let P = columnAt n t (a .c) in
-    let M = a .t4 in
+    let M = now (a .met) in
+    let met : length M ≡ 240 = search needs in
     let lP = length-part n (240 * a .c) t (omega arith) in
     let lM = length-take-le n M (omega arith) in
     let li = length-infimum′ n P (take n M) lP lM in
     let zeros : List ℕ = replicate 240 0 in
-    let met : length M ≡ 240 = c .before .before .before .before .before .before .pre .4 in
     let made : c .infimum .last .1 .1 .0 ≡ overlay zeros (onCommon infimum P M) = c .infimum .ensures .1 ∙ ap (λ (X : Column). overlay zeros (onCommon infimum X M)) (part-of n (a .c) t) in
-    (ap (take n) made ∙ infimum-part n zeros P M (omega arith) refl lP met li, ap length made ∙ infimum-length n zeros P M (omega arith) refl lP met li)
+    ap (take n) made ∙ infimum-part n zeros P M (omega arith) lP met li
 
 sub-write-bytes : tie.Need-sub-write-bytes
 sub-write-bytes c = search needs
@@ -63,24 +60,21 @@ part-write-bytes-start c = search needs
 part-write-bytes-end : tie.Need-part-write-bytes-end
 part-write-bytes-end c = search needs
 
-slice-aggregate-write-bytes : tie.Need-slice-aggregate-write-bytes
-slice-aggregate-write-bytes c = search needs
-
 write-bytes-requires : tie.Need-write-bytes-requires
 write-bytes-requires c κs = search needs
 
 returns-2 : tie.Need-returns-2
 returns-2 c =
-    let s = c .before .before .before .before .before .before in
+    let s = c .before .before .before .before .before in
     let a = s .args in
     let n = a .n in
     let t = now (a .columns) in
-    let zeros : List ℕ = replicate 240 0 in
-    let w = c .before .write-bytes in
-    let part = column-part n (240 * a .c) zeros t (omega arith) (omega arith) refl in
+    let M = now (a .met) in
+    let met : length M ≡ 240 = search needs in
+    let part = column-part n (240 * a .c) M t (omega arith) (omega arith) met in
     let lP = length-part n (240 * a .c) t (omega arith) in
-    let none = s .pre .5 (c .before .before .before .before .if1 .left) in
-    (ap (take n) (w .ensures .1) ∙ part .0 ∙ sym (ap (infimum (columnAt n t (a .c))) none ∙ infimum-universal n (columnAt n t (a .c)) lP (s .pre .3)), ap length (w .ensures .1) ∙ part .1)
+    let none = s .pre .4 (c .before .before .before .if1 .left) in
+    ap (take n) (c .write-bytes .ensures .1) ∙ part ∙ sym (ap (infimum (columnAt n t (a .c))) none ∙ infimum-universal n (columnAt n t (a .c)) lP (s .pre .3))
 
 pub meet-spec : {M : Type 1} → statement M
 meet-spec =
@@ -91,12 +85,10 @@ meet-spec =
     sub-infimum
     part-infimum-start
     part-infimum-end
-    slice-aggregate-infimum
     infimum-requires
     returns
     sub-write-bytes
     part-write-bytes-start
     part-write-bytes-end
-    slice-aggregate-write-bytes
     write-bytes-requires
     returns-2)

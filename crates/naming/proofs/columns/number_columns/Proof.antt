@@ -1,18 +1,15 @@
 -- `number_columns` meets its contract: the columns before c are numbered.
 -- Assumes nothing.
 use mathlib.Core.Path.{_≡_, refl, sym, ap, _∙_}
-use mathlib.Core.Bool.{true, false}
-use mathlib.Core.List.{List, []}
-use Prim.Native.Nat.{ℕ, suc, _+_, _-_, _*_, _≤_, _<_}
+use mathlib.Core.List.{List}
+use Prim.Native.Nat.{ℕ, _+_, _-_, _*_, _≤_}
 use native.Mathlib.Omega.{arith}
 use denote.Ref.{now}
-use lib.ListN.{length, getD, take, drop, replicate, length-take}
-use lib.Seq.{length-take-le}
+use lib.ListN.{length, take, drop, replicate, length-take}
 use borrow.Author.Needs.{needs}
 use Rattle.rules.specs.Factor.{Column, number}
 use Rattle.rules.specs.Family.{membersOf}
 use Rattle.rules.proofs.Numbering.{length-number}
-use Rattle.factor.specs.Lent.{plotsOf, overlay}
 use Rattle.decimal.specs.Writing.{written}
 use Rattle.decimal.proofs.Writing.{length-written}
 use Rattle.naming.specs.Columns.{numberedFrom}

@@ -17,7 +17,7 @@ use Rattle.rules.proofs.Buffer.{length-members}
 use Rattle.decimal.specs.Writing.{written, placeAfter}
 use Rattle.naming.specs.Columns.{listedBy}
 use Rattle.naming.proofs.Numbered.{length-above}
-use Rattle.naming.proofs.Tables.{members-on, word-infimum, word-listed}
+use Rattle.naming.proofs.Tables.{ones, members-on, word-infimum, word-listed}
 use Rattle.naming.proofs.Listing.{then-place, then-bytes}
 use Rattle.naming.proofs.Rules.{infimum-fits, infimum-fits-not}
 use Rattle.naming.proofs.compose.by_infimum.Statement.{statement}
@@ -27,28 +27,30 @@ above-word-requires : tie.Need-above-word-requires
 above-word-requires c κs = search needs
 
 infimum-above-requires : tie.Need-infimum-above-requires
-infimum-above-requires c κs = search needs
+infimum-above-requires c κs =
+    let s = c .before .before .before .before .before .before in
+    (s .pre .0, s .pre .1, ones (s .args .n) 240 (s .pre .0 .few-plots))
 
 -- what is met is the infimum of the columns above the member
-met-is : (c : tie.After-infimum-above) → take (c .before .before .before .before .before .before .args .n) (c .infimum-above .result) ≡ infimumAbove (c .before .before .before .before .before .before .args .n) (now (c .before .before .before .before .before .before .args .member)) (membersOf (c .before .before .before .before .before .before .args .n) (now (c .before .before .before .before .before .before .args .columns)) (c .before .before .before .before .before .before .args .count))
+met-is : (c : tie.After-infimum-above) → take (c .before .before .before .before .before .before .before .args .n) (c .infimum-above .last .1 .1 .1 .1 .0) ≡ infimumAbove (c .before .before .before .before .before .before .before .args .n) (now (c .before .before .before .before .before .before .before .args .member)) (membersOf (c .before .before .before .before .before .before .before .args .n) (now (c .before .before .before .before .before .before .before .args .columns)) (c .before .before .before .before .before .before .before .args .count))
 met-is c =
-    let s = c .before .before .before .before .before .before in
+    let s = c .before .before .before .before .before .before .before in
     let a = s .args in
     let S = membersOf (a .n) (now (a .columns)) (a .count) in
-    let w = c .before .above-word in
+    let w = c .before .before .above-word in
     c .infimum-above .ensures ∙ word-infimum (w .result) (a .n) (now (a .member)) S (a .count) (length-members (a .n) (s .pre .0 .few-plots) (now (a .columns)) (a .count)) (w .ensures)
 
 -- it is on the member's plots
-met-length : (c : tie.After-infimum-above) → length (take (c .before .before .before .before .before .before .args .n) (c .infimum-above .result)) ≡ c .before .before .before .before .before .before .args .n
+met-length : (c : tie.After-infimum-above) → length (take (c .before .before .before .before .before .before .before .args .n) (c .infimum-above .last .1 .1 .1 .1 .0)) ≡ c .before .before .before .before .before .before .before .args .n
 met-length c =
-    let s = c .before .before .before .before .before .before in
+    let s = c .before .before .before .before .before .before .before in
     let a = s .args in
     let few = s .pre .0 .few in
     let long = s .pre .0 .long in
     ap length (met-is c) ∙ length-above (a .n) (now (a .member)) (membersOf (a .n) (now (a .columns)) (a .count)) (members-on (a .n) (s .pre .0 .few-plots) (now (a .columns)) (a .count) (omega arith))
 
 array-share-prefix-met : tie.Need-array-share-prefix-met
-array-share-prefix-met c = omega (arith, met-length c, length-take (c .before .before .before .before .before .before .args .n) (c .infimum-above .result))
+array-share-prefix-met c = omega (arith, met-length c, length-take (c .before .before .before .before .before .before .before .args .n) (c .infimum-above .last .1 .1 .1 .1 .0))
 
 slice-aggregate-alike : tie.Need-slice-aggregate-alike
 slice-aggregate-alike c = sym (met-length (c .before))
@@ -64,7 +66,7 @@ same-length c = search needs
 
 returns : tie.Need-returns
 returns c =
-    let s = c .before .before .before .before .before .before .before .before .before .before .before .before .before in
+    let s = c .before .before .before .before .before .before .before .before .before .before .before .before .before .before in
     let a = s .args in
     let n = a .n in
     let F = now (a .member) in
@@ -73,7 +75,7 @@ returns c =
     let out = now (a .out) in
     let k = c .before .before .before .before .before .before .before in
     let e : alike (infimumAbove n F S) F ≡ true = sym (ap (λ (X : Column). alike X F) (met-is k)) ∙ sym (c .before .before .before .before .before .alike .ensures) ∙ c .before .before .before .before .if1 .taken in
-    let m = k .before .above-word in
+    let m = k .before .before .above-word in
     let size = length-members n (s .pre .0 .few-plots) (now (a .columns)) (a .count) in
     let q : bytesOf names (name-infimum (passingFrom (listedBy (bitAt (m .result)) n S) 0 (a .count))) ≡ bytesOf names (nameByInfimum n S (a .place) F) =
     ap (bytesOf names) (ap name-infimum (word-listed (m .result) n F S (a .count) size (m .ensures) ∙ ap (passingFrom (listed n F S) 0) (sym size)) ∙ sym (infimum-fits n S (a .place) F e)) in
@@ -95,7 +97,7 @@ same-length-2 c = search needs
 returns-2 : tie.Need-returns-2
 unfolding bytesOf
 returns-2 c =
-    let s = c .before .before .before .before .before .before .before .before .before .before .before .before .before .before .before .before .before .before in
+    let s = c .before .before .before .before .before .before .before .before .before .before .before .before .before .before .before .before .before .before .before in
     let a = s .args in
     let n = a .n in
     let F = now (a .member) in

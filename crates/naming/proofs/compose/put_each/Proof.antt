@@ -14,7 +14,7 @@ use Rattle.rules.specs.Sheet.{columnNames, header}
 use Rattle.rules.specs.Names.{nameOf, bytesOf}
 use Rattle.families.proofs.Lent.{part-of}
 use Rattle.decimal.specs.Writing.{written, placeAfter}
-use Rattle.decimal.proofs.Writing.{written-all, place-all, length-written}
+use Rattle.decimal.proofs.Writing.{length-written}
 use Rattle.naming.specs.Answers.{startingWith}
 use Rattle.naming.specs.Members.{namesWritten, lengthsWritten, nameBy, held}
 use Rattle.naming.proofs.Members.{names-turn, lengths-turn, slot-put, written-held, place-held}
@@ -104,9 +104,8 @@ loop-again c =
     ap₂ (λ (p : ℕ) (F : Column). bytesOf columns (nameOf n S p F)) (add-one i) (part-of n i family) in
     let part : length mid ≡ 96 = simp (length-take, length-drop) (omega arith) in
     let short : length (f i) ≤ 96 = simp length-take (omega arith) in
-    let fits : length (f i) ≤ length mid = omega arith in
-    let back : w .last .1 .1 .1 .1 .1 .1 .1 .0 ≡ startingWith (f i) mid = w .ensures .1 ∙ ap (written mid 0) same ∙ written-held mid (whole i) ∙ ap (λ (m : ℕ). written mid 0 (take m (whole i))) part ∙ written-all mid (f i) fits in
-    let long : w .result ≡ length (f i) = w .ensures .0 ∙ ap (placeAfter mid 0) same ∙ place-held mid (whole i) ∙ ap (λ (m : ℕ). placeAfter mid 0 (take m (whole i))) part ∙ place-all mid (f i) fits in
+    let back : w .last .1 .1 .1 .1 .1 .1 .1 .0 ≡ startingWith (f i) mid = w .ensures .1 ∙ ap (written mid 0) same ∙ written-held mid (whole i) ∙ ap (λ (m : ℕ). startingWith (take m (whole i)) mid) part in
+    let long : w .result ≡ length (f i) = w .ensures .0 ∙ ap (placeAfter mid 0) same ∙ place-held mid (whole i) ∙ ap (λ (m : ℕ). length (take m (whole i))) part in
     let names-are : putMid (96 * i) k (b .loop .names) (w .last .1 .1 .1 .1 .1 .1 .1 .0) ≡ namesWritten f (now (a .names)) (i + 1) =
     ap (putMid (96 * i) k (b .loop .names)) back ∙ slot-put i k (b .loop .names) (f i) (omega arith) (omega arith) short
     ∙ ap (λ (x : List ℕ). take (96 * i) x ++ startingWith (f i) (drop (96 * i) x)) (b .loop .inv .8) ∙ sym (names-turn f (now (a .names)) (now (a .lengths)) i) in

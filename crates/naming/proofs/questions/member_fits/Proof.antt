@@ -17,15 +17,19 @@ returns-2 c = let a = c .before .before .args in simp (lt-ltb 0 (a .plots) (omeg
 
 returns-3 : tie.Need-returns-3
 unfolding memberFits plotsWithin
-returns-3 c = let a = c .before .before .before .args in simp (lt-ltb 0 (a .plots) (omega arith), le-leb (a .plots) 240 (omega arith), lt-leb 2880 (a .levels) (omega arith))
+returns-3 c = let a = c .before .before .before .args in simp (lt-ltb 0 (a .plots) (omega arith), le-leb (a .plots) 240 (omega arith), lt-leb (a .count) 6 (omega arith))
 
 returns-4 : tie.Need-returns-4
 unfolding memberFits plotsWithin
-returns-4 c = let a = c .before .before .before .before .args in simp (lt-ltb 0 (a .plots) (omega arith), le-leb (a .plots) 240 (omega arith), le-leb 2880 (a .levels) (omega arith), lt-leb 96 (a .name) (omega arith))
+returns-4 c = let a = c .before .before .before .before .args in simp (lt-ltb 0 (a .plots) (omega arith), le-leb (a .plots) 240 (omega arith), le-leb (a .count) 6 (omega arith), lt-leb 2880 (a .levels) (omega arith))
 
 returns-5 : tie.Need-returns-5
 unfolding memberFits plotsWithin
-returns-5 c = let a = c .before .before .before .before .args in simp (lt-ltb 0 (a .plots) (omega arith), le-leb (a .plots) 240 (omega arith), le-leb 2880 (a .levels) (omega arith), le-leb 96 (a .name) (omega arith))
+returns-5 c = let a = c .before .before .before .before .before .args in simp (lt-ltb 0 (a .plots) (omega arith), le-leb (a .plots) 240 (omega arith), le-leb (a .count) 6 (omega arith), le-leb 2880 (a .levels) (omega arith), lt-leb 96 (a .name) (omega arith))
+
+returns-6 : tie.Need-returns-6
+unfolding memberFits plotsWithin
+returns-6 c = let a = c .before .before .before .before .before .args in simp (lt-ltb 0 (a .plots) (omega arith), le-leb (a .plots) 240 (omega arith), le-leb (a .count) 6 (omega arith), le-leb 2880 (a .levels) (omega arith), le-leb 96 (a .name) (omega arith))
 
 pub member-fits-spec : {M : Type 1} → statement M
-member-fits-spec = tie.close (tie.spec returns returns-2 returns-3 returns-4 returns-5)
+member-fits-spec = tie.close (tie.spec returns returns-2 returns-3 returns-4 returns-5 returns-6)

@@ -7,6 +7,7 @@ use native.Mathlib.Omega.{arith}
 use denote.Ref.{now}
 use lib.ListN.{length}
 use Rattle.naming.specs.Answers.{kindOf, startingWith}
+use Rattle.naming.proofs.Entry.{few-columns}
 use Rattle.table.proofs.NameTable.{name-placed, name-none, length-none}
 use borrow.Author.Needs.{needs}
 use Rattle.table.proofs.names.name_at.Statement.{statement}
@@ -36,17 +37,17 @@ mul-a c = search needs
 add-e : tie.Need-add-e
 add-e c = search needs
 
-sub-name-of : tie.Need-sub-name-of
-sub-name-of c = search needs
+sub-name-counted : tie.Need-sub-name-counted
+sub-name-counted c = search needs
 
-part-name-of-start : tie.Need-part-name-of-start
-part-name-of-start c = search needs
+part-name-counted-start : tie.Need-part-name-counted-start
+part-name-counted-start c = search needs
 
-part-name-of-end : tie.Need-part-name-of-end
-part-name-of-end c = search needs
+part-name-counted-end : tie.Need-part-name-counted-end
+part-name-counted-end c = search needs
 
-name-of-requires : tie.Need-name-of-requires
-name-of-requires c κs = search needs
+name-counted-requires : tie.Need-name-counted-requires
+name-counted-requires c κs = search needs
 
 same-length-2 : tie.Need-same-length-2
 same-length-2 c = search needs
@@ -56,8 +57,9 @@ returns-2 c =
     let s = c .before .before .before .before .before .before .before .before .before .before in
     let a = s .args in
     let l : 1 ≤ a .place = omega arith in
-    let same = name-placed (kindOf (a .kind)) (now (a .text)) (now (a .levels)) (now (a .family)) (a .plots) (a .place) (length (now (a .name))) (s .pre .0) l (s .pre .1) (s .pre .2) in
-    let r = c .before .before .name-of .ensures in
+    let few = few-columns (a .kind) (now (a .text)) (s .pre .0 .form) in
+    let same = name-placed (kindOf (a .kind)) (now (a .text)) (now (a .levels)) (now (a .family)) (a .plots) (a .count) (a .place) (length (now (a .name))) (s .pre .0) (s .pre .3) (omega (arith, s .pre .3)) l (s .pre .1) (s .pre .2) in
+    let r = c .before .before .name-counted .ensures in
     (r .0 ∙ ap length same, r .1 ∙ ap (λ (W : List ℕ). startingWith W (now (a .name))) same)
 
 pub name-at-spec : {M : Type 1} → statement M
@@ -70,9 +72,9 @@ name-at-spec =
     sub-a
     mul-a
     add-e
-    sub-name-of
-    part-name-of-start
-    part-name-of-end
-    name-of-requires
+    sub-name-counted
+    part-name-counted-start
+    part-name-counted-end
+    name-counted-requires
     same-length-2
     returns-2)
