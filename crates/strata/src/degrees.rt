@@ -1,8 +1,8 @@
 // Degrees of freedom by subtraction.
 ghost use mathlib.Core.Path.{_≡_};
-ghost use Prim.Native.Nat.{_≤_, _<_};
+ghost use Prim.Native.Nat.{_≤_};
 ghost use lib.IntN.{pos, _-ℤ_};
-ghost use lib.ListN.{length, getD};
+ghost use lib.ListN.{getD};
 ghost use Rattle.rules.specs.Family.{membersOf};
 ghost use Rattle.rules.specs.Lists.{forPlaces, bitAt};
 ghost use Rattle.rules.specs.Relation.{coarserWords};
@@ -42,8 +42,8 @@ pub fn less(start: i64, word: u32, numbers: &[i64; MEMBERS], m: usize) -> i64
 }
 
 // The degrees of freedom of all members, by the words of those strictly coarser.
-pub fn degrees(family: &[u8], n: usize, size: usize, words: [u32; MEMBERS]) -> [i64; MEMBERS]
-    requires { ⌜ Formed n (now family) size × (words ≡ forPlaces 0 (coarserWords n (membersOf n (now family) size))) ⌝ }
+pub fn degrees(family: &[u8], n: usize, size: usize, words: &[u32; MEMBERS]) -> [i64; MEMBERS]
+    requires { ⌜ Formed n (now family) size × (now words ≡ forPlaces 0 (coarserWords n (membersOf n (now family) size))) ⌝ }
     ensures { λ r. ⌜ r ≡ forPlaces (pos 0) (degrees n (membersOf n (now (family .entry)) size)) ⌝ }
 {
     let mut numbers = [0i64; MEMBERS];
@@ -62,7 +62,7 @@ pub fn report(family: &[u8], n: usize, size: usize) -> DegreesReport
     ensures { λ r. ⌜ degreesIn r ≡ degreesFound n (membersOf n (now (family .entry)) size) ⌝ }
 {
     let words = coarser_words(family, n, size);
-    let numbers = degrees(family, n, size, words);
+    let numbers = degrees(family, n, size, &words);
     DegreesReport {
         refusal: 0,
         degrees: numbers,

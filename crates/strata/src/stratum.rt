@@ -79,13 +79,13 @@ fn is_candidate(
 fn candidates(
     plot_family: &[u8],
     plot_size: usize,
-    words: [u32; MEMBERS],
+    words: &[u32; MEMBERS],
     treatment_family: &[u8],
     t: usize,
     n: usize,
     finest: usize,
 ) -> u32
-    requires { ⌜ Formed n (now «plot_family») «plot_size» × (words ≡ forPlaces 0 (coarserWords n (membersOf n (now «plot_family») «plot_size»))) × (7680 ≤ length (now «treatment_family»)) × (t < 32) × (finest < «plot_size» → classes (columnAt n (now «plot_family») finest) ≡ n) ⌝ }
+    requires { ⌜ Formed n (now «plot_family») «plot_size» × (now words ≡ forPlaces 0 (coarserWords n (membersOf n (now «plot_family») «plot_size»))) × (7680 ≤ length (now «treatment_family»)) × (t < 32) × (finest < «plot_size» → classes (columnAt n (now «plot_family») finest) ≡ n) ⌝ }
     ensures { λ r. ⌜ r ≡ candidateWord n (now («plot_family» .entry)) «plot_size» (now («treatment_family» .entry)) t ⌝ }
 {
     let mut among: u32 = 0;
@@ -113,9 +113,9 @@ fn is_below(word: u32, among: u32, p: usize, q: usize) -> bool
 }
 
 // Whether `p` is a candidate to which every other candidate is finer.
-fn is_coarsest(words: [u32; MEMBERS], size: usize, among: u32, p: usize) -> bool
+fn is_coarsest(words: &[u32; MEMBERS], size: usize, among: u32, p: usize) -> bool
     requires { ⌜ (size ≤ 32) × (p < 32) ⌝ }
-    ensures { λ r. ⌜ r ≡ coarsest words size among p ⌝ }
+    ensures { λ r. ⌜ r ≡ coarsest (now (words .entry)) size among p ⌝ }
 {
     if !has(among, p) {
         return false;
@@ -129,9 +129,9 @@ fn is_coarsest(words: [u32; MEMBERS], size: usize, among: u32, p: usize) -> bool
 }
 
 // The place of the coarsest candidate, from 1, or 0 where there is none.
-fn coarsest_place(words: [u32; MEMBERS], size: usize, among: u32) -> usize
+fn coarsest_place(words: &[u32; MEMBERS], size: usize, among: u32) -> usize
     requires { ⌜ size ≤ 32 ⌝ }
-    ensures { λ r. ⌜ r ≡ firstPassing (coarsest words size among) 0 size ⌝ }
+    ensures { λ r. ⌜ r ≡ firstPassing (coarsest (now (words .entry)) size among) 0 size ⌝ }
 {
     for p in 0..size {
         if is_coarsest(words, size, among, p) {
@@ -148,9 +148,9 @@ fn stratum_places(
     treatment_family: &[u8],
     treatment_size: usize,
     n: usize,
-    words: [u32; MEMBERS],
+    words: &[u32; MEMBERS],
 ) -> [usize; MEMBERS]
-    requires { ⌜ Formed n (now «plot_family») «plot_size» × (7680 ≤ length (now «treatment_family»)) × («treatment_size» ≤ 32) × (words ≡ forPlaces 0 (coarserWords n (membersOf n (now «plot_family») «plot_size»))) ⌝ }
+    requires { ⌜ Formed n (now «plot_family») «plot_size» × (7680 ≤ length (now «treatment_family»)) × («treatment_size» ≤ 32) × (now words ≡ forPlaces 0 (coarserWords n (membersOf n (now «plot_family») «plot_size»))) ⌝ }
     ensures { λ r. ⌜ r ≡ forPlaces 0 (map (stratum n (membersOf n (now («plot_family» .entry)) «plot_size»)) (membersOf n (now («treatment_family» .entry)) «treatment_size»)) ⌝ }
 {
     let finest = finest_place(plot_family, n, plot_size);
@@ -172,9 +172,9 @@ fn stratum_places(
 }
 
 // 16: whether each of the first `size` places is one.
-fn all_placed(places: [usize; MEMBERS], size: usize) -> bool
+fn all_placed(places: &[usize; MEMBERS], size: usize) -> bool
     requires { ⌜ size ≤ 32 ⌝ }
-    ensures { λ r. ⌜ r ≡ every size (λ t. not (eqb (getD places t 0) 0)) ⌝ }
+    ensures { λ r. ⌜ r ≡ every size (λ t. not (eqb (getD (now (places .entry)) t 0) 0)) ⌝ }
 {
     for t in 0..size {
         if places[t] == 0 {
@@ -237,14 +237,14 @@ fn from_16(
         treatment_family,
         treatment_size,
         n,
-        plot_words,
+        &plot_words,
     );
-    if !all_placed(places, treatment_size) {
+    if !all_placed(&places, treatment_size) {
         return refused(16);
     }
-    let own = degrees(plot_family, n, plot_size, plot_words);
+    let own = degrees(plot_family, n, plot_size, &plot_words);
     let treatment_words = coarser_words(treatment_family, n, treatment_size);
-    let numbers = degrees(treatment_family, n, treatment_size, treatment_words);
+    let numbers = degrees(treatment_family, n, treatment_size, &treatment_words);
     let left = residuals(&own, plot_size, &numbers, &places, treatment_size);
     AnalysisReport {
         totals: own,

@@ -56,19 +56,19 @@ cast-own c =
 mul-word : tie.Need-mul-word Inv-loop μ-loop
 mul-word c = omega arith
 
-array-read-word : tie.Need-array-read-word Inv-loop μ-loop
-array-read-word c = omega arith
+element-copy-out-word : tie.Need-element-copy-out-word Inv-loop μ-loop
+element-copy-out-word c = omega arith
 
 less-requires : tie.Need-less-requires Inv-loop μ-loop
 less-requires c κs =
-    let b = c .before .before .before in
+    let b = c .before .before .before .before in
     let s = b .before .before in
     let a = s .args in
     let S = membersOf (a .n) (now (a .family)) (a .size) in
     let k = few-classes (a .n) (now (a .family)) (b .loop .i) (omega arith) (omega arith) (omega arith) in
-    let small : c .before .member-classes .result ≤ 240 = omega (arith, c .before .member-classes .ensures) in (
+    let small : c .before .before .member-classes .result ≤ 240 = omega (arith, c .before .before .member-classes .ensures) in (
       omega arith,
-      rw (toZ-pos w64 (c .before .member-classes .result) (omega arith)) (omega arith),
+      rw (toZ-pos w64 (c .before .before .member-classes .result) (omega arith)) (omega arith),
       subst AllSmall (sym (b .loop .inv .2)) (small-places (take (b .loop .i) (degrees (a .n) S)) (small-take (b .loop .i) (degrees (a .n) S) (small-degrees (s .pre .0)))),
     )
 
@@ -86,20 +86,20 @@ loop-less c = omega arith
 
 loop-again : tie.Need-loop-again Inv-loop μ-loop
 loop-again c =
-    let b = c .before .before .before .before in
+    let b = c .before .before .before .before .before in
     let s = b .before .before in
     let a = s .args in
     let i = b .loop .i in
     let S = membersOf (a .n) (now (a .family)) (a .size) in
     let xs = degrees (a .n) S in
-    let r = c .before .before .member-classes .result in
+    let r = c .before .before .before .member-classes .result in
     let k = few-classes (a .n) (now (a .family)) i (omega arith) (omega arith) (omega arith) in
-    let q = c .before .before .member-classes .ensures in
+    let q = c .before .before .before .member-classes .ensures in
     let small : r ≤ 240 = omega arith in
     let own : toZ w64 r ≡ pos (classes (columnAt (a .n) (now (a .family)) i)) = toZ-pos w64 r (omega arith) ∙ ap pos q in
     let e : c .less .result ≡ getD xs i (pos 0) =
     c .less .ensures
-    ∙ ap (λ (z : ℤ). z -ℤ sumPassing (bitAt (getD (a .t4) i 0)) (λ j. getD (b .loop .numbers) j (pos 0)) i) own
+    ∙ ap (λ (z : ℤ). z -ℤ sumPassing (bitAt (getD (now (a .words)) i 0)) (λ j. getD (b .loop .numbers) j (pos 0)) i) own
     ∙ ap₂ (λ (ws : List ℕ) (ns : List ℤ). pos (classes (columnAt (a .n) (now (a .family)) i)) -ℤ sumPassing (bitAt (getD ws i 0)) (λ j. getD ns j (pos 0)) i) (s .pre .1) (b .loop .inv .2)
     ∙ degree-turn (s .pre .0) i (omega arith) in
     let v : toZ w64 (ofZ w64 (c .less .result)) ≡ getD xs i (pos 0) =
@@ -125,7 +125,7 @@ degrees-spec =
     member-classes-requires
     cast-own
     mul-word
-    array-read-word
+    element-copy-out-word
     less-requires
     mul-numbers
     array-set-from-numbers

@@ -40,13 +40,13 @@ refused-requires c κs = search needs
 
 returns : tie.Need-returns
 returns c =
-    let s = c .before .before .before .before .before .before .before in
+    let s = c .before .before .before .before .before .before .before .before .before in
     let a = s .args in
     let P = membersOf (a .n) (now (a .plot-family)) (a .plot-size) in
     let R = membersOf (a .n) (now (a .treatment-family)) (a .treatment-size) in
     let e : allHaveStratum (a .n) P R ≡ false =
     sym (placed-is (a .n) P R (a .treatment-size) (size-members (s .pre .1)) (s .pre .1 .few))
-    ∙ sym (ap (λ (ps : List ℕ). every (a .treatment-size) (λ t. not (eqb (getD ps t 0) 0))) (c .before .before .before .stratum-places .ensures))
+    ∙ sym (ap (λ (ps : List ℕ). every (a .treatment-size) (λ t. not (eqb (getD ps t 0) 0))) (c .before .before .before .before .stratum-places .ensures))
     ∙ sym (c .before .before .all-placed .ensures) ∙ not-true _ (c .before .if1 .taken) in
     c .refused .ensures ∙ with-refused (a .n) P R 15 ∙ ap (withDegrees (a .n) P R) (sym (strata-16 (a .n) P R e))
 
@@ -62,32 +62,32 @@ degrees-requires-2 c κs = search needs
 residuals-requires : tie.Need-residuals-requires
 residuals-requires c κs =
     let d = c .before .before .before in
-    let s = d .before .before .before .before .before .before .before .before .before in
+    let s = d .before .before .before .before .before .before .before .before .before .before .before .before .before in
     let a = s .args in
     let P = membersOf (a .n) (now (a .plot-family)) (a .plot-size) in
     let R = membersOf (a .n) (now (a .treatment-family)) (a .treatment-size) in (
       omega arith,
       omega arith,
-      subst AllSmall (sym (d .before .before .degrees .ensures)) (small-places (degrees (a .n) P) (small-degrees (s .pre .0))),
+      subst AllSmall (sym (d .before .before .before .degrees .ensures)) (small-places (degrees (a .n) P) (small-degrees (s .pre .0))),
       subst AllSmall (sym (d .degrees2 .ensures)) (small-places (degrees (a .n) R) (small-degrees (s .pre .1))),
     )
 
 returns-2 : tie.Need-returns-2
 returns-2 c =
     let d = c .before .before .before .before in
-    let s = d .before .before .before .before .before .before .before .before .before in
+    let s = d .before .before .before .before .before .before .before .before .before .before .before .before .before in
     let a = s .args in
     let P = membersOf (a .n) (now (a .plot-family)) (a .plot-size) in
     let R = membersOf (a .n) (now (a .treatment-family)) (a .treatment-size) in
     let e : allHaveStratum (a .n) P R ≡ true =
     sym (placed-is (a .n) P R (a .treatment-size) (size-members (s .pre .1)) (s .pre .1 .few))
-    ∙ sym (ap (λ (ps : List ℕ). every (a .treatment-size) (λ t. not (eqb (getD ps t 0) 0))) (d .before .before .before .before .before .stratum-places .ensures))
-    ∙ sym (d .before .before .before .before .all-placed .ensures) ∙ not-false _ (d .before .before .before .if1 .left) in
+    ∙ sym (ap (λ (ps : List ℕ). every (a .treatment-size) (λ t. not (eqb (getD ps t 0) 0))) (d .before .before .before .before .before .before .before .before .stratum-places .ensures))
+    ∙ sym (d .before .before .before .before .before .before .all-placed .ensures) ∙ not-false _ (d .before .before .before .before .before .if1 .left) in
     let q : c .residuals .result ≡ forPlaces (pos 0) (tabulate (residualAt (forPlaces (pos 0) (degrees (a .n) P)) (forPlaces (pos 0) (degrees (a .n) R)) (forPlaces 0 (map (stratum (a .n) P) R)) (a .treatment-size)) (a .plot-size)) =
-    c .residuals .ensures ∙ rw (d .before .before .degrees .ensures, d .degrees2 .ensures, d .before .before .before .before .before .stratum-places .ensures) in
-    let found = strata-found (a .n) P R _ _ e (d .before .before .before .before .before .stratum-places .ensures)
+    c .residuals .ensures ∙ rw (d .before .before .before .degrees .ensures, d .degrees2 .ensures, d .before .before .before .before .before .before .before .before .stratum-places .ensures) in
+    let found = strata-found (a .n) P R _ _ e (d .before .before .before .before .before .before .before .before .stratum-places .ensures)
     (q ∙ ap (forPlaces (pos 0)) (residuals-are (a .n) P R (a .plot-size) (a .treatment-size) (size-members (s .pre .0)) (size-members (s .pre .1)) (s .pre .0 .few) (s .pre .1 .few))) in
-    with-found (a .n) P R _ _ _ _ _ found (d .before .before .degrees .ensures) (d .degrees2 .ensures)
+    with-found (a .n) P R _ _ _ _ _ found (d .before .before .before .degrees .ensures) (d .degrees2 .ensures)
 
 pub from-16-spec : {M : Type 1} → statement M
 from-16-spec =
