@@ -1,16 +1,14 @@
 -- Laws of a family in lent memory: its members, and what questions 6 and 15 tell of it.
 -- Assumes nothing.
-use mathlib.Core.Path.{_≡_, refl, ap, ap₂, _∙_}
+use mathlib.Core.Path.{_≡_, refl, ap, _∙_}
 use mathlib.Core.Bool.{Bool, true, false, _&&_}
 use mathlib.Core.List.{List, []}
-use Prim.Native.Nat.{ℕ, _+_, _-_, _*_, _≤_, _<_}
+use Prim.Native.Nat.{ℕ, _≤_, _<_}
 use native.Mathlib.Omega.{arith}
 use lib.Dec.{ltb, leb}
-use lib.ListN.{length, take, drop, getD, length-take, length-drop}
-use lib.Seq.{take-all}
+use lib.ListN.{length, getD}
 use borrow.Author.Tests.{leb-true}
-use Rattle.rules.specs.Factor.{Column, finer}
-use Rattle.rules.specs.Family.{membersOf, allNumbered, ordered, wellFormed}
+use Rattle.rules.specs.Family.{membersOf, wellFormed}
 use Rattle.rules.specs.Design.{plotsWithin}
 use Rattle.rules.proofs.Buffer.{length-members, member-is}
 use Rattle.rules.proofs.WellFormed.{Accepted, accepted}

@@ -2,7 +2,7 @@
 -- Assumes nothing.
 use mathlib.Core.Path.{_≡_, refl, sym}
 use mathlib.Core.Bool.{Bool, true, false, _&&_}
-use mathlib.Core.List.{List, map}
+use mathlib.Core.List.{List, [], map}
 use Prim.Native.Nat.{ℕ, suc}
 use native.Mathlib.Omega.{arith}
 use lib.Dec.{eqb, leb}
@@ -17,7 +17,8 @@ use Rattle.rules.specs.Degrees.{degrees, degreesOfFreedom, degreesRefused}
 use Rattle.rules.specs.Strata.{StrataAnswer, stratum, residuals, allHaveStratum, question15, question16, strata, strataRefused}
 use Rattle.rules.proofs.Members.{clash}
 use Rattle.rules.proofs.Numbering.{by-cases}
-use Rattle.strata.specs.Answers.{degreesFound, Analysis, withDegrees, analysisRefused}
+use Rattle.rules.proofs.Places.{places-start}
+use Rattle.strata.specs.Answers.{degreesFound, analysisIn, Cleared, withDegrees}
 
 module _ (n : ℕ) (b : List ℕ) (size : ℕ) where
   pub relation-6 : familyWithin n b ≡ false → relation n b size ≡ relationRefused 6
@@ -53,10 +54,9 @@ module _ (n : ℕ) (P R : Family) where
   unfolding question16
   strata-16 e = rw (e, question16)
 
-  pub strata-found : (places : List ℕ) (left : List ℤ) → allHaveStratum n P R ≡ true → places ≡ forPlaces 0 (map (stratum n P) R) → left ≡ forPlaces (pos 0) (residuals n P R)
-      → _≡_ {A = StrataAnswer} (record { refusal = 0; places = places; residuals = left }) (question16 n P R)
+  pub strata-found : allHaveStratum n P R ≡ true → question16 n P R ≡ record { refusal = 0; places = forPlaces 0 (map (stratum n P) R); residuals = forPlaces (pos 0) (residuals n P R) }
   unfolding question16
-  strata-found places left e p r = sym (rw (e, question16) (rw (p, r)))
+  strata-found e = rw (e, question16)
 
   pub strata-15-plot : wellFormed P ≡ false → question15 n P R ≡ strataRefused 15
   unfolding question15
@@ -108,13 +108,14 @@ module _ (n : ℕ) (P R : Family) where
   with-strata a = by-cases (eqb (a .refusal) 0) (λ e. rw (e, withDegrees)) (λ e. rw (e, withDegrees))
 
   -- a refusal, by a question from 1 on
-  pub with-refused : (q : ℕ) → analysisRefused (suc q) ≡ withDegrees n P R (strataRefused (suc q))
-  unfolding analysisRefused withDegrees strataRefused
-  with-refused q = sym (rw (ne-eqb (suc q) 0 (λ z. omega arith), withDegrees))
+  pub with-refused : {totals numbers left : List ℤ} {places : List ℕ} → Cleared totals numbers places left → (q : ℕ) (a : StrataAnswer) → a ≡ strataRefused (suc q)
+      → analysisIn (suc q) totals numbers places left ≡ withDegrees n P R a
+  unfolding withDegrees strataRefused
+  with-refused z q a e =
+      rw (e, z .no-totals, z .no-numbers, z .no-places, z .no-left, places-start (pos 0) [], places-start {A = ℕ} 0 []) (sym (rw (ne-eqb (suc q) 0 (λ z. omega arith), withDegrees)))
 
   -- an answer
-  pub with-found : (places : List ℕ) (left totals numbers : List ℤ) (a : StrataAnswer) → _≡_ {A = StrataAnswer} (record { refusal = 0; places = places; residuals = left }) a
-      → totals ≡ forPlaces (pos 0) (degrees n P) → numbers ≡ forPlaces (pos 0) (degrees n R)
-      → _≡_ {A = Analysis} (record { strata = record { refusal = 0; places = places; residuals = left }; totals = totals; degrees = numbers }) (withDegrees n P R a)
+  pub with-found : {totals numbers left : List ℤ} {places : List ℕ} → allHaveStratum n P R ≡ true → totals ≡ forPlaces (pos 0) (degrees n P) → numbers ≡ forPlaces (pos 0) (degrees n R)
+      → places ≡ forPlaces 0 (map (stratum n P) R) → left ≡ forPlaces (pos 0) (residuals n P R) → analysisIn 0 totals numbers places left ≡ withDegrees n P R (question16 n P R)
   unfolding withDegrees
-  with-found places left totals numbers a e t d = rw (← e, t, d)
+  with-found e t d p r = rw (strata-found n P R e, t, d, p, r)

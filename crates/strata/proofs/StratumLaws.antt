@@ -186,12 +186,12 @@ module _ {n : ℕ} {b : List ℕ} {size : ℕ} (is : Formed n b size) (r : List 
           ∙ ap (wordOf (λ p. finer n (getD P p []) T)) (sym (size-members is))
 
 -- 16, by the places
-pub placed-is : (n : ℕ) (P R : Family) (size : ℕ) → length R ≡ size → size ≤ 32
-    → every size (λ t. not (eqb (getD (forPlaces 0 (map (stratum n P) R)) t 0) 0)) ≡ allHaveStratum n P R
+pub placed-is : (n : ℕ) (P R : Family) (size : ℕ) → length R ≡ size → size ≤ 32 → (places : List ℕ) → places ≡ forPlaces 0 (map (stratum n P) R)
+    → every size (λ t. not (eqb (getD places t 0) 0)) ≡ allHaveStratum n P R
 unfolding allHaveStratum
-placed-is n P R size l h =
-    every-ext (λ t. not (eqb (getD (forPlaces 0 (map (stratum n P) R)) t 0) 0)) (λ t. not (eqb (stratum n P (getD R t [])) 0)) size
-    (λ t k. ap (λ (x : ℕ). not (eqb x 0)) (at-places 0 (map (stratum n P) R) t (omega arith) ∙ getD-map (stratum n P) R t (omega arith)))
+placed-is n P R size l h places e =
+    every-ext (λ t. not (eqb (getD places t 0) 0)) (λ t. not (eqb (stratum n P (getD R t [])) 0)) size
+    (λ t k. ap (λ (x : ℕ). not (eqb x 0)) (ap (λ (ps : List ℕ). getD ps t 0) e ∙ at-places 0 (map (stratum n P) R) t (omega arith) ∙ getD-map (stratum n P) R t (omega arith)))
     ∙ ap (λ (m : ℕ). every m (λ t. not (eqb (stratum n P (getD R t [])) 0))) (sym l)
     ∙ sym (all-every (λ T. not (eqb (stratum n P T) 0)) R)
 

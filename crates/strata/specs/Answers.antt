@@ -1,19 +1,20 @@
--- The structs that the entries answer, read as the answers of the rules.
+-- The structs that the entries answer and the arrays that they write, read as the answers of the rules.
 -- Assumes nothing.
+use mathlib.Core.Path.{_≡_}
 use mathlib.Core.Bool.{true, false}
 use mathlib.Core.List.{List, []}
 use Prim.Native.Nat.{ℕ}
 use lib.Dec.{eqb}
 use lib.IntN.{ℤ, pos}
+use lib.ListN.{replicate}
 use Rattle.rules.specs.Family.{Family}
 use Rattle.rules.specs.Lists.{forPlaces}
 use Rattle.rules.specs.Relation.{RelationAnswer}
 use Rattle.rules.specs.Degrees.{DegreesAnswer, degrees}
-use Rattle.rules.specs.Strata.{StrataAnswer, strataRefused}
+use Rattle.rules.specs.Strata.{StrataAnswer}
 use Rattle.strata.specs.declared.RelationReport.{RelationReport}
 use Rattle.strata.specs.declared.DegreesReport.{DegreesReport}
 use Rattle.strata.specs.declared.StrataReport.{StrataReport}
-use Rattle.strata.specs.declared.AnalysisReport.{AnalysisReport}
 
 abbrev pub relationIn : RelationReport → RelationAnswer
 relationIn r = record { refusal = r .refusal; size = r .size; coarser = r .coarser; direct = r .direct; counts = r .counts }
@@ -35,12 +36,20 @@ pub record Analysis : Type 0 where
   pub totals : List ℤ
   pub degrees : List ℤ
 
-abbrev pub analysisIn : AnalysisReport → Analysis
-analysisIn r = record {
-  strata = record { refusal = r .refusal; places = r .places; residuals = r .residuals };
-  totals = r .totals;
-  degrees = r .degrees;
+-- the number answered, with the four arrays
+abbrev pub analysisIn : ℕ → List ℤ → List ℤ → List ℕ → List ℤ → Analysis
+analysisIn refusal totals degrees places residuals = record {
+  strata = record { refusal = refusal; places = places; residuals = residuals };
+  totals = totals;
+  degrees = degrees;
 }
+
+-- the four arrays hold zeros
+pub record Cleared (totals numbers : List ℤ) (places : List ℕ) (left : List ℤ) : Type 0 where
+  pub no-totals : totals ≡ replicate 32 (pos 0)
+  pub no-numbers : numbers ≡ replicate 32 (pos 0)
+  pub no-places : places ≡ replicate 32 0
+  pub no-left : left ≡ replicate 32 (pos 0)
 
 -- an answer about strata with the degrees of freedom of the plot and the treatment members, all 0 where it is a refusal
 unfoldable pub withDegrees : ℕ → Family → Family → StrataAnswer → Analysis
@@ -49,8 +58,3 @@ withDegrees n P R a = elim (eqb (a .refusal) 0) [
   | true ↦ record { strata = a; totals = forPlaces (pos 0) (degrees n P); degrees = forPlaces (pos 0) (degrees n R) }
   | false ↦ record { strata = a; totals = forPlaces (pos 0) []; degrees = forPlaces (pos 0) [] }
 ]
-
--- the refusal of question q
-unfoldable pub analysisRefused : ℕ → Analysis
-unfolding forPlaces strataRefused
-analysisRefused q = record { strata = strataRefused q; totals = forPlaces (pos 0) []; degrees = forPlaces (pos 0) [] }

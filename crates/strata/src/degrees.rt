@@ -1,8 +1,8 @@
 // Degrees of freedom by subtraction.
 ghost use mathlib.Core.Path.{_≡_};
-ghost use Prim.Native.Nat.{_≤_, _<_};
+ghost use Prim.Native.Nat.{_≤_};
 ghost use lib.IntN.{pos, _-ℤ_};
-ghost use lib.ListN.{length, getD};
+ghost use lib.ListN.{getD, replicate};
 ghost use Rattle.rules.specs.Family.{membersOf};
 ghost use Rattle.rules.specs.Lists.{forPlaces, bitAt};
 ghost use Rattle.rules.specs.Relation.{coarserWords};
@@ -41,19 +41,32 @@ pub fn less(start: i64, word: u32, numbers: &[i64; MEMBERS], m: usize) -> i64
     left
 }
 
-// The degrees of freedom of all members, by the words of those strictly coarser.
-pub fn degrees(family: &[u8], n: usize, size: usize, words: [u32; MEMBERS]) -> [i64; MEMBERS]
-    requires { ⌜ Formed n (now family) size × (words ≡ forPlaces 0 (coarserWords n (membersOf n (now family) size))) ⌝ }
-    ensures { λ r. ⌜ r ≡ forPlaces (pos 0) (degrees n (membersOf n (now (family .entry)) size)) ⌝ }
+// Writes the degrees of freedom of all members, by the words of those strictly coarser, where there are zeros.
+pub fn fill_by_words(
+    family: &[u8],
+    n: usize,
+    size: usize,
+    words: &[u32; MEMBERS],
+    numbers: &mut [i64; MEMBERS],
+)
+    requires { ⌜ Formed n (now family) size × (now words ≡ forPlaces 0 (coarserWords n (membersOf n (now family) size))) × (now numbers ≡ replicate 32 (pos 0)) ⌝ }
+    ensures { λ _. ⌜ now (numbers .exit) ≡ forPlaces (pos 0) (degrees n (membersOf n (now (family .entry)) size)) ⌝ }
 {
-    let mut numbers = [0i64; MEMBERS];
     for i in 0..size {
         let own = member_classes(family, i, n) as i64;
         let word = words[i];
-        let number = less(own, word, &numbers, i);
+        let number = less(own, word, numbers, i);
         numbers[i] = number;
     }
-    numbers
+}
+
+// Writes the degrees of freedom of all members of a family that 15 accepts, where there are zeros.
+pub fn fill_degrees(family: &[u8], n: usize, size: usize, numbers: &mut [i64; MEMBERS])
+    requires { ⌜ Formed n (now family) size × (now numbers ≡ replicate 32 (pos 0)) ⌝ }
+    ensures { λ _. ⌜ now (numbers .exit) ≡ forPlaces (pos 0) (degrees n (membersOf n (now (family .entry)) size)) ⌝ }
+{
+    let words = coarser_words(family, n, size);
+    fill_by_words(family, n, size, &words, numbers);
 }
 
 // The degrees of freedom of a family that 15 accepts.
@@ -61,8 +74,8 @@ pub fn report(family: &[u8], n: usize, size: usize) -> DegreesReport
     requires { ⌜ Formed n (now family) size ⌝ }
     ensures { λ r. ⌜ degreesIn r ≡ degreesFound n (membersOf n (now (family .entry)) size) ⌝ }
 {
-    let words = coarser_words(family, n, size);
-    let numbers = degrees(family, n, size, words);
+    let mut numbers = [0i64; MEMBERS];
+    fill_degrees(family, n, size, &mut numbers);
     DegreesReport {
         refusal: 0,
         degrees: numbers,

@@ -43,20 +43,6 @@ pub struct StrataReport {
     pub residuals: [i64; MEMBERS],
 }
 
-// Strata, and the degrees of freedom that their residuals are found by. All 0 past the sizes and after a refusal.
-pub struct AnalysisReport {
-    // for each plot member its degrees of freedom
-    pub totals: [i64; MEMBERS],
-    // for each treatment member its degrees of freedom
-    pub degrees: [i64; MEMBERS],
-    // for each treatment member the place of its stratum, from 1
-    pub places: [usize; MEMBERS],
-    // for each plot member its residual degrees of freedom
-    pub residuals: [i64; MEMBERS],
-    // the question that failed, or 0
-    pub refusal: u8,
-}
-
 // The relation of a family.
 pub fn relation(family: &[u8], plots: usize, size: usize) -> RelationReport
     ensures { λ r. ⌜ relationIn r ≡ relation plots (now (family .entry)) size ⌝ }
@@ -93,16 +79,21 @@ pub fn strata(
 ) -> StrataReport
     ensures { λ r. ⌜ strataIn r ≡ strata plots (now («plot_family» .entry)) «plot_size» (now («treatment_family» .entry)) «treatment_size» ⌝ }
 {
-    let found = analysis(
+    let mut totals = [0i64; MEMBERS];
+    let mut degrees = [0i64; MEMBERS];
+    let mut places = [0usize; MEMBERS];
+    let mut residuals = [0i64; MEMBERS];
+    let refusal = analysis(
         plot_family,
         plot_size,
         treatment_family,
         treatment_size,
         plots,
+        &mut totals,
+        &mut degrees,
+        &mut places,
+        &mut residuals,
     );
-    let refusal = found.refusal;
-    let places = found.places;
-    let residuals = found.residuals;
     StrataReport {
         refusal,
         places,
@@ -110,21 +101,30 @@ pub fn strata(
     }
 }
 
-// The same with the degrees of freedom of both families.
+// The same in lent arrays, with the degrees of freedom of each plot member (`totals`) and of each treatment member (`degrees`): all 0 past
+// the sizes and after a refusal, whatever they held. Answers the question that failed, or 0.
 pub fn analysis(
     plot_family: &[u8],
     plot_size: usize,
     treatment_family: &[u8],
     treatment_size: usize,
     plots: usize,
-) -> AnalysisReport
-    ensures { λ r. ⌜ analysisIn r ≡ withDegrees plots (membersOf plots (now («plot_family» .entry)) «plot_size») (membersOf plots (now («treatment_family» .entry)) «treatment_size») (strata plots (now («plot_family» .entry)) «plot_size» (now («treatment_family» .entry)) «treatment_size») ⌝ }
+    totals: &mut [i64; MEMBERS],
+    degrees: &mut [i64; MEMBERS],
+    places: &mut [usize; MEMBERS],
+    residuals: &mut [i64; MEMBERS],
+) -> u8
+    ensures { λ r. ⌜ analysisIn r (now (totals .exit)) (now (degrees .exit)) (now (places .exit)) (now (residuals .exit)) ≡ withDegrees plots (membersOf plots (now («plot_family» .entry)) «plot_size») (membersOf plots (now («treatment_family» .entry)) «treatment_size») (strata plots (now («plot_family» .entry)) «plot_size» (now («treatment_family» .entry)) «treatment_size») ⌝ }
 {
+    *totals = [0i64; MEMBERS];
+    *degrees = [0i64; MEMBERS];
+    *places = [0usize; MEMBERS];
+    *residuals = [0i64; MEMBERS];
     if !families::within(plots, plot_family.len()) {
-        return stratum::refused(6);
+        return 6;
     }
     if !families::within(plots, treatment_family.len()) {
-        return stratum::refused(6);
+        return 6;
     }
     stratum::from_15(
         plot_family,
@@ -132,5 +132,9 @@ pub fn analysis(
         treatment_family,
         treatment_size,
         plots,
+        totals,
+        degrees,
+        places,
+        residuals,
     )
 }

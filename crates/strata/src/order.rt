@@ -79,8 +79,8 @@ fn with_member(
 }
 
 // The word of member `i`. Only a member that stands before it can be coarser, and is where member `i` is finer.
-fn coarser_word(family: &[u8], n: usize, i: usize, words: [u32; MEMBERS], first: usize) -> u32
-    requires { ⌜ (n ≤ 240) × (7680 ≤ length (now family)) × (i < 32) × ((k : ℕ) → k < i → getD words k 0 ≡ finerWord n (now family) k) × (number (columnAt n (now family) i) ≡ columnAt n (now family) i) × (first ≡ classes (columnAt n (now family) 0)) ⌝ }
+fn coarser_word(family: &[u8], n: usize, i: usize, words: &[u32; MEMBERS], first: usize) -> u32
+    requires { ⌜ (n ≤ 240) × (7680 ≤ length (now family)) × (i < 32) × ((k : ℕ) → k < i → getD (now words) k 0 ≡ finerWord n (now family) k) × (number (columnAt n (now family) i) ≡ columnAt n (now family) i) × (first ≡ classes (columnAt n (now family) 0)) ⌝ }
     ensures { λ r. ⌜ r ≡ finerWord n (now (family .entry)) i ⌝ }
 {
     let k = member_classes(family, i, n);
@@ -102,16 +102,16 @@ pub fn coarser_words(family: &[u8], n: usize, size: usize) -> [u32; MEMBERS]
     let first = member_classes(family, 0, n);
     let mut words = [0u32; MEMBERS];
     for i in 0..size {
-        let word = coarser_word(family, n, i, words, first);
+        let word = coarser_word(family, n, i, &words, first);
         words[i] = word;
     }
     words
 }
 
 // The neighbours directly above member `i`: what is coarser than a coarser member is masked out.
-fn direct_word(words: [u32; MEMBERS], i: usize) -> u32
-    requires { ⌜ (i < 32) × AllWords words ⌝ }
-    ensures { λ r. ⌜ r ≡ directWord words i ⌝ }
+fn direct_word(words: &[u32; MEMBERS], i: usize) -> u32
+    requires { ⌜ (i < 32) × AllWords (now words) ⌝ }
+    ensures { λ r. ⌜ r ≡ directWord (now (words .entry)) i ⌝ }
 {
     let coarser = words[i];
     let mut word = coarser;
@@ -124,9 +124,9 @@ fn direct_word(words: [u32; MEMBERS], i: usize) -> u32
 }
 
 // The words of neighbours directly above.
-fn direct_words(words: [u32; MEMBERS]) -> [u32; MEMBERS]
-    requires { ⌜ AllWords words ⌝ }
-    ensures { λ r. ⌜ r ≡ tabulate (directWord words) 32 ⌝ }
+fn direct_words(words: &[u32; MEMBERS]) -> [u32; MEMBERS]
+    requires { ⌜ AllWords (now words) ⌝ }
+    ensures { λ r. ⌜ r ≡ tabulate (directWord (now (words .entry))) 32 ⌝ }
 {
     let mut direct = [0u32; MEMBERS];
     for i in 0..MEMBERS {
@@ -137,8 +137,8 @@ fn direct_words(words: [u32; MEMBERS]) -> [u32; MEMBERS]
 }
 
 // How many bits of each word are set.
-fn bit_counts(words: [u32; MEMBERS]) -> [u32; MEMBERS]
-    ensures { λ r. ⌜ r ≡ tabulate (λ i. ones (getD words i 0)) 32 ⌝ }
+fn bit_counts(words: &[u32; MEMBERS]) -> [u32; MEMBERS]
+    ensures { λ r. ⌜ r ≡ tabulate (λ i. ones (getD (now (words .entry)) i 0)) 32 ⌝ }
 {
     let mut counts = [0u32; MEMBERS];
     for i in 0..MEMBERS {
@@ -153,8 +153,8 @@ pub fn report(family: &[u8], n: usize, size: usize) -> RelationReport
     ensures { λ r. ⌜ relationIn r ≡ relationOf n (membersOf n (now (family .entry)) size) ⌝ }
 {
     let coarser = coarser_words(family, n, size);
-    let direct = direct_words(coarser);
-    let counts = bit_counts(direct);
+    let direct = direct_words(&coarser);
+    let counts = bit_counts(&direct);
     RelationReport {
         refusal: 0,
         size,

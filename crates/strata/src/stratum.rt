@@ -5,19 +5,19 @@ ghost use mathlib.Core.List.{map};
 ghost use Prim.Native.Nat.{_≤_, _<_};
 ghost use lib.Dec.{eqb};
 ghost use lib.IntN.{pos};
-ghost use lib.ListN.{length, getD};
+ghost use lib.ListN.{length, getD, replicate};
 ghost use Rattle.rules.specs.Factor.{every, classes, finer};
 ghost use Rattle.rules.specs.Family.{membersOf};
 ghost use Rattle.rules.specs.Lists.{tabulate, forPlaces, wordOf};
 ghost use Rattle.rules.specs.Relation.{coarserWords};
-ghost use Rattle.rules.specs.Strata.{stratum, question15, question16};
+ghost use Rattle.rules.specs.Strata.{stratum, allHaveStratum, question15, question16};
 ghost use Rattle.families.specs.Lent.{columnAt};
-ghost use Rattle.strata.specs.Answers.{analysisIn, analysisRefused, withDegrees};
+ghost use Rattle.strata.specs.Answers.{analysisIn, Cleared, withDegrees};
 ghost use Rattle.strata.specs.Lent.{Formed};
 ghost use Rattle.strata.specs.Sums.{AllSmall, residualAt};
 ghost use Rattle.strata.specs.Words.{finerWord, candidateWord, below, coarsest, firstPassing};
-use crate::AnalysisReport;
-use crate::degrees::degrees;
+use crate::degrees::fill_by_words;
+use crate::degrees::fill_degrees;
 use crate::degrees::less;
 use crate::family::member_classes;
 use crate::family::member_finer;
@@ -25,19 +25,6 @@ use crate::order::coarser_words;
 use crate::order::has;
 use families::well_formed;
 use limits::MEMBERS;
-
-// The answer of question `q` where it fails.
-pub fn refused(q: u8) -> AnalysisReport
-    ensures { λ r. ⌜ analysisIn r ≡ analysisRefused q ⌝ }
-{
-    AnalysisReport {
-        totals: [0i64; MEMBERS],
-        degrees: [0i64; MEMBERS],
-        places: [0usize; MEMBERS],
-        residuals: [0i64; MEMBERS],
-        refusal: q,
-    }
-}
 
 // The place of the member with a class for each plot, which only the last can be; 32 where there is none.
 fn finest_place(family: &[u8], n: usize, size: usize) -> usize
@@ -79,13 +66,13 @@ fn is_candidate(
 fn candidates(
     plot_family: &[u8],
     plot_size: usize,
-    words: [u32; MEMBERS],
+    words: &[u32; MEMBERS],
     treatment_family: &[u8],
     t: usize,
     n: usize,
     finest: usize,
 ) -> u32
-    requires { ⌜ Formed n (now «plot_family») «plot_size» × (words ≡ forPlaces 0 (coarserWords n (membersOf n (now «plot_family») «plot_size»))) × (7680 ≤ length (now «treatment_family»)) × (t < 32) × (finest < «plot_size» → classes (columnAt n (now «plot_family») finest) ≡ n) ⌝ }
+    requires { ⌜ Formed n (now «plot_family») «plot_size» × (now words ≡ forPlaces 0 (coarserWords n (membersOf n (now «plot_family») «plot_size»))) × (7680 ≤ length (now «treatment_family»)) × (t < 32) × (finest < «plot_size» → classes (columnAt n (now «plot_family») finest) ≡ n) ⌝ }
     ensures { λ r. ⌜ r ≡ candidateWord n (now («plot_family» .entry)) «plot_size» (now («treatment_family» .entry)) t ⌝ }
 {
     let mut among: u32 = 0;
@@ -113,9 +100,9 @@ fn is_below(word: u32, among: u32, p: usize, q: usize) -> bool
 }
 
 // Whether `p` is a candidate to which every other candidate is finer.
-fn is_coarsest(words: [u32; MEMBERS], size: usize, among: u32, p: usize) -> bool
+fn is_coarsest(words: &[u32; MEMBERS], size: usize, among: u32, p: usize) -> bool
     requires { ⌜ (size ≤ 32) × (p < 32) ⌝ }
-    ensures { λ r. ⌜ r ≡ coarsest words size among p ⌝ }
+    ensures { λ r. ⌜ r ≡ coarsest (now (words .entry)) size among p ⌝ }
 {
     if !has(among, p) {
         return false;
@@ -129,9 +116,9 @@ fn is_coarsest(words: [u32; MEMBERS], size: usize, among: u32, p: usize) -> bool
 }
 
 // The place of the coarsest candidate, from 1, or 0 where there is none.
-fn coarsest_place(words: [u32; MEMBERS], size: usize, among: u32) -> usize
+fn coarsest_place(words: &[u32; MEMBERS], size: usize, among: u32) -> usize
     requires { ⌜ size ≤ 32 ⌝ }
-    ensures { λ r. ⌜ r ≡ firstPassing (coarsest words size among) 0 size ⌝ }
+    ensures { λ r. ⌜ r ≡ firstPassing (coarsest (now (words .entry)) size among) 0 size ⌝ }
 {
     for p in 0..size {
         if is_coarsest(words, size, among, p) {
@@ -141,20 +128,34 @@ fn coarsest_place(words: [u32; MEMBERS], size: usize, among: u32) -> usize
     0
 }
 
-// The places of the strata of all treatment members.
-fn stratum_places(
+// Whether each of the first `size` places is one.
+fn all_placed(places: &[usize; MEMBERS], size: usize) -> bool
+    requires { ⌜ size ≤ 32 ⌝ }
+    ensures { λ r. ⌜ r ≡ every size (λ t. not (eqb (getD (now (places .entry)) t 0) 0)) ⌝ }
+{
+    for t in 0..size {
+        if places[t] == 0 {
+            return false;
+        }
+    }
+    true
+}
+
+// Writes the places of the strata of all treatment members where there are zeros. 16: whether each has one.
+fn fill_places(
     plot_family: &[u8],
     plot_size: usize,
     treatment_family: &[u8],
     treatment_size: usize,
     n: usize,
-    words: [u32; MEMBERS],
-) -> [usize; MEMBERS]
-    requires { ⌜ Formed n (now «plot_family») «plot_size» × (7680 ≤ length (now «treatment_family»)) × («treatment_size» ≤ 32) × (words ≡ forPlaces 0 (coarserWords n (membersOf n (now «plot_family») «plot_size»))) ⌝ }
-    ensures { λ r. ⌜ r ≡ forPlaces 0 (map (stratum n (membersOf n (now («plot_family» .entry)) «plot_size»)) (membersOf n (now («treatment_family» .entry)) «treatment_size»)) ⌝ }
+    words: &[u32; MEMBERS],
+    places: &mut [usize; MEMBERS],
+) -> bool
+    requires { ⌜ Formed n (now «plot_family») «plot_size» × (7680 ≤ length (now «treatment_family»)) × («treatment_size» ≤ 32) × (now words ≡ forPlaces 0 (coarserWords n (membersOf n (now «plot_family») «plot_size»))) × (now places ≡ replicate 32 0) ⌝ }
+    ensures answer { λ r. ⌜ r ≡ allHaveStratum n (membersOf n (now («plot_family» .entry)) «plot_size») (membersOf n (now («treatment_family» .entry)) «treatment_size») ⌝ }
+    ensures places { λ _. ⌜ now (places .exit) ≡ forPlaces 0 (map (stratum n (membersOf n (now («plot_family» .entry)) «plot_size»)) (membersOf n (now («treatment_family» .entry)) «treatment_size»)) ⌝ }
 {
     let finest = finest_place(plot_family, n, plot_size);
-    let mut places = [0usize; MEMBERS];
     for t in 0..treatment_size {
         let among = candidates(
             plot_family,
@@ -168,20 +169,7 @@ fn stratum_places(
         let place = coarsest_place(words, plot_size, among);
         places[t] = place;
     }
-    places
-}
-
-// 16: whether each of the first `size` places is one.
-fn all_placed(places: [usize; MEMBERS], size: usize) -> bool
-    requires { ⌜ size ≤ 32 ⌝ }
-    ensures { λ r. ⌜ r ≡ every size (λ t. not (eqb (getD places t 0) 0)) ⌝ }
-{
-    for t in 0..size {
-        if places[t] == 0 {
-            return false;
-        }
-    }
-    true
+    all_placed(places, treatment_size)
 }
 
 // The treatment members whose stratum has the place `place`.
@@ -198,25 +186,25 @@ fn stratum_word(places: &[usize; MEMBERS], size: usize, place: usize) -> u32
     word
 }
 
-// What is left to each plot member when the numbers of the treatment members in its stratum are taken from its own.
-fn residuals(
+// Writes what is left to each plot member when the numbers of the treatment members in its stratum are taken from its own, where there
+// are zeros.
+fn fill_residuals(
     own: &[i64; MEMBERS],
     plot_size: usize,
     numbers: &[i64; MEMBERS],
     places: &[usize; MEMBERS],
     treatment_size: usize,
-) -> [i64; MEMBERS]
-    requires { ⌜ («plot_size» ≤ 32) × («treatment_size» ≤ 32) × AllSmall (now own) × AllSmall (now numbers) ⌝ }
-    ensures { λ r. ⌜ r ≡ forPlaces (pos 0) (tabulate (residualAt (now (own .entry)) (now (numbers .entry)) (now (places .entry)) «treatment_size») «plot_size») ⌝ }
+    left: &mut [i64; MEMBERS],
+)
+    requires { ⌜ («plot_size» ≤ 32) × («treatment_size» ≤ 32) × AllSmall (now own) × AllSmall (now numbers) × (now left ≡ replicate 32 (pos 0)) ⌝ }
+    ensures { λ _. ⌜ now (left .exit) ≡ forPlaces (pos 0) (tabulate (residualAt (now (own .entry)) (now (numbers .entry)) (now (places .entry)) «treatment_size») «plot_size») ⌝ }
 {
-    let mut left = [0i64; MEMBERS];
     for p in 0..plot_size {
         let word = stratum_word(places, treatment_size, p + 1);
         let start = own[p];
         let number = less(start, word, numbers, treatment_size);
         left[p] = number;
     }
-    left
 }
 
 // From question 16 on, of families that 15 accepts.
@@ -226,33 +214,31 @@ fn from_16(
     treatment_family: &[u8],
     treatment_size: usize,
     n: usize,
-) -> AnalysisReport
-    requires { ⌜ Formed n (now «plot_family») «plot_size» × Formed n (now «treatment_family») «treatment_size» ⌝ }
-    ensures { λ r. ⌜ analysisIn r ≡ withDegrees n (membersOf n (now («plot_family» .entry)) «plot_size») (membersOf n (now («treatment_family» .entry)) «treatment_size») (question16 n (membersOf n (now («plot_family» .entry)) «plot_size») (membersOf n (now («treatment_family» .entry)) «treatment_size»)) ⌝ }
+    totals: &mut [i64; MEMBERS],
+    numbers: &mut [i64; MEMBERS],
+    places: &mut [usize; MEMBERS],
+    left: &mut [i64; MEMBERS],
+) -> u8
+    requires { ⌜ Formed n (now «plot_family») «plot_size» × Formed n (now «treatment_family») «treatment_size» × Cleared (now totals) (now numbers) (now places) (now left) ⌝ }
+    ensures { λ r. ⌜ analysisIn r (now (totals .exit)) (now (numbers .exit)) (now (places .exit)) (now (left .exit)) ≡ withDegrees n (membersOf n (now («plot_family» .entry)) «plot_size») (membersOf n (now («treatment_family» .entry)) «treatment_size») (question16 n (membersOf n (now («plot_family» .entry)) «plot_size») (membersOf n (now («treatment_family» .entry)) «treatment_size»)) ⌝ }
 {
-    let plot_words = coarser_words(plot_family, n, plot_size);
-    let places = stratum_places(
+    let words = coarser_words(plot_family, n, plot_size);
+    if !fill_places(
         plot_family,
         plot_size,
         treatment_family,
         treatment_size,
         n,
-        plot_words,
-    );
-    if !all_placed(places, treatment_size) {
-        return refused(16);
-    }
-    let own = degrees(plot_family, n, plot_size, plot_words);
-    let treatment_words = coarser_words(treatment_family, n, treatment_size);
-    let numbers = degrees(treatment_family, n, treatment_size, treatment_words);
-    let left = residuals(&own, plot_size, &numbers, &places, treatment_size);
-    AnalysisReport {
-        totals: own,
-        degrees: numbers,
+        &words,
         places,
-        residuals: left,
-        refusal: 0,
+    ) {
+        *places = [0usize; MEMBERS];
+        return 16;
     }
+    fill_by_words(plot_family, n, plot_size, &words, totals);
+    fill_degrees(treatment_family, n, treatment_size, numbers);
+    fill_residuals(totals, plot_size, numbers, places, treatment_size, left);
+    0
 }
 
 // From question 15 on, once 6 is answered.
@@ -262,15 +248,29 @@ pub fn from_15(
     treatment_family: &[u8],
     treatment_size: usize,
     n: usize,
-) -> AnalysisReport
-    requires { ⌜ (n ≤ 240) × (7680 ≤ length (now «plot_family»)) × (7680 ≤ length (now «treatment_family»)) ⌝ }
-    ensures { λ r. ⌜ analysisIn r ≡ withDegrees n (membersOf n (now («plot_family» .entry)) «plot_size») (membersOf n (now («treatment_family» .entry)) «treatment_size») (question15 n (membersOf n (now («plot_family» .entry)) «plot_size») (membersOf n (now («treatment_family» .entry)) «treatment_size»)) ⌝ }
+    totals: &mut [i64; MEMBERS],
+    numbers: &mut [i64; MEMBERS],
+    places: &mut [usize; MEMBERS],
+    left: &mut [i64; MEMBERS],
+) -> u8
+    requires { ⌜ (n ≤ 240) × (7680 ≤ length (now «plot_family»)) × (7680 ≤ length (now «treatment_family»)) × Cleared (now totals) (now numbers) (now places) (now left) ⌝ }
+    ensures { λ r. ⌜ analysisIn r (now (totals .exit)) (now (numbers .exit)) (now (places .exit)) (now (left .exit)) ≡ withDegrees n (membersOf n (now («plot_family» .entry)) «plot_size») (membersOf n (now («treatment_family» .entry)) «treatment_size») (question15 n (membersOf n (now («plot_family» .entry)) «plot_size») (membersOf n (now («treatment_family» .entry)) «treatment_size»)) ⌝ }
 {
     if !well_formed(plot_family, n, plot_size) {
-        return refused(15);
+        return 15;
     }
     if !well_formed(treatment_family, n, treatment_size) {
-        return refused(15);
+        return 15;
     }
-    from_16(plot_family, plot_size, treatment_family, treatment_size, n)
+    from_16(
+        plot_family,
+        plot_size,
+        treatment_family,
+        treatment_size,
+        n,
+        totals,
+        numbers,
+        places,
+        left,
+    )
 }

@@ -87,6 +87,10 @@ module _ (n : ℕ) (b : List ℕ) (p : ℕ) (c : List ℕ) (r : ℕ) (h : Accept
   unfolding withDegrees
   analysed = ap (withDegrees n P R) answered
 
+  -- 32 numbers each
+  pub answered-lengths : (x : Analysis) → x ≡ withDegrees n P R (strata n b p c r) → (length (x .strata .places) ≡ 32) × (length (x .degrees) ≡ 32) × (length (x .totals) ≡ 32) × (length (x .strata .residuals) ≡ 32)
+  answered-lengths x e = rw (e ∙ analysed) (length-places 0 (map (stratum n P) R), length-places (pos 0) (degrees n R), length-places (pos 0) (degrees n P), length-places (pos 0) (residuals n P R))
+
   -- the lines from what is answered
   pub answered-rows : (x : Analysis) → x ≡ withDegrees n P R (strata n b p c r) → (ps ts : List (List ℕ))
       → tableOf n (strataRows 1 ps (take p (x .totals)) (take p (x .strata .residuals)) ts (take r (x .strata .places)) (take r (x .degrees))) ≡ namedRows n P R ps ts

@@ -513,11 +513,21 @@ fn print_degrees(
     ensures answer { λ r. ⌜ r ≡ placeAfter (now (out .entry)) 0 (rowsBytes (namedRows plots (membersOf plots (now («plot_family» .entry)) «plot_size») (membersOf plots (now (family .entry)) size) (namesIn (now (strata .entry)) (now («strata_lengths» .entry)) «plot_size») (namesIn (now (names .entry)) (now (lengths .entry)) size))) ⌝ }
     ensures bytes { λ _. ⌜ now (out .exit) ≡ written (now (out .entry)) 0 (rowsBytes (namedRows plots (membersOf plots (now («plot_family» .entry)) «plot_size») (membersOf plots (now (family .entry)) size) (namesIn (now (strata .entry)) (now («strata_lengths» .entry)) «plot_size») (namesIn (now (names .entry)) (now (lengths .entry)) size))) ⌝ }
 {
-    let report = strata::analysis(plot_family, plot_size, family, size, plots);
-    let totals = report.totals;
-    let degrees = report.degrees;
-    let places = report.places;
-    let residuals = report.residuals;
+    let mut totals = [0i64; MEMBERS];
+    let mut degrees = [0i64; MEMBERS];
+    let mut places = [0usize; MEMBERS];
+    let mut residuals = [0i64; MEMBERS];
+    strata::analysis(
+        plot_family,
+        plot_size,
+        family,
+        size,
+        plots,
+        &mut totals,
+        &mut degrees,
+        &mut places,
+        &mut residuals,
+    );
     rows::put_table(
         plots,
         strata,

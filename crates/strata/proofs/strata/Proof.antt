@@ -15,10 +15,10 @@ analysis-requires c κs = search needs
 
 returns : tie.Need-returns
 returns c =
-    let a = c .before .before .before .before .before .args in
+    let a = c .before .before .before .before .before .before .before .args in
     let P = membersOf (a .plots) (now (a .plot-family)) (a .plot-size) in
     let R = membersOf (a .plots) (now (a .treatment-family)) (a .treatment-size) in
-    ap (λ (x : Analysis). x .strata) (c .before .before .analysis .ensures)
+    ap (λ (x : Analysis). x .strata) (c .analysis .ensures)
     ∙ with-strata (a .plots) P R (strata (a .plots) (now (a .plot-family)) (a .plot-size) (now (a .treatment-family)) (a .treatment-size))
 
 pub strata-spec : {M : Type 1} → statement M

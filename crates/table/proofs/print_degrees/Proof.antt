@@ -5,9 +5,8 @@ use denote.Ref.{now}
 use borrow.Author.Needs.{needs}
 use Rattle.rules.specs.Table.{rowsBytes}
 use Rattle.decimal.proofs.Writing.{wrote-as}
-use Rattle.strata.specs.Answers.{analysisIn}
 use Rattle.table.specs.Names.{namesIn}
-use Rattle.table.proofs.TableLaws.{answered-rows}
+use Rattle.table.proofs.TableLaws.{answered-lengths, answered-rows}
 use Rattle.table.proofs.print_degrees.Statement.{statement}
 use Rattle.table.proofs.print_degrees.Tie as tie
 
@@ -15,7 +14,11 @@ analysis-requires : tie.Need-analysis-requires
 analysis-requires c κs = search needs
 
 put-table-requires : tie.Need-put-table-requires
-put-table-requires c κs = search needs
+put-table-requires c κs =
+    let s = c .before .before .before .before .before .before .before .before .before .before .before .before .before .before .before .before .before in
+    let a = s .args in
+    let long = answered-lengths (a .plots) (now (a .plot-family)) (a .plot-size) (now (a .family)) (a .size) (s .pre .0) _ (c .before .before .before .before .before .analysis .ensures) in
+    (s .pre .0 .treatment-few, s .pre .2, s .pre .0 .plot-few, s .pre .1, long .0, long .1, long .2, long .3)
 
 same-length : tie.Need-same-length
 same-length c = search needs
@@ -24,10 +27,10 @@ returns : tie.Need-returns
 returns c =
     let s = c .before .before .before .before .before .before .before .before .before .before .before .before .before .before .before .before .before .before .before .before in
     let a = s .args in
-    let z = c .before .before .before .before .before .before .before .before .before .before .before .before .analysis in
+    let z = c .before .before .before .before .before .before .before .before .analysis in
     wrote-as (now (a .out)) 0
     (ap rowsBytes
-    (answered-rows (a .plots) (now (a .plot-family)) (a .plot-size) (now (a .family)) (a .size) (s .pre .0) (analysisIn (z .result)) (z .ensures)
+    (answered-rows (a .plots) (now (a .plot-family)) (a .plot-size) (now (a .family)) (a .size) (s .pre .0) _ (z .ensures)
     (namesIn (now (a .strata)) (now (a .strata-lengths)) (a .plot-size)) (namesIn (now (a .names)) (now (a .lengths)) (a .size))))
     (c .before .before .put-table .ensures)
 

@@ -3,6 +3,7 @@
 use mathlib.Core.Path.{_≡_, refl, _∙_}
 use Prim.Native.Nat.{_-_, _≤_}
 use native.Mathlib.Omega.{arith}
+use denote.Ref.{now}
 use lib.Count.{ones}
 use lib.ListN.{length, getD, length-set}
 use Rattle.strata.proofs.Fill.{upTo, up-start, up-step, up-all}
@@ -16,13 +17,13 @@ abbrev μ-loop : tie.MeasureT-loop
 μ-loop words counts₀ i₀ counts i = 32 - i
 
 loop-holds : tie.Need-loop-holds Inv-loop μ-loop
-loop-holds c = (omega arith, refl, up-start 0 (λ k. ones (getD (c .args .t1) k 0)) 32)
+loop-holds c = (omega arith, refl, up-start 0 (λ k. ones (getD (now (c .args .words)) k 0)) 32)
 
 mul-counts : tie.Need-mul-counts Inv-loop μ-loop
 mul-counts c = omega arith
 
-array-read-counts : tie.Need-array-read-counts Inv-loop μ-loop
-array-read-counts c = omega arith
+element-copy-out-counts : tie.Need-element-copy-out-counts Inv-loop μ-loop
+element-copy-out-counts c = omega arith
 
 mul-counts-2 : tie.Need-mul-counts-2 Inv-loop μ-loop
 mul-counts-2 c = omega arith
@@ -38,15 +39,15 @@ loop-less c = omega arith
 
 loop-again : tie.Need-loop-again Inv-loop μ-loop
 loop-again c =
-    let b = c .before in
-    let words = b .before .args .t1 in
+    let b = c .before .before in
+    let words = now (b .before .args .words) in
     let i = b .loop .i in
     (omega arith, simp length-set (b .loop .inv .1), rw (b .loop .inv .2) (up-step 0 (λ k. ones (getD words k 0)) 32 i (omega arith) (omega arith)))
 
 returns : tie.Need-returns Inv-loop μ-loop
 returns c =
     let b = c .before in
-    let words = b .before .args .t1 in
+    let words = now (b .before .args .words) in
     b .loop .inv .2 ∙ up-all 0 (λ k. ones (getD words k 0)) (b .loop .i) (omega arith)
 
 pub bit-counts-spec : {M : Type 1} → statement M
@@ -57,7 +58,7 @@ bit-counts-spec =
     μ-loop
     loop-holds
     mul-counts
-    array-read-counts
+    element-copy-out-counts
     mul-counts-2
     array-write-counts
     add-i

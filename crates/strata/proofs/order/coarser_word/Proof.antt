@@ -27,12 +27,12 @@ sub-j c = omega arith
 mul-coarser : tie.Need-mul-coarser Inv-loop μ-loop
 mul-coarser c = omega arith
 
-array-read-coarser : tie.Need-array-read-coarser Inv-loop μ-loop
-array-read-coarser c = omega arith
+element-copy-out-coarser : tie.Need-element-copy-out-coarser Inv-loop μ-loop
+element-copy-out-coarser c = omega arith
 
 with-member-requires : tie.Need-with-member-requires Inv-loop μ-loop
 with-member-requires c κs =
-    let b = c .before in
+    let b = c .before .before in
     let s = b .before .before .before in
     let a = s .args in
     let j = b .loop .j in
@@ -62,7 +62,7 @@ coarser-word-spec =
     loop-holds
     sub-j
     mul-coarser
-    array-read-coarser
+    element-copy-out-coarser
     with-member-requires
     loop-less
     loop-again

@@ -35,7 +35,7 @@ loop-holds c =
 
 coarser-word-requires : tie.Need-coarser-word-requires Inv-loop μ-loop
 coarser-word-requires c κs =
-    let b = c .before in
+    let b = c .before .before in
     let s = b .before .before .before in
     let a = s .args in
     let xs = coarserWords (a .n) (membersOf (a .n) (now (a .family)) (a .size)) in
@@ -63,7 +63,7 @@ loop-less c = omega arith
 
 loop-again : tie.Need-loop-again Inv-loop μ-loop
 loop-again c =
-    let b = c .before .before in
+    let b = c .before .before .before in
     let s = b .before .before .before in
     let a = s .args in
     let xs = coarserWords (a .n) (membersOf (a .n) (now (a .family)) (a .size)) in

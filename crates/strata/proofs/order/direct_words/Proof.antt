@@ -3,6 +3,7 @@
 use mathlib.Core.Path.{_≡_, refl, _∙_}
 use Prim.Native.Nat.{_-_, _≤_}
 use native.Mathlib.Omega.{arith}
+use denote.Ref.{now}
 use lib.ListN.{length, length-set}
 use Rattle.strata.specs.Words.{directWord}
 use Rattle.strata.proofs.Fill.{upTo, up-start, up-step, up-all}
@@ -16,7 +17,7 @@ abbrev μ-loop : tie.MeasureT-loop
 μ-loop words direct₀ i₀ direct i = 32 - i
 
 loop-holds : tie.Need-loop-holds Inv-loop μ-loop
-loop-holds c = (omega arith, refl, up-start 0 (directWord (c .args .words)) 32)
+loop-holds c = (omega arith, refl, up-start 0 (directWord (now (c .args .words))) 32)
 
 direct-word-requires : tie.Need-direct-word-requires Inv-loop μ-loop
 direct-word-requires c κs = (omega arith, c .before .before .pre)
@@ -36,14 +37,14 @@ loop-less c = omega arith
 loop-again : tie.Need-loop-again Inv-loop μ-loop
 loop-again c =
     let b = c .before .before in
-    let words = b .before .args .words in
+    let words = now (b .before .args .words) in
     let i = b .loop .i in
     (omega arith, simp length-set (b .loop .inv .1), rw (b .loop .inv .2, c .direct-word .ensures) (up-step 0 (directWord words) 32 i (omega arith) (omega arith)))
 
 returns : tie.Need-returns Inv-loop μ-loop
 returns c =
     let b = c .before in
-    let words = b .before .args .words in
+    let words = now (b .before .args .words) in
     b .loop .inv .2 ∙ up-all 0 (directWord words) (b .loop .i) (omega arith)
 
 pub direct-words-spec : {M : Type 1} → statement M

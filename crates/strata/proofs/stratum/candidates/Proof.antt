@@ -21,10 +21,10 @@ use Rattle.strata.proofs.stratum.candidates.Statement.{statement}
 use Rattle.strata.proofs.stratum.candidates.Tie as tie
 
 abbrev Inv-loop : tie.InvT-loop
-Inv-loop plot-family plot-size treatment-family t n finest words among₀ p₀ among p = (p ≤ plot-size) × (plot-size ≤ 32) × (n ≤ 240) × (7680 ≤ length plot-family) × (among ≡ candidateWord n plot-family p treatment-family t)
+Inv-loop plot-family plot-size words treatment-family t n finest among₀ p₀ among p = (p ≤ plot-size) × (plot-size ≤ 32) × (n ≤ 240) × (7680 ≤ length plot-family) × (among ≡ candidateWord n plot-family p treatment-family t)
 
 abbrev μ-loop : tie.MeasureT-loop
-μ-loop plot-family plot-size treatment-family t n finest words among₀ p₀ among p = plot-size - p
+μ-loop plot-family plot-size words treatment-family t n finest among₀ p₀ among p = plot-size - p
 
 loop-holds : tie.Need-loop-holds Inv-loop μ-loop
 unfolding candidateWord wordOf
@@ -33,16 +33,16 @@ loop-holds c = let s = c .before .before in (omega arith, s .pre .0 .few, s .pre
 mul-word : tie.Need-mul-word Inv-loop μ-loop
 mul-word c = omega arith
 
-array-read-word : tie.Need-array-read-word Inv-loop μ-loop
-array-read-word c = omega arith
+element-copy-out-word : tie.Need-element-copy-out-word Inv-loop μ-loop
+element-copy-out-word c = omega arith
 
 is-candidate-requires : tie.Need-is-candidate-requires Inv-loop μ-loop
 is-candidate-requires c κs =
-    let b = c .before in
+    let b = c .before .before in
     let s = b .before .before .before in
     let a = s .args in
     let p = b .loop .p in
-    let is : getD (a .t3) p 0 ≡ finerWord (a .n) (now (a .plot-family)) p =
+    let is : getD (now (a .words)) p 0 ≡ finerWord (a .n) (now (a .plot-family)) p =
     ap (λ (ws : List ℕ). getD ws p 0) (s .pre .1) ∙ at-places 0 (coarserWords (a .n) (membersOf (a .n) (now (a .plot-family)) (a .plot-size))) p (omega arith) ∙ sym (finer-word-is (s .pre .0) p (omega arith)) in
     (omega arith, omega arith, omega arith, omega arith, omega arith, is, b .loop .inv .4, λ e. s .pre .4 (omega arith))
 
@@ -61,7 +61,7 @@ loop-less c = omega arith
 loop-again : tie.Need-loop-again Inv-loop μ-loop
 unfolding candidateWord
 loop-again c =
-    let b = c .before .before .before in
+    let b = c .before .before .before .before in
     let a = b .before .before .before .args in
     let f : ℕ → Bool = λ k. finer (a .n) (columnAt (a .n) (now (a .plot-family)) k) (columnAt (a .n) (now (a .treatment-family)) (a .t)) in
     let p = b .loop .p in
@@ -89,7 +89,7 @@ candidates-spec =
     μ-loop
     loop-holds
     mul-word
-    array-read-word
+    element-copy-out-word
     is-candidate-requires
     cast-among
     shl-among

@@ -3,6 +3,7 @@
 use mathlib.Core.Path.{_≡_, sym, ap, _∙_}
 use Prim.Native.Nat.{_-_, _≤_}
 use native.Mathlib.Omega.{arith}
+use denote.Ref.{now}
 use Rattle.strata.specs.Words.{coarsest, firstPassing}
 use Rattle.strata.proofs.StratumLaws.{passing-here, passing-on, passing-end}
 use Rattle.strata.proofs.stratum.coarsest_place.Statement.{statement}
@@ -18,7 +19,7 @@ loop-holds : tie.Need-loop-holds Inv-loop μ-loop
 loop-holds c =
     let s = c .args in
     let e : s .size - 0 ≡ s .size = omega arith in
-    (omega arith, sym (ap (firstPassing (coarsest (s .words) (s .size) (s .among)) 0) e))
+    (omega arith, sym (ap (firstPassing (coarsest (now (s .words)) (s .size) (s .among)) 0) e))
 
 is-coarsest-requires : tie.Need-is-coarsest-requires Inv-loop μ-loop
 is-coarsest-requires c κs = omega arith
@@ -30,7 +31,7 @@ returns : tie.Need-returns Inv-loop μ-loop
 returns c =
     let b = c .before .before .before in
     let s = b .before .args in
-    sym (b .loop .inv .1 ∙ passing-here (coarsest (s .words) (s .size) (s .among)) (b .loop .p) (s .size) (omega arith) (sym (c .before .is-coarsest .ensures) ∙ c .if1 .taken))
+    sym (b .loop .inv .1 ∙ passing-here (coarsest (now (s .words)) (s .size) (s .among)) (b .loop .p) (s .size) (omega arith) (sym (c .before .is-coarsest .ensures) ∙ c .if1 .taken))
 
 add-p : tie.Need-add-p Inv-loop μ-loop
 add-p c = omega arith
@@ -42,13 +43,13 @@ loop-again : tie.Need-loop-again Inv-loop μ-loop
 loop-again c =
     let b = c .before .before .before in
     let s = b .before .args in
-    (omega arith, b .loop .inv .1 ∙ passing-on (coarsest (s .words) (s .size) (s .among)) (b .loop .p) (s .size) (omega arith) (sym (c .before .is-coarsest .ensures) ∙ c .if1 .left))
+    (omega arith, b .loop .inv .1 ∙ passing-on (coarsest (now (s .words)) (s .size) (s .among)) (b .loop .p) (s .size) (omega arith) (sym (c .before .is-coarsest .ensures) ∙ c .if1 .left))
 
 returns-2 : tie.Need-returns-2 Inv-loop μ-loop
 returns-2 c =
     let b = c .before in
     let s = b .before .args in
-    sym (b .loop .inv .1 ∙ passing-end (coarsest (s .words) (s .size) (s .among)) (b .loop .p) (s .size) (omega arith))
+    sym (b .loop .inv .1 ∙ passing-end (coarsest (now (s .words)) (s .size) (s .among)) (b .loop .p) (s .size) (omega arith))
 
 pub coarsest-place-spec : {M : Type 1} → statement M
 coarsest-place-spec =

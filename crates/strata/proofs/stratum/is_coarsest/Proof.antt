@@ -4,6 +4,7 @@ use mathlib.Core.Path.{_≡_, refl, sym, ap, _∙_}
 use mathlib.Core.Bool.{Bool, true, false}
 use Prim.Native.Nat.{ℕ, _-_, _≤_}
 use native.Mathlib.Omega.{arith}
+use denote.Ref.{now}
 use lib.ListN.{getD}
 use borrow.Author.Tests.{not-true, not-false}
 use Rattle.rules.specs.Factor.{every}
@@ -14,10 +15,10 @@ use Rattle.strata.proofs.stratum.is_coarsest.Statement.{statement}
 use Rattle.strata.proofs.stratum.is_coarsest.Tie as tie
 
 abbrev Inv-loop : tie.InvT-loop
-Inv-loop size among p words q₀ q = (q ≤ size) × (every q (λ k. below (getD words k 0) among p k) ≡ true)
+Inv-loop words size among p q₀ q = (q ≤ size) × (every q (λ k. below (getD words k 0) among p k) ≡ true)
 
 abbrev μ-loop : tie.MeasureT-loop
-μ-loop size among p words q₀ q = size - q
+μ-loop words size among p q₀ q = size - q
 
 has-requires : tie.Need-has-requires Inv-loop μ-loop
 has-requires c κs = omega arith
@@ -36,8 +37,8 @@ loop-holds c = (omega arith, refl)
 mul-is-below : tie.Need-mul-is-below Inv-loop μ-loop
 mul-is-below c = omega arith
 
-array-read-is-below : tie.Need-array-read-is-below Inv-loop μ-loop
-array-read-is-below c = omega arith
+element-copy-out-is-below : tie.Need-element-copy-out-is-below Inv-loop μ-loop
+element-copy-out-is-below c = omega arith
 
 is-below-requires : tie.Need-is-below-requires Inv-loop μ-loop
 is-below-requires c κs = omega arith
@@ -45,9 +46,9 @@ is-below-requires c κs = omega arith
 returns-2 : tie.Need-returns-2 Inv-loop μ-loop
 unfolding coarsest
 returns-2 c =
-    let b = c .before .before .before in
+    let b = c .before .before .before .before in
     let s = b .before .before .before .args in
-    let f : ℕ → Bool = λ k. below (getD (s .t1) k 0) (s .among) (s .p) k in
+    let f : ℕ → Bool = λ k. below (getD (now (s .words)) k 0) (s .among) (s .p) k in
     let e : bitAt (s .among) (s .p) ≡ true = sym (b .before .before .has .ensures) ∙ not-false _ (b .before .if1 .left) in
     rw (e, every-fails f (s .size) (b .loop .q) (omega arith) (sym (c .before .is-below .ensures) ∙ not-true _ (c .if2 .taken)))
 
@@ -59,9 +60,9 @@ loop-less c = omega arith
 
 loop-again : tie.Need-loop-again Inv-loop μ-loop
 loop-again c =
-    let b = c .before .before .before in
+    let b = c .before .before .before .before in
     let s = b .before .before .before .args in
-    let f : ℕ → Bool = λ k. below (getD (s .t1) k 0) (s .among) (s .p) k in
+    let f : ℕ → Bool = λ k. below (getD (now (s .words)) k 0) (s .among) (s .p) k in
     (omega arith, every-on f (b .loop .q) (b .loop .inv .1) (sym (c .before .is-below .ensures) ∙ not-false _ (c .if2 .left)))
 
 returns-3 : tie.Need-returns-3 Inv-loop μ-loop
@@ -69,7 +70,7 @@ unfolding coarsest
 returns-3 c =
     let b = c .before in
     let s = b .before .before .before .args in
-    let f : ℕ → Bool = λ k. below (getD (s .t1) k 0) (s .among) (s .p) k in
+    let f : ℕ → Bool = λ k. below (getD (now (s .words)) k 0) (s .among) (s .p) k in
     let e : bitAt (s .among) (s .p) ≡ true = sym (b .before .before .has .ensures) ∙ not-false _ (b .before .if1 .left) in
     let q : b .loop .q ≡ s .size = omega arith in
     let all : every (s .size) f ≡ true = ap (λ (m : ℕ). every m f) (sym q) ∙ b .loop .inv .1 in
@@ -85,7 +86,7 @@ is-coarsest-spec =
     returns
     loop-holds
     mul-is-below
-    array-read-is-below
+    element-copy-out-is-below
     is-below-requires
     returns-2
     add-q

@@ -1,12 +1,12 @@
--- `degrees` meets its contract: each turn finds the next number from those before it.
+-- `fill_by_words` meets its contract: each turn finds the next number from those before it.
 -- Assumes nothing.
-use mathlib.Core.Path.{_≡_, refl, sym, ap, ap₂, subst, _∙_}
+use mathlib.Core.Path.{_≡_, sym, ap, ap₂, subst, _∙_}
 use mathlib.Core.List.{List}
 use Prim.Native.Nat.{ℕ, _-_, _≤_}
 use native.Mathlib.Omega.{arith}
 use denote.Ref.{now}
 use lib.IntN.{ℤ, pos, _-ℤ_}
-use lib.ListN.{length, getD, take, length-set}
+use lib.ListN.{length, getD, take}
 use mir.Syntax.{w64}
 use mir.Val.{ofZ, toZ}
 use mir.ValLaws.{toZ-ofZ, toZ-pos}
@@ -23,11 +23,11 @@ use Rattle.strata.specs.Sums.{AllSmall, sumPassing}
 use Rattle.strata.proofs.Lent.{accepted-members, size-members}
 use Rattle.strata.proofs.Sums.{small-fits, small-take, small-places}
 use Rattle.strata.proofs.DegreeTurns.{few-classes, small-degrees, degree-turn}
-use Rattle.strata.proofs.degrees.degrees.Statement.{statement}
-use Rattle.strata.proofs.degrees.degrees.Tie as tie
+use Rattle.strata.proofs.degrees.fill_by_words.Statement.{statement}
+use Rattle.strata.proofs.degrees.fill_by_words.Tie as tie
 
 abbrev Inv-loop : tie.InvT-loop
-Inv-loop family n size words numbers₀ i₀ numbers i = (i ≤ size) × (length numbers ≡ 32) × (numbers ≡ forPlaces (pos 0) (take i (degrees n (membersOf n family size))))
+Inv-loop family n size words numbers₀ i₀ numbers i = (i ≤ size) × (numbers ≡ forPlaces (pos 0) (take i (degrees n (membersOf n family size))))
 
 abbrev μ-loop : tie.MeasureT-loop
 μ-loop family n size words numbers₀ i₀ numbers i = size - i
@@ -35,7 +35,7 @@ abbrev μ-loop : tie.MeasureT-loop
 loop-holds : tie.Need-loop-holds Inv-loop μ-loop
 loop-holds c =
     let a = c .before .args in
-    (omega arith, refl, places-start (pos 0) (degrees (a .n) (membersOf (a .n) (now (a .family)) (a .size))))
+    (omega arith, c .before .pre .2 ∙ places-start (pos 0) (degrees (a .n) (membersOf (a .n) (now (a .family)) (a .size))))
 
 member-classes-requires : tie.Need-member-classes-requires Inv-loop μ-loop
 member-classes-requires c κs =
@@ -56,27 +56,27 @@ cast-own c =
 mul-word : tie.Need-mul-word Inv-loop μ-loop
 mul-word c = omega arith
 
-array-read-word : tie.Need-array-read-word Inv-loop μ-loop
-array-read-word c = omega arith
+element-copy-out-word : tie.Need-element-copy-out-word Inv-loop μ-loop
+element-copy-out-word c = omega arith
 
 less-requires : tie.Need-less-requires Inv-loop μ-loop
 less-requires c κs =
-    let b = c .before .before .before in
+    let b = c .before .before .before .before in
     let s = b .before .before in
     let a = s .args in
     let S = membersOf (a .n) (now (a .family)) (a .size) in
     let k = few-classes (a .n) (now (a .family)) (b .loop .i) (omega arith) (omega arith) (omega arith) in
-    let small : c .before .member-classes .result ≤ 240 = omega (arith, c .before .member-classes .ensures) in (
+    let small : c .before .before .member-classes .result ≤ 240 = omega (arith, c .before .before .member-classes .ensures) in (
       omega arith,
-      rw (toZ-pos w64 (c .before .member-classes .result) (omega arith)) (omega arith),
-      subst AllSmall (sym (b .loop .inv .2)) (small-places (take (b .loop .i) (degrees (a .n) S)) (small-take (b .loop .i) (degrees (a .n) S) (small-degrees (s .pre .0)))),
+      rw (toZ-pos w64 (c .before .before .member-classes .result) (omega arith)) (omega arith),
+      subst AllSmall (sym (b .loop .inv .1)) (small-places (take (b .loop .i) (degrees (a .n) S)) (small-take (b .loop .i) (degrees (a .n) S) (small-degrees (s .pre .0)))),
     )
 
-mul-numbers : tie.Need-mul-numbers Inv-loop μ-loop
-mul-numbers c = omega arith
+mul-number : tie.Need-mul-number Inv-loop μ-loop
+mul-number c = omega arith
 
-array-set-from-numbers : tie.Need-array-set-from-numbers Inv-loop μ-loop
-array-set-from-numbers c = omega arith
+element-set-from-number : tie.Need-element-set-from-number Inv-loop μ-loop
+element-set-from-number c = omega arith
 
 add-i : tie.Need-add-i Inv-loop μ-loop
 add-i c = omega arith
@@ -86,25 +86,25 @@ loop-less c = omega arith
 
 loop-again : tie.Need-loop-again Inv-loop μ-loop
 loop-again c =
-    let b = c .before .before .before .before in
+    let b = c .before .before .before .before .before in
     let s = b .before .before in
     let a = s .args in
     let i = b .loop .i in
     let S = membersOf (a .n) (now (a .family)) (a .size) in
     let xs = degrees (a .n) S in
-    let r = c .before .before .member-classes .result in
+    let r = c .before .before .before .member-classes .result in
     let k = few-classes (a .n) (now (a .family)) i (omega arith) (omega arith) (omega arith) in
-    let q = c .before .before .member-classes .ensures in
+    let q = c .before .before .before .member-classes .ensures in
     let small : r ≤ 240 = omega arith in
     let own : toZ w64 r ≡ pos (classes (columnAt (a .n) (now (a .family)) i)) = toZ-pos w64 r (omega arith) ∙ ap pos q in
     let e : c .less .result ≡ getD xs i (pos 0) =
     c .less .ensures
-    ∙ ap (λ (z : ℤ). z -ℤ sumPassing (bitAt (getD (a .t4) i 0)) (λ j. getD (b .loop .numbers) j (pos 0)) i) own
-    ∙ ap₂ (λ (ws : List ℕ) (ns : List ℤ). pos (classes (columnAt (a .n) (now (a .family)) i)) -ℤ sumPassing (bitAt (getD ws i 0)) (λ j. getD ns j (pos 0)) i) (s .pre .1) (b .loop .inv .2)
+    ∙ ap (λ (z : ℤ). z -ℤ sumPassing (bitAt (getD (now (a .words)) i 0)) (λ j. getD (b .loop .numbers) j (pos 0)) i) own
+    ∙ ap₂ (λ (ws : List ℕ) (ns : List ℤ). pos (classes (columnAt (a .n) (now (a .family)) i)) -ℤ sumPassing (bitAt (getD ws i 0)) (λ j. getD ns j (pos 0)) i) (s .pre .1) (b .loop .inv .1)
     ∙ degree-turn (s .pre .0) i (omega arith) in
     let v : toZ w64 (ofZ w64 (c .less .result)) ≡ getD xs i (pos 0) =
     ap (λ (z : ℤ). toZ w64 (ofZ w64 z)) e ∙ toZ-ofZ w64 (getD xs i (pos 0)) (small-fits (getD xs i (pos 0)) (small-degrees (s .pre .0) i)) in
-    (omega arith, simp length-set (b .loop .inv .1), rw (b .loop .inv .2, v) (places-step (pos 0) xs i (omega arith)))
+    (omega arith, rw (b .loop .inv .1, v) (places-step (pos 0) xs i (omega arith)))
 
 returns : tie.Need-returns Inv-loop μ-loop
 returns c =
@@ -113,10 +113,10 @@ returns c =
     let a = s .args in
     let S = membersOf (a .n) (now (a .family)) (a .size) in
     let l : length (degrees (a .n) S) ≡ a .size = length-degrees (a .n) S ∙ size-members (s .pre .0) in
-    b .loop .inv .2 ∙ places-end (pos 0) (degrees (a .n) S) (b .loop .i) (omega arith)
+    b .loop .inv .1 ∙ places-end (pos 0) (degrees (a .n) S) (b .loop .i) (omega arith)
 
-pub degrees-spec : {M : Type 1} → statement M
-degrees-spec =
+pub fill-by-words-spec : {M : Type 1} → statement M
+fill-by-words-spec =
     tie.close
     (tie.spec
     Inv-loop
@@ -125,10 +125,10 @@ degrees-spec =
     member-classes-requires
     cast-own
     mul-word
-    array-read-word
+    element-copy-out-word
     less-requires
-    mul-numbers
-    array-set-from-numbers
+    mul-number
+    element-set-from-number
     add-i
     loop-less
     loop-again

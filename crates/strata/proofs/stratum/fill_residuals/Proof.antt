@@ -1,11 +1,11 @@
--- `residuals` meets its contract: the array is filled from its start.
+-- `fill_residuals` meets its contract: the array is filled from its start.
 -- Assumes nothing.
-use mathlib.Core.Path.{_≡_, refl, ap, ap₂, _∙_}
+use mathlib.Core.Path.{_≡_, ap, ap₂, _∙_}
 use Prim.Native.Nat.{ℕ, _-_, _≤_}
 use native.Mathlib.Omega.{arith}
 use denote.Ref.{now}
 use lib.IntN.{ℤ, pos, _-ℤ_}
-use lib.ListN.{length, getD, length-set}
+use lib.ListN.{getD}
 use mir.Syntax.{w64}
 use mir.Val.{ofZ, toZ}
 use mir.ValLaws.{toZ-ofZ}
@@ -14,11 +14,11 @@ use Rattle.strata.specs.Sums.{sumPassing, residualAt}
 use Rattle.strata.proofs.Fill.{upTo, up-start, up-step, up-end}
 use Rattle.strata.proofs.Sums.{small-fits}
 use Rattle.strata.proofs.StratumLaws.{residual-turn, residual-fits}
-use Rattle.strata.proofs.stratum.residuals.Statement.{statement}
-use Rattle.strata.proofs.stratum.residuals.Tie as tie
+use Rattle.strata.proofs.stratum.fill_residuals.Statement.{statement}
+use Rattle.strata.proofs.stratum.fill_residuals.Tie as tie
 
 abbrev Inv-loop : tie.InvT-loop
-Inv-loop own plot-size numbers places treatment-size left₀ p₀ left p = (p ≤ plot-size) × (length left ≡ 32) × (left ≡ upTo (pos 0) (residualAt own numbers places treatment-size) plot-size p)
+Inv-loop own plot-size numbers places treatment-size left₀ p₀ left p = (p ≤ plot-size) × (left ≡ upTo (pos 0) (residualAt own numbers places treatment-size) plot-size p)
 
 abbrev μ-loop : tie.MeasureT-loop
 μ-loop own plot-size numbers places treatment-size left₀ p₀ left p = plot-size - p
@@ -26,7 +26,7 @@ abbrev μ-loop : tie.MeasureT-loop
 loop-holds : tie.Need-loop-holds Inv-loop μ-loop
 loop-holds c =
     let a = c .args in
-    (omega arith, refl, up-start (pos 0) (residualAt (now (a .own)) (now (a .numbers)) (now (a .places)) (a .treatment-size)) (a .plot-size))
+    (omega arith, c .pre .4 ∙ up-start (pos 0) (residualAt (now (a .own)) (now (a .numbers)) (now (a .places)) (a .treatment-size)) (a .plot-size))
 
 add-stratum-word : tie.Need-add-stratum-word Inv-loop μ-loop
 add-stratum-word c = omega arith
@@ -47,11 +47,11 @@ less-requires c κs =
     let h = s .pre .2 (c .before .before .before .loop .p) in
     (omega arith, rw (toZ-ofZ w64 x (small-fits x h)) h, s .pre .3)
 
-mul-left : tie.Need-mul-left Inv-loop μ-loop
-mul-left c = omega arith
+mul-number : tie.Need-mul-number Inv-loop μ-loop
+mul-number c = omega arith
 
-array-set-from-left : tie.Need-array-set-from-left Inv-loop μ-loop
-array-set-from-left c = omega arith
+element-set-from-number : tie.Need-element-set-from-number Inv-loop μ-loop
+element-set-from-number c = omega arith
 
 add-p : tie.Need-add-p Inv-loop μ-loop
 add-p c = omega arith
@@ -73,16 +73,16 @@ loop-again c =
     ∙ residual-turn (now (a .own)) (now (a .numbers)) (now (a .places)) (a .treatment-size) p in
     let v : toZ w64 (ofZ w64 (c .less .result)) ≡ f p =
     ap (λ (z : ℤ). toZ w64 (ofZ w64 z)) e ∙ toZ-ofZ w64 (f p) (residual-fits (now (a .own)) (now (a .numbers)) (now (a .places)) (a .treatment-size) p (omega arith) (s .pre .2) (s .pre .3)) in
-    (omega arith, simp length-set (b .loop .inv .1), rw (b .loop .inv .2, v) (up-step (pos 0) f (a .plot-size) p (omega arith) (omega arith)))
+    (omega arith, rw (b .loop .inv .1, v) (up-step (pos 0) f (a .plot-size) p (omega arith) (omega arith)))
 
 returns : tie.Need-returns Inv-loop μ-loop
 returns c =
     let b = c .before in
     let a = b .before .args in
-    b .loop .inv .2 ∙ up-end (pos 0) (residualAt (now (a .own)) (now (a .numbers)) (now (a .places)) (a .treatment-size)) (a .plot-size) (b .loop .p) (omega arith)
+    b .loop .inv .1 ∙ up-end (pos 0) (residualAt (now (a .own)) (now (a .numbers)) (now (a .places)) (a .treatment-size)) (a .plot-size) (b .loop .p) (omega arith)
 
-pub residuals-spec : {M : Type 1} → statement M
-residuals-spec =
+pub fill-residuals-spec : {M : Type 1} → statement M
+fill-residuals-spec =
     tie.close
     (tie.spec
     Inv-loop
@@ -93,8 +93,8 @@ residuals-spec =
     mul-start
     element-copy-out-start
     less-requires
-    mul-left
-    array-set-from-left
+    mul-number
+    element-set-from-number
     add-p
     loop-less
     loop-again
