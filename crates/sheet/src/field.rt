@@ -9,6 +9,9 @@ ghost use Rattle.rules.specs.Sheet.{tab, newline, letter as isLetter, letterOrD
 ghost use Rattle.sheet.specs.Walk.{fieldOf, levelThen, noLevel, isMark};
 use limits::LEVEL;
 
+// A level has at most five digits, and a byte follows.
+const PAST_DIGITS: usize = 6;
+
 // The end of the field that starts at `at`: the place of the next byte 9 or 10, or the text's length.
 pub fn end_of(text: &[u8], start: usize) -> usize
     ensures { λ r. ⌜ r ≡ start + length (fieldOf (drop start (now (text .entry)))) ⌝ }
@@ -49,14 +52,17 @@ pub fn level_then(text: &[u8], start: usize, stop: u8) -> FieldLevel
         return no_level();
     }
     let mut v = (first - b'0') as u32;
-    let mut at = start + 1;
-    while at < text.len() {
-        if LEVEL < v {
+    for i in 1..PAST_DIGITS {
+        let at = start + i;
+        if text.len() <= at {
             return no_level();
         }
         let x = text[at];
         if x < b'0' {
             if x != stop {
+                return no_level();
+            }
+            if LEVEL < v {
                 return no_level();
             }
             return FieldLevel {
@@ -68,7 +74,6 @@ pub fn level_then(text: &[u8], start: usize, stop: u8) -> FieldLevel
             return no_level();
         }
         v = 10 * v + (x - b'0') as u32;
-        at += 1;
     }
     no_level()
 }
