@@ -7,19 +7,20 @@ use Prim.Native.Nat.{ℕ, zero, suc, _+_, _≤_, _<_}
 use native.Mathlib.Omega.{arith}
 use native.Mathlib.Nat.{le-of-lt, zero-add}
 use native.Mathlib.Numerals.{add-one}
-use lib.Dec.{eqb, ltb, leb}
+use lib.Dec.{eqb, leb}
 use lib.ListN.{length, getD, take, drop, set, length-drop}
 use lib.Seq.{slice, drop-drop, drop-cons, set-at, length-take-le, take-suc, append-snoc, take-all, take-at}
-use borrow.Author.Tests.{eq-eqb, ne-eqb, eqb-true, eqb-false, ltb-true, ltb-false, le-leb, lt-leb}
+use borrow.Author.Tests.{eq-eqb, ne-eqb, eqb-true, eqb-false, lt-ltb, le-leb, lt-leb}
 use Rattle.rules.specs.Sheet.{Field, upTo, has, fields, all, isColumn, isKind, countKind, sameBytes, nameOf, newName, namesDiffer, header, columnsAfter, within, isHeader, question3}
 use Rattle.rules.proofs.Sheet.{and-false, and-left, and-right, fields-some, kind-yes, kind-no, column-plot, column-treatment, kinds-all}
 use Rattle.rules.proofs.Members.{clash}
 use Rattle.rules.proofs.Numbering.{by-cases}
-use Rattle.sheet.specs.Walk.{fieldOf}
+use Rattle.sheet.specs.Walk.{fieldOf, columnThere}
 use Rattle.sheet.specs.Answers.{noHeader, marked, headed}
 use Rattle.sheet.specs.declared.header.Header.{Header}
 use Rattle.sheet.proofs.Stops.{AtTab, AtNewline, AtEnd, Stop, at-tab, at-newline, at-end, stop, field-byte, field-part, field-next}
-use Rattle.sheet.proofs.Walk.{slice-next, slice-none, field-tab, field-newline, field-on}
+use Rattle.sheet.proofs.Walk.{field-tab, field-newline, field-on}
+use Rattle.sheet.proofs.ColumnLaws.{Column, column-long}
 
 -- ---- the place e where the field that starts at `at` ends
 
@@ -104,33 +105,34 @@ module _ (at p t : ℕ) (xs : List ℕ) where
   unfolding marked header
   marked-no a = rw (a, and-false (has 10 xs), marked)
 
-module _ (text : List ℕ) (at e p t : ℕ) (d : e ≡ at + length (fieldOf (drop at text))) where
-  pub marks-far : length text ≤ e → marked at p t (drop at text) ≡ noHeader
-  marks-far h = marked-unended at p t (drop at text) (end-here text at e d h .ends)
-
-  pub marks-bad : isColumn (slice at e text) ≡ false → marked at p t (drop at text) ≡ noHeader
-  unfolding all
-  marks-bad b = marked-no at p t (drop at text) (go (stop (drop at text)))
+module _ (text : List ℕ) (at p t : ℕ) where
+  -- no column, or one that nothing ends
+  pub marks-off : columnThere (drop at text) ≡ false → marked at p t (drop at text) ≡ noHeader
+  unfolding columnThere all
+  marks-off n = go (stop (drop at text))
     where
-      bad : isColumn (fieldOf (drop at text)) ≡ false
-      bad = sym (ap isColumn (field-part text at e d)) ∙ b
+      bad : length (fieldOf (drop at text)) < length (drop at text) → isColumn (fieldOf (drop at text)) ≡ false
+      bad l = rw (lt-ltb (length (fieldOf (drop at text))) (length (drop at text)) l) at n
 
-      go : Stop (drop at text) → all isColumn (fields (upTo 10 (drop at text))) ≡ false
-      go (at-tab r) = rw (r .parts, bad)
-      go (at-newline r) = rw (r .parts, bad)
-      go (at-end r) = rw (r .parts, bad)
+      go : Stop (drop at text) → marked at p t (drop at text) ≡ noHeader
+      go (at-tab r) = marked-no at p t (drop at text) (rw (r .parts, bad (r .less)))
+      go (at-newline r) = marked-no at p t (drop at text) (rw (r .parts, bad (r .less)))
+      go (at-end r) = marked-unended at p t (drop at text) (r .ends)
 
-  module _ (inText : e < length text) (good : isColumn (slice at e text) ≡ true) (p′ t′ : ℕ) (tally : Tally (slice at e text) p t p′ t′) where
+  -- a column, which ends at e and is counted
+  module _ (k : Column text at) (e : ℕ) (d : e ≡ at + length (fieldOf (drop at text))) (p′ t′ : ℕ) (tally : Tally (fieldOf (drop at text)) p t p′ t′) where
+    inText : e < length text
+    inText = omega (arith, k .ended)
+
     pub marks-last : getD text e 0 ≡ 10 → marked at p t (drop at text) ≡ record { end = e + 1; «plot_columns» = p′; «treatment_columns» = t′ }
     unfolding all countKind
     marks-last b =
         let r = newline-here text at e d inText b in
-        let k = tally [] in
-        let f = field-part text at e d in
-        let a : all isColumn (fields (upTo 10 (drop at text))) ≡ true = rw (r .parts, ← f, good) in
+        let c = tally [] in
+        let a : all isColumn (fields (upTo 10 (drop at text))) ≡ true = rw (r .parts, k .is) in
         let x : at + suc (length (upTo 10 (drop at text))) ≡ e + 1 = omega (arith, r .size) in
-        let y : p + countKind 112 (fields (upTo 10 (drop at text))) ≡ p′ = rw (r .parts, ← f) (omega arith) in
-        let z : t + countKind 116 (fields (upTo 10 (drop at text))) ≡ t′ = rw (r .parts, ← f) (omega arith) in
+        let y : p + countKind 112 (fields (upTo 10 (drop at text))) ≡ p′ = rw (r .parts) (omega arith) in
+        let z : t + countKind 116 (fields (upTo 10 (drop at text))) ≡ t′ = rw (r .parts) (omega arith) in
         marked-yes at p t (drop at text) (r .ends) a ∙ rw (x, y, z)
 
     pub marks-on : (getD text e 0 ≡ 10 → ⊥) → marked at p t (drop at text) ≡ marked (e + 1) p′ t′ (drop (e + 1) text)
@@ -138,14 +140,11 @@ module _ (text : List ℕ) (at e p t : ℕ) (d : e ≡ at + length (fieldOf (dro
     marks-on b =
         by-cases (has 10 (drop (e + 1) text))
         (λ h. by-cases (all isColumn (fields (upTo 10 (drop (e + 1) text)))) (λ a. same h a)
-        (λ a. marked-no at p t (drop at text) (rw (parts, ← f, good) a) ∙ sym (marked-no (e + 1) p′ t′ (drop (e + 1) text) a)))
+        (λ a. marked-no at p t (drop at text) (rw (parts, k .is) a) ∙ sym (marked-no (e + 1) p′ t′ (drop (e + 1) text) a)))
         (λ h. marked-unended at p t (drop at text) (ends ∙ h) ∙ sym (marked-unended (e + 1) p′ t′ (drop (e + 1) text) h))
       where
         r : AtTab (drop at text)
         r = tab-here text at e d inText b
-
-        f : slice at e text ≡ fieldOf (drop at text)
-        f = field-part text at e d
 
         parts : fields (upTo 10 (drop at text)) ≡ fieldOf (drop at text) ∷ fields (upTo 10 (drop (e + 1) text))
         parts = rw (field-next text at e d) at (r .parts)
@@ -155,32 +154,18 @@ module _ (text : List ℕ) (at e p t : ℕ) (d : e ≡ at + length (fieldOf (dro
 
         same : has 10 (drop (e + 1) text) ≡ true → all isColumn (fields (upTo 10 (drop (e + 1) text))) ≡ true → marked at p t (drop at text) ≡ marked (e + 1) p′ t′ (drop (e + 1) text)
         same h a =
-            let k = tally (fields (upTo 10 (drop (e + 1) text))) in
+            let c = tally (fields (upTo 10 (drop (e + 1) text))) in
             let s = rw (field-next text at e d) at (r .size) in
             let x : at + suc (length (upTo 10 (drop at text))) ≡ e + 1 + suc (length (upTo 10 (drop (e + 1) text))) = omega arith in
-            let y : p + countKind 112 (fields (upTo 10 (drop at text))) ≡ p′ + countKind 112 (fields (upTo 10 (drop (e + 1) text))) = rw (parts, ← f) (k .0) in
-            let z : t + countKind 116 (fields (upTo 10 (drop at text))) ≡ t′ + countKind 116 (fields (upTo 10 (drop (e + 1) text))) = rw (parts, ← f) (k .1) in
-            marked-yes at p t (drop at text) (ends ∙ h) (rw (parts, ← f, good) a)
+            let y : p + countKind 112 (fields (upTo 10 (drop at text))) ≡ p′ + countKind 112 (fields (upTo 10 (drop (e + 1) text))) = rw parts (c .0) in
+            let z : t + countKind 116 (fields (upTo 10 (drop at text))) ≡ t′ + countKind 116 (fields (upTo 10 (drop (e + 1) text))) = rw parts (c .1) in
+            marked-yes at p t (drop at text) (ends ∙ h) (rw (parts, k .is) a)
             ∙ rw (x, y, z) (sym (marked-yes (e + 1) p′ t′ (drop (e + 1) text) h a))
-
--- the first byte of a column
-pub column-first : (text : List ℕ) (at e : ℕ) → e ≤ length text → isColumn (slice at e text) ≡ true → (at < e) × (getD (slice at e text) 0 0 ≡ getD text at 0)
-unfolding isColumn
-column-first text at e h g =
-    by-cases (ltb at e)
-    (λ l. (ltb-true at e l, rw (slice-next text at e (ltb-true at e l) h)))
-    (λ l. clash g (rw (slice-none text at e (ltb-false at e l))))
 
 -- ---- names
 
 pub name-part : (text : List ℕ) (at e : ℕ) → nameOf (slice at e text) ≡ slice (at + 2) e text
 name-part text at e = drop-drop 2 at (take e text)
-
-column-long : (f : Field) → isColumn f ≡ true → 2 ≤ length f
-unfolding isColumn
-column-long [] g = clash g refl
-column-long (x ∷ []) g = clash g refl
-column-long (x ∷ y ∷ name) g = omega arith
 
 module _ (text : List ℕ) (at e : ℕ) (d : e ≡ at + length (fieldOf (drop at text))) (h : has 10 (drop at text) ≡ true) (a : all isColumn (header (drop at text)) ≡ true) where
   column-here : isColumn (fieldOf (drop at text)) ≡ true

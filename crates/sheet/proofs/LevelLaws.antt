@@ -3,8 +3,10 @@
 use mathlib.Core.Path.{_≡_, sym, ap, _∙_}
 use mathlib.Core.Bool.{true, false, _||_}
 use mathlib.Core.List.{List, [], _∷_}
-use Prim.Native.Nat.{ℕ, suc, _+_, _-_, _*_, _≤_, _<_}
+use Prim.Native.Nat.{ℕ, suc, _+_, _-_, _*_, _^_, _≤_, _<_}
 use native.Mathlib.Omega.{arith}
+use native.Mathlib.Nat.{pow-suc, pow-le-pow-right}
+use native.Mathlib.Numerals.{add-one}
 use lib.Dec.{eqb, leb}
 use lib.ListN.{length, getD, drop}
 use borrow.Author.Tests.{ne-eqb, eqb-true, eqb-false, lt-leb, le-leb}
@@ -68,7 +70,6 @@ module _ (s : ℕ) (text : List ℕ) (start : ℕ) (h : start < length text) whe
 pub record Digits (text : List ℕ) (start at v : ℕ) : Type 0 where
   pub leading : noLeadingZero (fieldOf (drop start text)) ≡ true
   pub some : 1 ≤ v
-  pub few : v ≤ 655359
   pub size : at + length (fieldOf (drop at text)) ≡ start + length (fieldOf (drop start text))
   pub digits : all digit (fieldOf (drop at text)) ≡ all digit (fieldOf (drop start text))
   pub number : decimalFrom v (fieldOf (drop at text)) ≡ decimal (fieldOf (drop start text))
@@ -83,7 +84,6 @@ digits-start text start h low high =
     record {
       leading = rw (f, ne-eqb x 48 (λ e. omega arith));
       some = omega arith;
-      few = omega arith;
       size = omega (arith, ap length f);
       digits = sym (rw (f, le-leb 48 x (omega arith), le-leb x 57 high));
       number = sym (rw z at n);
@@ -145,13 +145,32 @@ module _ (text : List ℕ) (start at v s : ℕ) (d : Digits text start at v) whe
       unfolding decimalFrom
       more = rw on at (d .number)
 
-      pub digits-on : v ≤ mostLevel → Digits text start (at + 1) (10 * v + (getD text at 0 - 48))
+      pub digits-on : Digits text start (at + 1) (10 * v + (getD text at 0 - 48))
       unfolding all
-      digits-on k = record {
+      digits-on = record {
         leading = d .leading;
         some = omega (arith, d .some);
-        few = omega arith;
         size = omega (arith, d .size, ap length on);
         digits = sym (rw (on, le-leb 48 (getD text at 0) low, le-leb (getD text at 0) 57 high)) ∙ d .digits;
         number = more;
       }
+
+-- ---- a number v of i digits
+
+pub record Long (i v : ℕ) : Type 0 where
+  pub least : 10 ^ i ≤ 10 * v
+  pub most : v < 10 ^ i
+
+-- a digit more
+pub long-on : (i v d : ℕ) → d ≤ 9 → Long i v → Long (i + 1) (10 * v + d)
+long-on i v d h l =
+    let e : 10 ^ (i + 1) ≡ 10 ^ i * 10 = rw add-one (pow-suc 10 i) in
+    record { least = omega (arith, l .least, e); most = omega (arith, l .most, e) }
+
+-- of at most five digits
+pub long-few : (i v : ℕ) → i ≤ 5 → Long i v → v < 100000
+long-few i v h l = omega (arith, l .most, pow-le-pow-right {n = 10} (omega arith) {i = i} {j = 5} h)
+
+-- of six
+pub long-six : (v : ℕ) → Long 6 v → mostLevel < v
+long-six v l = omega (arith, l .least)

@@ -3,6 +3,7 @@ pub mod Stops
 pub mod RowLaws
 pub mod LevelLaws
 pub mod StoreLaws
+pub mod ColumnLaws
 pub mod HeaderLaws
 pub mod NameLaws
 pub mod QuestionLaws

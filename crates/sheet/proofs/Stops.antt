@@ -8,7 +8,7 @@ use native.Mathlib.Omega.{arith}
 use native.Mathlib.Nat.{zero-add, suc-add}
 use lib.Dec.{eqb}
 use lib.ListN.{length, getD, take, drop}
-use lib.Seq.{slice, take-nil, drop-drop, getD-drop}
+use lib.Seq.{slice, take-nil, drop-drop, getD-take, getD-drop}
 use borrow.Author.Tests.{eqb-true}
 use Rattle.rules.specs.Sheet.{upTo, past, has, fields, widen, lines, extend}
 use Rattle.sheet.specs.Walk.{fieldOf}
@@ -120,6 +120,12 @@ take-field (x ∷ xs) = go (eqb x 9 || eqb x 10) refl (take-field xs)
 
 slice-field : (xs : List ℕ) (at : ℕ) → drop at (take (at + length (fieldOf (drop at xs))) xs) ≡ fieldOf (drop at xs)
 slice-field xs at = drop-take at (length (fieldOf (drop at xs))) xs ∙ take-field (drop at xs)
+
+-- a byte of the field
+pub field-get : (text : List ℕ) (at k : ℕ) → k < length (fieldOf (drop at text)) → getD (fieldOf (drop at text)) k 0 ≡ getD text (at + k) 0
+field-get text at k h =
+    ap (λ (f : List ℕ). getD f k 0) (sym (take-field (drop at text)))
+    ∙ getD-take (length (fieldOf (drop at text))) (drop at text) k 0 h ∙ getD-drop at text k 0
 
 -- by the place e where the field that starts at `at` ends
 module _ (text : List ℕ) (at e : ℕ) (d : e ≡ at + length (fieldOf (drop at text))) where

@@ -11,7 +11,7 @@ use lib.Dec.{ltb}
 use lib.ListN.{length, getD, drop, set, length-drop}
 use lib.Seq.{drop-drop}
 use borrow.Author.Tests.{ltb-true, lt-ltb, le-ltb}
-use Rattle.rules.specs.Sheet.{Field, Line, upTo, has, fields, lines, all, isLevel, decimal, withPlot, withPlots, isPlotLine}
+use Rattle.rules.specs.Sheet.{Field, Line, upTo, has, fields, lines, all, decimal, withPlot, withPlots, isPlotLine}
 use Rattle.rules.proofs.Sheet.{and-left, and-right}
 use Rattle.rules.proofs.Members.{clash}
 use Rattle.rules.proofs.Numbering.{by-cases}

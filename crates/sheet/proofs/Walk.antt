@@ -1,6 +1,6 @@
 -- Laws of the steps of a walk over a text.
 -- Assumes nothing.
-use mathlib.Core.Path.{_≡_, ap}
+use mathlib.Core.Path.{_≡_}
 use mathlib.Core.Bool.{true, _&&_, _||_}
 use mathlib.Core.List.{List, [], _∷_}
 use Prim.Native.Nat.{ℕ, _+_, _≤_, _<_}
@@ -44,14 +44,6 @@ module _ (xs : List ℕ) (from to : ℕ) where
 
   pub slice-none : to ≤ from → slice from to xs ≡ []
   slice-none h = drop-of-length-le (take to xs) {i = from} (simp length-take (omega arith))
-
-  pub slice-two : from + 1 < to → to ≤ length xs → slice from to xs ≡ getD xs from 0 ∷ getD xs (from + 1) 0 ∷ slice (from + 2) to xs
-  slice-two h k =
-      let e : from + 1 + 1 ≡ from + 2 = omega arith in
-      rw (slice-next (omega arith) k, ← e) (ap (λ (r : List ℕ). getD xs from 0 ∷ r) (slice-after h k))
-    where
-      slice-after : from + 1 < to → to ≤ length xs → slice (from + 1) to xs ≡ getD xs (from + 1) 0 ∷ slice (from + 1 + 1) to xs
-      slice-after h k = rw (add-one (from + 1)) (slice-cons (from + 1) to xs 0 h k)
 
 module _ (xs : List ℕ) (a a-to b b-to : ℕ) (h : a < a-to) (k : a-to ≤ length xs) (l : b < b-to) (m : b-to ≤ length xs) where
   pub same-next : sameBytes (slice a a-to xs) (slice b b-to xs) ≡ eqb (getD xs a 0) (getD xs b 0) && sameBytes (slice (a + 1) a-to xs) (slice (b + 1) b-to xs)

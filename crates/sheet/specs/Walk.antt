@@ -6,7 +6,7 @@ use mathlib.Core.Path.{_≡_}
 use Prim.Native.Nat.{ℕ, zero, suc, _+_, _*_, _≤_}
 use lib.Dec.{eqb, ltb}
 use lib.ListN.{length, getD, drop, set}
-use Rattle.rules.specs.Sheet.{Field, tab, newline, all, upTo, has, fields, isLevel, isRow, decimal, decimalFrom, plotMark, treatmentMark, header, question3}
+use Rattle.rules.specs.Sheet.{Field, tab, newline, all, upTo, has, fields, isColumn, isLevel, isRow, decimal, decimalFrom, plotMark, treatmentMark, header, question3}
 use Rattle.rules.specs.Limits.{tableCells, mostFields, mostPlots}
 use Rattle.sheet.specs.declared.field.FieldLevel.{FieldLevel}
 
@@ -21,6 +21,16 @@ noLevel = record { end = 0; level = 0 }
 -- p or t
 abbrev pub isMark : ℕ → Bool
 isMark x = eqb x plotMark || eqb x treatmentMark
+
+-- xs starts with a column and then a tab or newline
+unfoldable pub columnThere : List ℕ → Bool
+unfolding fieldOf isColumn
+columnThere xs = ltb (length (fieldOf xs)) (length xs) && isColumn (fieldOf xs)
+
+-- the place of that byte, when xs stands at `at`; 0 where they are not there
+unfoldable pub columnEnd : ℕ → List ℕ → ℕ
+unfolding columnThere fieldOf
+columnEnd at xs = elim (columnThere xs) [ true ↦ at + length (fieldOf xs) | false ↦ 0 ]
 
 -- ---- later lines
 

@@ -1,13 +1,16 @@
-// Fields: where one ends, and whether it is a level, a name or a column.
+// Fields: where one ends, whether it is a level, and of which bytes it is made.
 ghost use mathlib.Core.Path.{_≡_};
 ghost use mathlib.Core.Bool.{true, _||_};
 ghost use Prim.Native.Nat.{_+_, _≤_};
 ghost use lib.Dec.{eqb};
 ghost use lib.ListN.{length, drop};
 ghost use lib.Seq.{slice};
-ghost use Rattle.rules.specs.Sheet.{tab, newline, letter as isLetter, letterOrDigit, isName, isColumn, sameBytes};
+ghost use Rattle.rules.specs.Sheet.{tab, newline, letter as isLetter, letterOrDigit, sameBytes};
 ghost use Rattle.sheet.specs.Walk.{fieldOf, levelThen, noLevel, isMark};
 use limits::LEVEL;
+
+// A level has at most five digits, and a byte follows.
+const PAST_DIGITS: usize = 6;
 
 // The end of the field that starts at `at`: the place of the next byte 9 or 10, or the text's length.
 pub fn end_of(text: &[u8], start: usize) -> usize
@@ -49,14 +52,17 @@ pub fn level_then(text: &[u8], start: usize, stop: u8) -> FieldLevel
         return no_level();
     }
     let mut v = (first - b'0') as u32;
-    let mut at = start + 1;
-    while at < text.len() {
-        if LEVEL < v {
+    for i in 1..PAST_DIGITS {
+        let at = start + i;
+        if text.len() <= at {
             return no_level();
         }
         let x = text[at];
         if x < b'0' {
             if x != stop {
+                return no_level();
+            }
+            if LEVEL < v {
                 return no_level();
             }
             return FieldLevel {
@@ -68,7 +74,6 @@ pub fn level_then(text: &[u8], start: usize, stop: u8) -> FieldLevel
             return no_level();
         }
         v = 10 * v + (x - b'0') as u32;
-        at += 1;
     }
     no_level()
 }
@@ -107,52 +112,6 @@ pub fn letter_or_digit(x: u8) -> bool
         return false;
     }
     x <= b'9'
-}
-
-// Whether the bytes from `start` to `stop` are a name.
-pub fn is_name(text: &[u8], start: usize, stop: usize) -> bool
-    requires { ⌜ stop ≤ length (now text) ⌝ }
-    ensures { λ r. ⌜ r ≡ isName (slice start stop (now (text .entry))) ⌝ }
-{
-    if stop <= start {
-        return false;
-    }
-    if !letter(text[start]) {
-        return false;
-    }
-    let more = stop - start - 1;
-    if more < 1 {
-        return false;
-    }
-    if 11 < more {
-        return false;
-    }
-    for i in (start + 1)..stop {
-        if !letter_or_digit(text[i]) {
-            return false;
-        }
-    }
-    true
-}
-
-// Whether the field from `start` to `stop` is `p:` or `t:` and a name.
-pub fn is_column(text: &[u8], start: usize, stop: usize) -> bool
-    requires { ⌜ stop ≤ length (now text) ⌝ }
-    ensures { λ r. ⌜ r ≡ isColumn (slice start stop (now (text .entry))) ⌝ }
-{
-    if stop <= start {
-        return false;
-    }
-    if stop <= start + 1 {
-        return false;
-    }
-    if !is_mark(text[start]) {
-        return false;
-    }
-    if text[start + 1] != b':' {
-        return false;
-    }
-    is_name(text, start + 2, stop)
 }
 
 // Whether a byte tells a column's kind: `p` or `t`.

@@ -6,10 +6,16 @@ ghost use mathlib.Core.List.{[]};
 ghost use Prim.Native.Nat.{_+_, _<_, _≤_, min};
 ghost use lib.ListN.{length, getD, take, drop};
 ghost use lib.Seq.{slice};
-ghost use Rattle.rules.specs.Sheet.{newline, upTo, has, fields, all, isColumn, isKind, columnNames, newName, namesDiffer, header, columnsAfter};
+ghost use Rattle.rules.specs.Sheet.{newline, has, all, isColumn, isKind, columnNames, newName, namesDiffer, header, columnsAfter};
+ghost use Rattle.sheet.specs.Walk.{columnEnd};
 ghost use Rattle.sheet.specs.Answers.{noHeader, marked, headed};
 use limits::COLUMNS;
 use limits::FIELDS;
+
+// A column has 4 to 14 bytes: its mark, a colon and a name, and a byte follows.
+const LEAST_COLUMN: usize = 4;
+
+const PAST_COLUMN: usize = 15;
 
 // The first line of a sheet: where the next one starts, 0 if the line has not the form, and the columns of each kind.
 pub struct Header {
@@ -58,6 +64,45 @@ fn refusal() -> Header
     }
 }
 
+// The end of the field that starts at `start`, where it is a column and a tab or newline ends it; 0 where it is not.
+fn column_end(text: &[u8], start: usize) -> usize
+    requires { ⌜ start ≤ length (now text) ⌝ }
+    ensures { λ r. ⌜ r ≡ columnEnd start (drop start (now (text .entry))) ⌝ }
+{
+    let rest = text.len() - start;
+    if rest < LEAST_COLUMN {
+        return 0;
+    }
+    if !field::is_mark(text[start]) {
+        return 0;
+    }
+    if text[start + 1] != b':' {
+        return 0;
+    }
+    if !field::letter(text[start + 2]) {
+        return 0;
+    }
+    if !field::letter_or_digit(text[start + 3]) {
+        return 0;
+    }
+    for i in LEAST_COLUMN..PAST_COLUMN {
+        if rest <= i {
+            return 0;
+        }
+        let x = text[start + i];
+        if !field::letter_or_digit(x) {
+            if x == b'\t' {
+                return start + i;
+            }
+            if x == b'\n' {
+                return start + i;
+            }
+            return 0;
+        }
+    }
+    0
+}
+
 // The first line as far as each field by itself tells.
 fn marks(text: &[u8]) -> Header
     ensures { λ r. ⌜ r ≡ marked 0 0 0 (now (text .entry)) ⌝ }
@@ -66,11 +111,8 @@ fn marks(text: &[u8]) -> Header
     let mut p = 0;
     let mut t = 0;
     loop {
-        let e = field::end_of(text, at);
-        if text.len() <= e {
-            return refusal();
-        }
-        if !field::is_column(text, at, e) {
+        let e = column_end(text, at);
+        if e == 0 {
             return refusal();
         }
         if text[at] == b'p' {

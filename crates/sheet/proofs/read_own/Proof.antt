@@ -4,10 +4,8 @@ use mathlib.Core.Path.{refl, sym, _∙_}
 use native.Mathlib.Omega.{arith}
 use borrow.Author.Needs.{needs}
 use denote.Ref.{now}
-use Rattle.rules.specs.Sheet.{levelsAfter}
 use Rattle.sheet.specs.Answers.{ownAfter}
 use Rattle.rules.proofs.Sheet.{refused-1, too-short, too-long, text-fits}
-use borrow.Author.Needs.{needs}
 use Rattle.sheet.proofs.read_own.Statement.{statement}
 use Rattle.sheet.proofs.read_own.Tie as tie
 

@@ -5,7 +5,6 @@ use mathlib.Core.Bool.{true, false}
 use borrow.Author.Needs.{needs}
 use borrow.Author.Tests.{le-leb, lt-leb}
 use Rattle.rules.specs.Sheet.{letter as isLetter}
-use borrow.Author.Needs.{needs}
 use Rattle.sheet.proofs.field.letter_or_digit.Statement.{statement}
 use Rattle.sheet.proofs.field.letter_or_digit.Tie as tie
 

@@ -1,22 +1,22 @@
--- `sheet::field::level_then` meets its contract. The loop's invariant: the digits passed write v, and the rest of the field is left.
+-- `sheet::field::level_then` meets its contract. The loop's invariant: the i digits passed write v, and the rest of the field is left.
 -- Assumes nothing.
-use Prim.Native.Nat.{ℕ, _-_}
+use Prim.Native.Nat.{ℕ, _+_, _-_, _≤_}
 use mathlib.Core.Path.{_≡_, sym, _∙_}
 use mathlib.Core.Bool.{true, _||_}
 use native.Mathlib.Omega.{arith}
 use borrow.Author.Needs.{needs}
 use denote.Ref.{now}
 use lib.Dec.{eqb}
-use lib.ListN.{length, getD, drop}
-use Rattle.sheet.proofs.LevelLaws.{Digits, digits-start, digits-out, digits-low, digits-high, digits-end, digits-large, digits-on, none-left, first-low, first-high, then-off}
+use lib.ListN.{getD, drop}
+use Rattle.sheet.proofs.LevelLaws.{Digits, digits-start, digits-out, digits-low, digits-high, digits-end, digits-large, digits-on, none-left, first-low, first-high, then-off, Long, long-on, long-few, long-six}
 use Rattle.sheet.proofs.field.level_then.Statement.{statement}
 use Rattle.sheet.proofs.field.level_then.Tie as tie
 
 abbrev Inv-loop : tie.InvT-loop
-Inv-loop text start stop first v₀ at₀ v at = Digits text start at v
+Inv-loop text start stop first v₀ i₀ v i = (1 ≤ i) × (i ≤ 6) × Long i v × Digits text start (start + i) v
 
 abbrev μ-loop : tie.MeasureT-loop
-μ-loop text start stop first v₀ at₀ v at = length text - at
+μ-loop text start stop first v₀ i₀ v i = 6 - i
 
 -- the byte that ends the digits is the one asked for
 ends : (x stop : ℕ) → x ≡ stop → (eqb stop 9 || eqb stop 10) ≡ true → (eqb x 9 || eqb x 10) ≡ true
@@ -58,13 +58,13 @@ sub-v c = omega arith
 cast-v : tie.Need-cast-v Inv-loop μ-loop
 cast-v c = omega arith
 
-add-at : tie.Need-add-at Inv-loop μ-loop
-add-at c = omega arith
-
 loop-holds : tie.Need-loop-holds Inv-loop μ-loop
 loop-holds c =
     let s = c .before .before .before .before .before .args in
-    digits-start (now (s .text)) (s .start) (omega arith) (omega arith) (omega arith)
+    (omega arith, omega arith, record { least = omega arith; most = omega arith }, digits-start (now (s .text)) (s .start) (omega arith) (omega arith) (omega arith))
+
+add-at : tie.Need-add-at Inv-loop μ-loop
+add-at c = omega arith
 
 no-level-requires-4 : tie.Need-no-level-requires-4 Inv-loop μ-loop
 no-level-requires-4 c κs = search needs
@@ -73,7 +73,7 @@ returns-4 : tie.Need-returns-4 Inv-loop μ-loop
 returns-4 c =
     let b = c .before .before .before in
     let s = b .before .before .before .before .before .before .args in
-    let bad = digits-large (now (s .text)) (s .start) (b .loop .at) (b .loop .v) (s .stop) (b .loop .inv) (omega arith) in
+    let bad = digits-out (now (s .text)) (s .start) (s .start + b .loop .i) (b .loop .v) (s .stop) (b .loop .inv .3) (omega arith) in
     c .no-level4 .ensures ∙ sym (then-off (s .stop) (s .start) (drop (s .start) (now (s .text))) bad)
 
 shared-slice-read-x : tie.Need-shared-slice-read-x Inv-loop μ-loop
@@ -86,43 +86,55 @@ returns-5 : tie.Need-returns-5 Inv-loop μ-loop
 returns-5 c =
     let b = c .before .before .before .before .before .before in
     let s = b .before .before .before .before .before .before .args in
-    let bad = digits-low (now (s .text)) (s .start) (b .loop .at) (b .loop .v) (s .stop) (b .loop .inv) (omega arith) (omega arith) (c .before .if6 .taken) in
+    let bad = digits-low (now (s .text)) (s .start) (s .start + b .loop .i) (b .loop .v) (s .stop) (b .loop .inv .3) (omega arith) (omega arith) (c .before .if6 .taken) in
     c .no-level5 .ensures ∙ sym (then-off (s .stop) (s .start) (drop (s .start) (now (s .text))) bad)
-
-add-t17 : tie.Need-add-t17 Inv-loop μ-loop
-add-t17 c = omega arith
-
-cast-t18 : tie.Need-cast-t18 Inv-loop μ-loop
-cast-t18 c = omega arith
-
-returns-6 : tie.Need-returns-6 Inv-loop μ-loop
-returns-6 c =
-    let b = c .before .before .before .before .before in
-    let s = b .before .before .before .before .before .before .args in
-    let x = getD (now (s .text)) (b .loop .at) 0 in
-    digits-end (now (s .text)) (s .start) (b .loop .at) (b .loop .v) (s .stop) (b .loop .inv) (omega arith) (ends x (s .stop) (c .if6 .left) (b .before .before .before .before .before .before .pre)) (c .if6 .left) (omega arith)
 
 no-level-requires-6 : tie.Need-no-level-requires-6 Inv-loop μ-loop
 no-level-requires-6 c κs = search needs
 
+returns-6 : tie.Need-returns-6 Inv-loop μ-loop
+returns-6 c =
+    let b = c .before .before .before .before .before .before .before in
+    let s = b .before .before .before .before .before .before .args in
+    let bad = digits-large (now (s .text)) (s .start) (s .start + b .loop .i) (b .loop .v) (s .stop) (b .loop .inv .3) (omega arith) in
+    c .no-level6 .ensures ∙ sym (then-off (s .stop) (s .start) (drop (s .start) (now (s .text))) bad)
+
+add-t18 : tie.Need-add-t18 Inv-loop μ-loop
+add-t18 c = omega arith
+
+cast-t19 : tie.Need-cast-t19 Inv-loop μ-loop
+cast-t19 c = omega arith
+
 returns-7 : tie.Need-returns-7 Inv-loop μ-loop
 returns-7 c =
     let b = c .before .before .before .before .before .before in
+    let s = b .before .before .before .before .before .before in
+    let a = s .args in
+    let x = getD (now (a .text)) (a .start + b .loop .i) 0 in
+    let e = c .before .if6 .left in
+    digits-end (now (a .text)) (a .start) (a .start + b .loop .i) (b .loop .v) (a .stop) (b .loop .inv .3) (omega arith) (ends x (a .stop) e (s .pre)) e (omega arith)
+
+no-level-requires-7 : tie.Need-no-level-requires-7 Inv-loop μ-loop
+no-level-requires-7 c κs = search needs
+
+returns-8 : tie.Need-returns-8 Inv-loop μ-loop
+returns-8 c =
+    let b = c .before .before .before .before .before .before in
     let s = b .before .before .before .before .before .before .args in
-    let bad = digits-high (now (s .text)) (s .start) (b .loop .at) (b .loop .v) (s .stop) (b .loop .inv) (omega arith) (omega arith) in
-    c .no-level6 .ensures ∙ sym (then-off (s .stop) (s .start) (drop (s .start) (now (s .text))) bad)
+    let bad = digits-high (now (s .text)) (s .start) (s .start + b .loop .i) (b .loop .v) (s .stop) (b .loop .inv .3) (omega arith) (omega arith) in
+    c .no-level7 .ensures ∙ sym (then-off (s .stop) (s .start) (drop (s .start) (now (s .text))) bad)
 
 mul-v : tie.Need-mul-v Inv-loop μ-loop
-mul-v c = omega arith
+mul-v c = let b = c .before .before .before .before .before in let few = long-few (b .loop .i) (b .loop .v) (omega arith) (b .loop .inv .2) in omega arith
 
 cast-v-2 : tie.Need-cast-v-2 Inv-loop μ-loop
 cast-v-2 c = omega arith
 
 add-v : tie.Need-add-v Inv-loop μ-loop
-add-v c = omega arith
+add-v c = let b = c .before .before .before .before .before in let few = long-few (b .loop .i) (b .loop .v) (omega arith) (b .loop .inv .2) in omega arith
 
-add-at-2 : tie.Need-add-at-2 Inv-loop μ-loop
-add-at-2 c = omega arith
+add-i : tie.Need-add-i Inv-loop μ-loop
+add-i c = omega arith
 
 loop-less : tie.Need-loop-less Inv-loop μ-loop
 loop-less c = omega arith
@@ -131,17 +143,22 @@ loop-again : tie.Need-loop-again Inv-loop μ-loop
 loop-again c =
     let b = c .before .before .before .before .before in
     let s = b .before .before .before .before .before .before .args in
-    digits-on (now (s .text)) (s .start) (b .loop .at) (b .loop .v) (s .stop) (b .loop .inv) (omega arith) (omega arith) (omega arith) (omega arith)
+    let i = b .loop .i in
+    let d = getD (now (s .text)) (s .start + i) 0 - 48 in
+    let e : s .start + (i + 1) ≡ s .start + i + 1 = omega arith in
+    (omega arith, omega arith, long-on i (b .loop .v) d (omega arith) (b .loop .inv .2), rw e (digits-on (now (s .text)) (s .start) (s .start + i) (b .loop .v) (s .stop) (b .loop .inv .3) (omega arith) (omega arith) (omega arith)))
 
-no-level-requires-7 : tie.Need-no-level-requires-7 Inv-loop μ-loop
-no-level-requires-7 c κs = search needs
+no-level-requires-8 : tie.Need-no-level-requires-8 Inv-loop μ-loop
+no-level-requires-8 c κs = search needs
 
-returns-8 : tie.Need-returns-8 Inv-loop μ-loop
-returns-8 c =
+returns-9 : tie.Need-returns-9 Inv-loop μ-loop
+returns-9 c =
     let b = c .before .before in
     let s = b .before .before .before .before .before .before .args in
-    let bad = digits-out (now (s .text)) (s .start) (b .loop .at) (b .loop .v) (s .stop) (b .loop .inv) (omega arith) in
-    c .no-level7 .ensures ∙ sym (then-off (s .stop) (s .start) (drop (s .start) (now (s .text))) bad)
+    let e : b .loop .i ≡ 6 = omega arith in
+    let large = long-six (b .loop .v) (rw e at (b .loop .inv .2)) in
+    let bad = digits-large (now (s .text)) (s .start) (s .start + b .loop .i) (b .loop .v) (s .stop) (b .loop .inv .3) large in
+    c .no-level8 .ensures ∙ sym (then-off (s .stop) (s .start) (drop (s .start) (now (s .text))) bad)
 
 pub level-then-spec : {M : Type 1} → statement M
 level-then-spec =
@@ -158,23 +175,25 @@ level-then-spec =
     returns-3
     sub-v
     cast-v
-    add-at
     loop-holds
+    add-at
     no-level-requires-4
     returns-4
     shared-slice-read-x
     no-level-requires-5
     returns-5
-    add-t17
-    cast-t18
-    returns-6
     no-level-requires-6
+    returns-6
+    add-t18
+    cast-t19
     returns-7
+    no-level-requires-7
+    returns-8
     mul-v
     cast-v-2
     add-v
-    add-at-2
+    add-i
     loop-less
     loop-again
-    no-level-requires-7
-    returns-8)
+    no-level-requires-8
+    returns-9)

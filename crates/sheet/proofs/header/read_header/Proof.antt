@@ -8,7 +8,6 @@ use denote.Ref.{now}
 use Rattle.rules.specs.Sheet.{countKind, header}
 use Rattle.sheet.specs.declared.header.Header.{Header}
 use Rattle.sheet.proofs.HeaderLaws.{headed-no, headed-yes, refuse-marks, refuse-plots, refuse-treatments, refuse-names, accept, Found, found, not-found}
-use borrow.Author.Needs.{needs}
 use Rattle.sheet.proofs.header.read_header.Statement.{statement}
 use Rattle.sheet.proofs.header.read_header.Tie as tie
 

@@ -14,7 +14,6 @@ use Rattle.rules.proofs.Sheet.{HeaderForm, header-form, kinds-all}
 use Rattle.sheet.specs.declared.header.Header.{Header}
 use Rattle.sheet.proofs.HeaderLaws.{headed-yes}
 use Rattle.sheet.proofs.QuestionLaws.{later-at, headed-none, headed-some, judged-bad, judged-good, judged-count, refused-3, refused-4, too-few, too-many, all-read}
-use borrow.Author.Needs.{needs}
 use Rattle.sheet.proofs.questions.from_3.Statement.{statement}
 use Rattle.sheet.proofs.questions.from_3.Tie as tie
 

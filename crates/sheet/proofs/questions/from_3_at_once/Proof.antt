@@ -16,7 +16,6 @@ use Rattle.sheet.specs.Walk.{storedFrom}
 use Rattle.sheet.specs.Answers.{ownAfter}
 use Rattle.sheet.proofs.HeaderLaws.{headed-yes}
 use Rattle.sheet.proofs.QuestionLaws.{later-at, headed-none, headed-some, judged-bad, judged-good, judged-count, refused-3, refused-4, too-few, too-many, all-read}
-use borrow.Author.Needs.{needs}
 use Rattle.sheet.proofs.questions.from_3_at_once.Statement.{statement}
 use Rattle.sheet.proofs.questions.from_3_at_once.Tie as tie
 

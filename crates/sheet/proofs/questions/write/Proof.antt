@@ -9,7 +9,6 @@ use Rattle.rules.specs.Sheet.{header, all, question4}
 use Rattle.rules.proofs.Sheet.{HeaderForm, header-form, length-columns, columns-fit}
 use Rattle.sheet.specs.Walk.{isPlace}
 use Rattle.sheet.proofs.QuestionLaws.{later-at}
-use borrow.Author.Needs.{needs}
 use Rattle.sheet.proofs.questions.write.Statement.{statement}
 use Rattle.sheet.proofs.questions.write.Tie as tie
 

@@ -12,7 +12,7 @@ use denote.Ref.{now}
 use lib.ListN.{length, take, drop}
 use Rattle.rules.specs.Sheet.{upTo, lines, all, isPlotLine, withPlots}
 use Rattle.rules.proofs.Members.{clash}
-use Rattle.sheet.specs.Walk.{rowEnd, rowThere, storedAt, storedFrom}
+use Rattle.sheet.specs.Walk.{storedAt, storedFrom}
 use Rattle.sheet.specs.Answers.{judged}
 use Rattle.sheet.proofs.RowLaws.{judge-end, judge-off, judge-on, row-end-none, row-end-some, row-end-is}
 use Rattle.sheet.proofs.StoreLaws.{from-end, from-on, from-off, More, more-none, more-plot, more-form, more-turn}
