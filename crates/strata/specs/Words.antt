@@ -6,7 +6,7 @@ use mathlib.Core.List.{List}
 use Prim.Native.Nat.{ℕ, zero, suc, _^_, _≤_, _<_}
 use lib.Dec.{eqb}
 use lib.ListN.{getD}
-use Rattle.rules.specs.Factor.{every, finer}
+use Rattle.rules.specs.Factor.{every, classes, finer}
 use Rattle.rules.specs.Lists.{wordOf, bitAt}
 use Rattle.families.specs.Lent.{columnAt}
 
@@ -24,6 +24,10 @@ pub record FinerFrom (n : ℕ) (buffer : List ℕ) (i j word : ℕ) : Type 0 whe
   pub below : word < 2 ^ i
   pub only : (k : ℕ) → bitAt word k ≡ true → finer n (columnAt n buffer i) (columnAt n buffer k) ≡ true
   pub all : (k : ℕ) → j ≤ k → k < i → bitAt word k ≡ finer n (columnAt n buffer i) (columnAt n buffer k)
+
+-- no member before member i with as many classes is coarser
+abbrev pub Apart : ℕ → List ℕ → ℕ → Type 0
+Apart n buffer i = (j : ℕ) → j < i → classes (columnAt n buffer i) ≡ classes (columnAt n buffer j) → finer n (columnAt n buffer i) (columnAt n buffer j) ≡ false
 
 -- bit k of word i, unless one of the first m places has a bit in word i and bit k in its own word
 unfoldable pub directBit : List ℕ → ℕ → ℕ → ℕ → Bool

@@ -3,14 +3,14 @@ ghost use mathlib.Core.Path.{_≡_};
 ghost use Prim.Native.Nat.{ℕ, _+_, _≤_, _<_};
 ghost use lib.Count.{ones};
 ghost use lib.ListN.{length, getD};
-ghost use Rattle.rules.specs.Factor.{number, classes, finer};
+ghost use Rattle.rules.specs.Factor.{classes, finer};
 ghost use Rattle.rules.specs.Family.{membersOf};
 ghost use Rattle.rules.specs.Lists.{tabulate, forPlaces, bitAt};
 ghost use Rattle.rules.specs.Relation.{coarserWords, relationOf, relationRefused};
 ghost use Rattle.families.specs.Lent.{columnAt};
 ghost use Rattle.strata.specs.Answers.{relationIn};
 ghost use Rattle.strata.specs.Lent.{Formed};
-ghost use Rattle.strata.specs.Words.{AllWords, finerWord, FinerFrom, directWord};
+ghost use Rattle.strata.specs.Words.{AllWords, finerWord, FinerFrom, Apart, directWord};
 use crate::RelationReport;
 use crate::family::member_classes;
 use crate::family::member_finer;
@@ -37,19 +37,20 @@ pub fn has(word: u32, j: usize) -> bool
     (word >> j) & 1 == 1
 }
 
-// Whether member `i`, of `k` classes, is finer than member `j`; the first member has `first` classes. A class for each plot is finer
-// than all, and one class coarser; else the columns decide.
-fn counted_finer(family: &[u8], n: usize, i: usize, k: usize, j: usize, first: usize) -> bool
-    requires { ⌜ (n ≤ 240) × (7680 ≤ length (now family)) × (i < 32) × (j < 32) × (k ≡ classes (columnAt n (now family) i)) × (first ≡ classes (columnAt n (now family) 0)) ⌝ }
+// Whether member `i`, of `k` classes, is finer than member `j`, of `other` classes. A class for each plot is finer than all, and one
+// class coarser; of different members with as many classes neither is finer; else the columns decide.
+fn counted_finer(family: &[u8], n: usize, i: usize, k: usize, j: usize, other: usize) -> bool
+    requires { ⌜ (n ≤ 240) × (7680 ≤ length (now family)) × (i < 32) × (j < i) × (k ≡ classes (columnAt n (now family) i)) × (other ≡ classes (columnAt n (now family) j)) × Apart n (now family) i ⌝ }
     ensures { λ r. ⌜ r ≡ finer n (columnAt n (now (family .entry)) i) (columnAt n (now (family .entry)) j) ⌝ }
 {
     if k == n {
         return true;
     }
-    if j == 0 {
-        if first == 1 {
-            return true;
-        }
+    if other == 1 {
+        return true;
+    }
+    if k == other {
+        return false;
     }
     member_finer(family, i, family, j, n)
 }
@@ -64,46 +65,55 @@ fn with_member(
     word: u32,
     coarser: u32,
     k: usize,
-    first: usize,
+    other: usize,
 ) -> u32
-    requires { ⌜ (n ≤ 240) × (7680 ≤ length (now family)) × (i < 32) × (j < i) × FinerFrom n (now family) i (j + 1) word × (coarser ≡ finerWord n (now family) j) × (k ≡ classes (columnAt n (now family) i)) × (first ≡ classes (columnAt n (now family) 0)) ⌝ }
+    requires { ⌜ (n ≤ 240) × (7680 ≤ length (now family)) × (i < 32) × (j < i) × FinerFrom n (now family) i (j + 1) word × (coarser ≡ finerWord n (now family) j) × (k ≡ classes (columnAt n (now family) i)) × (other ≡ classes (columnAt n (now family) j)) × Apart n (now family) i ⌝ }
     ensures { λ r. ⌜ FinerFrom n (now (family .entry)) i j r ⌝ }
 {
     if has(word, j) {
         return word;
     }
-    if counted_finer(family, n, i, k, j, first) {
+    if counted_finer(family, n, i, k, j, other) {
         return word | (coarser | (1u32 << j));
     }
     word
 }
 
 // The word of member `i`. Only a member that stands before it can be coarser, and is where member `i` is finer.
-fn coarser_word(family: &[u8], n: usize, i: usize, words: &[u32; MEMBERS], first: usize) -> u32
-    requires { ⌜ (n ≤ 240) × (7680 ≤ length (now family)) × (i < 32) × ((k : ℕ) → k < i → getD (now words) k 0 ≡ finerWord n (now family) k) × (number (columnAt n (now family) i) ≡ columnAt n (now family) i) × (first ≡ classes (columnAt n (now family) 0)) ⌝ }
+fn coarser_word(
+    family: &[u8],
+    n: usize,
+    i: usize,
+    k: usize,
+    words: &[u32; MEMBERS],
+    counts: &[u8; MEMBERS],
+) -> u32
+    requires { ⌜ (n ≤ 240) × (7680 ≤ length (now family)) × (i < 32) × (k ≡ classes (columnAt n (now family) i)) × ((j : ℕ) → j < i → getD (now words) j 0 ≡ finerWord n (now family) j) × ((j : ℕ) → j < i → getD (now counts) j 0 ≡ classes (columnAt n (now family) j)) × Apart n (now family) i ⌝ }
     ensures { λ r. ⌜ r ≡ finerWord n (now (family .entry)) i ⌝ }
 {
-    let k = member_classes(family, i, n);
     let mut word: u32 = 0;
     let mut j = i;
     while 0 < j {
         j -= 1;
         let coarser = words[j];
-        word = with_member(family, n, i, j, word, coarser, k, first);
+        let other = counts[j] as usize;
+        word = with_member(family, n, i, j, word, coarser, k, other);
     }
     word
 }
 
-// The words of all members.
+// The words of all members. Each is counted once, and its number of classes kept for those after it.
 pub fn coarser_words(family: &[u8], n: usize, size: usize) -> [u32; MEMBERS]
     requires { ⌜ Formed n (now family) size ⌝ }
     ensures { λ r. ⌜ r ≡ forPlaces 0 (coarserWords n (membersOf n (now (family .entry)) size)) ⌝ }
 {
-    let first = member_classes(family, 0, n);
     let mut words = [0u32; MEMBERS];
+    let mut counts = [0u8; MEMBERS];
     for i in 0..size {
-        let word = coarser_word(family, n, i, &words, first);
+        let k = member_classes(family, i, n);
+        let word = coarser_word(family, n, i, k, &words, &counts);
         words[i] = word;
+        counts[i] = k as u8;
     }
     words
 }
