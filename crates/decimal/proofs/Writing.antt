@@ -7,8 +7,8 @@ use Prim.Native.Nat.{ℕ, zero, suc, _+_, _-_, _<_, _≤_, min}
 use native.Mathlib.Nat.{add-assoc}
 use native.Mathlib.Omega.{arith}
 use lib.Dec.{leb}
-use lib.ListN.{length, take, drop, length-append}
-use lib.Seq.{paste, paste-zero, length-paste, take-paste, drop-paste, drop-drop, take-append-le, take-append-add, take-length}
+use lib.ListN.{length, take, drop, set, length-append}
+use lib.Seq.{paste, paste-zero, paste-suc, length-paste, take-paste, drop-paste, drop-drop, take-append-le, take-append-add, take-length}
 use borrow.Author.Tests.{leb-true, leb-false}
 use Rattle.decimal.specs.Writing.{fits, written, placeAfter}
 
@@ -108,6 +108,23 @@ Wrote out at text left r = (r ≡ placeAfter out at text) × (left ≡ written o
 -- nothing
 pub wrote-nil : (out : List ℕ) (at : ℕ) → Wrote out at [] out at
 wrote-nil out at = (sym (place-nil out at), sym (written-nil out at))
+
+-- one byte, where there is room for it
+pub wrote-byte : (out : List ℕ) (at b : ℕ) → at < length out → Wrote out at (b ∷ []) (set out at b) (at + 1)
+unfolding written placeAfter fits
+wrote-byte out at b h =
+    let e : min 1 (length out - at) ≡ 1 = omega arith in
+    let z : at + 0 ≡ at = omega arith in
+    let l : at + 0 < length out = omega arith in
+    let k : 0 < length (b ∷ []) = omega arith in
+    (rw e, rw e (ap₂ (λ (o : List ℕ) (i : ℕ). set o i b) (paste-zero out at (b ∷ [])) (sym z) ∙ paste-suc out at (b ∷ []) 0 0 l k))
+
+-- and where there is none
+pub wrote-past : (out : List ℕ) (at b : ℕ) → length out ≤ at → Wrote out at (b ∷ []) out at
+unfolding written placeAfter fits
+wrote-past out at b h =
+    let e : min 1 (length out - at) ≡ 0 = omega arith in
+    (rw e (omega arith), rw e (paste-zero out at (b ∷ [])))
 
 -- the same text
 pub wrote-as : (out : List ℕ) (at : ℕ) {s t : List ℕ} {left : List ℕ} {r : ℕ} → s ≡ t → Wrote out at s left r → Wrote out at t left r

@@ -1,6 +1,7 @@
 // Text written into a lent buffer from a place on. Each function writes as much as there is room for and answers the
 // place after what it wrote, so that one call continues where another stopped.
 ghost use mathlib.Core.Path.{_≡_};
+ghost use mathlib.Core.List.{[], _∷_};
 ghost use Prim.Native.Nat.{_-_, _≤_, min};
 ghost use lib.IntN.{natAbs};
 ghost use lib.ListN.{length, drop};
@@ -10,6 +11,18 @@ ghost use Rattle.decimal.specs.Writing.{written, placeAfter};
 
 // The decimal digits of a `usize`, at most.
 const DIGITS: usize = 20;
+
+// Writes one byte at place `at`.
+pub fn write_byte(byte: u8, out: &mut [u8], at: usize) -> usize
+    ensures answer { λ r. ⌜ r ≡ placeAfter (now (out .entry)) at (byte ∷ []) ⌝ }
+    ensures bytes { λ _. ⌜ now (out .exit) ≡ written (now (out .entry)) at (byte ∷ []) ⌝ }
+{
+    if at < out.len() {
+        out[at] = byte;
+        return at + 1;
+    }
+    at
+}
 
 // Writes bytes from place `at` on.
 pub fn write_bytes(from: &[u8], out: &mut [u8], at: usize) -> usize
@@ -43,12 +56,11 @@ pub fn write_decimal(n: usize, out: &mut [u8], at: usize) -> usize
     ensures bytes { λ _. ⌜ now (out .exit) ≡ written (now (out .entry)) at (decimalOf n) ⌝ }
 {
     if n < 10 {
-        let one = [48 + n as u8];
-        return write_bytes(&one, out, at);
+        return write_byte(48 + n as u8, out, at);
     }
     if n < 100 {
-        let two = [48 + (n / 10) as u8, 48 + (n % 10) as u8];
-        return write_bytes(&two, out, at);
+        let next = write_byte(48 + (n / 10) as u8, out, at);
+        return write_byte(48 + (n % 10) as u8, out, next);
     }
     write_digits(n, out, at)
 }
@@ -87,7 +99,7 @@ pub fn write_signed(d: i64, out: &mut [u8], at: usize) -> usize
     ensures bytes { λ _. ⌜ now (out .exit) ≡ written (now (out .entry)) at (signed d) ⌝ }
 {
     if d < 0 {
-        let next = write_bytes(b"-", out, at);
+        let next = write_byte(b'-', out, at);
         return write_decimal(magnitude(d), out, next);
     }
     write_decimal(magnitude(d), out, at)

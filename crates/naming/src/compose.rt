@@ -40,7 +40,7 @@ fn put_next(text: &[u8], mark: u8, c: usize, first: bool, out: &mut [u8], at: us
     if first {
         return put_column(text, mark, c, out, at);
     }
-    let next = decimal::write_bytes(b",", out, at);
+    let next = decimal::write_byte(b',', out, at);
     put_column(text, mark, c, out, next)
 }
 
@@ -86,7 +86,7 @@ fn put_infimum(
 {
     let from = decimal::write_bytes(b"I(", out, 0);
     let to = put_listed(text, mark, columns, n, count, above, out, from);
-    decimal::write_bytes(b")", out, to)
+    decimal::write_byte(b')', out, to)
 }
 
 // The name of a member that no column is equivalent to: by an infimum, or else by its place.
@@ -110,7 +110,7 @@ fn by_infimum(
     if factor::alike(&met[..n], member) {
         return put_infimum(text, mark, columns, n, count, above, out);
     }
-    let at = decimal::write_bytes(b"#", out, 0);
+    let at = decimal::write_byte(b'#', out, 0);
     decimal::write_decimal(place, out, at)
 }
 
@@ -121,10 +121,10 @@ fn put_extreme(n: usize, member: &[u8], out: &mut [u8]) -> usize
     ensures { λ _. ⌜ now (out .exit) ≡ written (now (out .entry)) 0 (extremeName n (now (member .entry))) ⌝ }
 {
     if extremes::one_class(member) {
-        return decimal::write_bytes(b"U", out, 0);
+        return decimal::write_byte(b'U', out, 0);
     }
     if extremes::each_apart(member, n) {
-        return decimal::write_bytes(b"E", out, 0);
+        return decimal::write_byte(b'E', out, 0);
     }
     0
 }

@@ -8,6 +8,7 @@ ghost use Rattle.rules.specs.Table.{rowBytes, rowsBytes, signed, sourceRows, re
 ghost use Rattle.rules.specs.Lists.{decimalOf};
 ghost use Rattle.decimal.specs.Writing.{written, placeAfter};
 ghost use Rattle.table.specs.Names.{nameIn, namesIn, among, residualOf, tableOf, Named};
+use decimal::write_byte;
 use decimal::write_bytes;
 use decimal::write_decimal;
 use decimal::write_signed;
@@ -20,7 +21,7 @@ fn put_field(field: &[u8], out: &mut [u8], at: usize) -> usize
     ensures bytes { λ _. ⌜ now (out .exit) ≡ written (now (out .entry)) at (now (field .entry) ++ 9 ∷ []) ⌝ }
 {
     let next = write_bytes(field, out, at);
-    write_bytes(b"\t", out, next)
+    write_byte(b'\t', out, next)
 }
 
 // Writes a number and the end of the line after it.
@@ -29,7 +30,7 @@ fn put_last(d: i64, out: &mut [u8], at: usize) -> usize
     ensures bytes { λ _. ⌜ now (out .exit) ≡ written (now (out .entry)) at (signed d ++ 10 ∷ []) ⌝ }
 {
     let next = write_signed(d, out, at);
-    write_bytes(b"\n", out, next)
+    write_byte(b'\n', out, next)
 }
 
 // Writes a line: stratum, source, degrees of freedom.
@@ -224,7 +225,7 @@ fn put_plots(plots: usize, out: &mut [u8], at: usize) -> usize
 {
     let number = write_bytes(b"=all\t=total\t", out, at);
     let end = write_decimal(plots, out, number);
-    write_bytes(b"\n", out, end)
+    write_byte(b'\n', out, end)
 }
 
 // Writes the one line of a refusal.
@@ -234,8 +235,8 @@ pub fn put_refused(number: usize, first: &[u8], second: &[u8], out: &mut [u8]) -
 {
     let a = write_bytes(b"refused\t", out, 0);
     let b = write_decimal(number, out, a);
-    let c = write_bytes(b"\t", out, b);
+    let c = write_byte(b'\t', out, b);
     let d = put_field(first, out, c);
     let e = write_bytes(second, out, d);
-    write_bytes(b"\n", out, e)
+    write_byte(b'\n', out, e)
 }

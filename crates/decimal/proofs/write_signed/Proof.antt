@@ -18,14 +18,11 @@ use Rattle.decimal.proofs.write_signed.Tie as tie
 use Rattle.decimal.proofs.write_signed.Reads as reads
 use Rattle.decimal.proofs.write_signed.Lts as lts
 use Rattle.decimal.proofs.magnitude.Reads as magnitude-reads
-use Rattle.decimal.proofs.write_bytes.Reads as write-bytes-reads
+use Rattle.decimal.proofs.write_byte.Reads as write-byte-reads
 use Rattle.decimal.proofs.write_decimal.Reads as write-decimal-reads
 
-slice-aggregate-write-bytes : tie.Need-slice-aggregate-write-bytes
-slice-aggregate-write-bytes c = search needs
-
-write-bytes-requires : tie.Need-write-bytes-requires
-write-bytes-requires c κs = search needs
+write-byte-requires : tie.Need-write-byte-requires
+write-byte-requires c κs = search needs
 
 magnitude-requires : tie.Need-magnitude-requires
 magnitude-requires c κs = search needs
@@ -40,8 +37,8 @@ returns : tie.Need-returns
 returns c =
     let d = c .before .before .write-decimal in
     let m = c .before .before .before .before .magnitude in
-    let w = c .before .before .before .before .before .before .before .write-bytes in
-    let t = c .before .before .before .before .before .before .before .before .before .before in
+    let w = c .before .before .before .before .before .before .before .write-byte in
+    let t = c .before .before .before .before .before .before .before .before .before in
     let s = t .before .before in
     let a = s .args in
     let size : m .result ≡ natAbs (a .d) = m .ensures ∙ ap natAbs (back (a .d) (s .fits .d)) in
@@ -73,8 +70,7 @@ pub write-signed-spec : {M : Type 1} → statement M
 write-signed-spec =
     tie.close
     (tie.spec
-    slice-aggregate-write-bytes
-    write-bytes-requires
+    write-byte-requires
     magnitude-requires
     write-decimal-requires
     same-length

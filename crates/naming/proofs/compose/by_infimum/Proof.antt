@@ -82,11 +82,8 @@ returns c =
     let w = c .before .before .put-infimum .ensures in
     (w .0 ∙ ap (placeAfter out 0) q, w .1 ∙ ap (written out 0) q)
 
-slice-aggregate-write-bytes : tie.Need-slice-aggregate-write-bytes
-slice-aggregate-write-bytes c = search needs
-
-write-bytes-requires : tie.Need-write-bytes-requires
-write-bytes-requires c κs = search needs
+write-byte-requires : tie.Need-write-byte-requires
+write-byte-requires c κs = search needs
 
 write-decimal-requires : tie.Need-write-decimal-requires
 write-decimal-requires c κs = search needs
@@ -97,17 +94,17 @@ same-length-2 c = search needs
 returns-2 : tie.Need-returns-2
 unfolding bytesOf
 returns-2 c =
-    let s = c .before .before .before .before .before .before .before .before .before .before .before .before .before .before .before .before .before .before .before in
+    let s = c .before .before .before .before .before .before .before .before .before .before .before .before .before .before .before .before .before .before in
     let a = s .args in
     let n = a .n in
     let F = now (a .member) in
     let S = membersOf n (now (a .columns)) (a .count) in
     let names = columnNames (a .mark) (header (now (a .text))) in
     let out = now (a .out) in
-    let i = c .before .before .before .before .before .before .before .before .before .before .before .before in
-    let e : alike (infimumAbove n F S) F ≡ false = sym (ap (λ (X : Column). alike X F) (met-is i)) ∙ sym (c .before .before .before .before .before .before .before .before .before .before .alike .ensures) ∙ c .before .before .before .before .before .before .before .before .before .if1 .left in
+    let i = c .before .before .before .before .before .before .before .before .before .before .before in
+    let e : alike (infimumAbove n F S) F ≡ false = sym (ap (λ (X : Column). alike X F) (met-is i)) ∙ sym (c .before .before .before .before .before .before .before .before .before .alike .ensures) ∙ c .before .before .before .before .before .before .before .before .if1 .left in
     let q : bytesOf names (name-place (a .place)) ≡ bytesOf names (nameByInfimum n S (a .place) F) = ap (bytesOf names) (sym (infimum-fits-not n S (a .place) F e)) in
-    let k = c .before .before .before .before .before .before .write-bytes in
+    let k = c .before .before .before .before .before .before .write-byte in
     let w = c .before .before .write-decimal .ensures in
     let mark : List ℕ = 35 ∷ [] in (
       w .0 ∙ then-place out 0 mark (decimalOf (a .place)) (k .last .1 .0) (k .result) (k .ensures .1) (k .ensures .0) ∙ ap (placeAfter out 0) q,
@@ -126,8 +123,7 @@ by-infimum-spec =
     put-infimum-requires
     same-length
     returns
-    slice-aggregate-write-bytes
-    write-bytes-requires
+    write-byte-requires
     write-decimal-requires
     same-length-2
     returns-2)

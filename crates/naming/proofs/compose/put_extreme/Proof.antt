@@ -16,41 +16,35 @@ one-class-requires c κs = search needs
 each-apart-requires : tie.Need-each-apart-requires
 each-apart-requires c κs = c .before .before .before .before .pre
 
-slice-aggregate-write-bytes : tie.Need-slice-aggregate-write-bytes
-slice-aggregate-write-bytes c = search needs
-
-write-bytes-requires : tie.Need-write-bytes-requires
-write-bytes-requires c κs = search needs
+write-byte-requires : tie.Need-write-byte-requires
+write-byte-requires c κs = search needs
 
 same-length : tie.Need-same-length
 same-length c = search needs
 
 returns : tie.Need-returns
 returns c =
-    let a = c .before .before .before .before .before .before .before .before .before .args in
+    let a = c .before .before .before .before .before .before .before .before .args in
     let out = now (a .out) in
-    let e = sym (c .before .before .before .before .before .before .one-class .ensures) ∙ c .before .before .before .before .before .if1 .taken in
+    let e = sym (c .before .before .before .before .before .one-class .ensures) ∙ c .before .before .before .before .if1 .taken in
     let q = sym (extreme-one (a .n) (now (a .member)) (eqb-true _ _ e)) in
-    let w = c .before .before .write-bytes .ensures in
+    let w = c .before .before .write-byte .ensures in
     (w .0 ∙ ap (placeAfter out 0) q, w .1 ∙ ap (written out 0) q)
 
-slice-aggregate-write-bytes-2 : tie.Need-slice-aggregate-write-bytes-2
-slice-aggregate-write-bytes-2 c = search needs
-
-write-bytes-requires-2 : tie.Need-write-bytes-requires-2
-write-bytes-requires-2 c κs = search needs
+write-byte-requires-2 : tie.Need-write-byte-requires-2
+write-byte-requires-2 c κs = search needs
 
 same-length-2 : tie.Need-same-length-2
 same-length-2 c = search needs
 
 returns-2 : tie.Need-returns-2
 returns-2 c =
-    let a = c .before .before .before .before .before .before .before .before .before .before .before .args in
+    let a = c .before .before .before .before .before .before .before .before .before .before .args in
     let out = now (a .out) in
-    let d = sym (c .before .before .before .before .before .before .before .before .one-class .ensures) ∙ c .before .before .before .before .before .before .before .if1 .left in
-    let e = sym (c .before .before .before .before .before .before .each-apart .ensures) ∙ c .before .before .before .before .before .if2 .taken in
+    let d = sym (c .before .before .before .before .before .before .before .one-class .ensures) ∙ c .before .before .before .before .before .before .if1 .left in
+    let e = sym (c .before .before .before .before .before .each-apart .ensures) ∙ c .before .before .before .before .if2 .taken in
     let q = sym (extreme-all (a .n) (now (a .member)) (eqb-false _ _ d) (eqb-true _ _ e)) in
-    let w = c .before .before .write-bytes2 .ensures in
+    let w = c .before .before .write-byte2 .ensures in
     (w .0 ∙ ap (placeAfter out 0) q, w .1 ∙ ap (written out 0) q)
 
 returns-3 : tie.Need-returns-3
@@ -67,13 +61,11 @@ put-extreme-spec =
     tie.close
     (tie.spec
     one-class-requires
-    slice-aggregate-write-bytes
-    write-bytes-requires
+    write-byte-requires
     same-length
     returns
     each-apart-requires
-    slice-aggregate-write-bytes-2
-    write-bytes-requires-2
+    write-byte-requires-2
     same-length-2
     returns-2
     returns-3)

@@ -24,11 +24,8 @@ write-bytes-requires c κs = search needs
 put-listed-requires : tie.Need-put-listed-requires
 put-listed-requires c κs = search needs
 
-slice-aggregate-write-bytes-2 : tie.Need-slice-aggregate-write-bytes-2
-slice-aggregate-write-bytes-2 c = search needs
-
-write-bytes-requires-2 : tie.Need-write-bytes-requires-2
-write-bytes-requires-2 c κs = search needs
+write-byte-requires : tie.Need-write-byte-requires
+write-byte-requires c κs = search needs
 
 same-length : tie.Need-same-length
 same-length c = search needs
@@ -36,14 +33,14 @@ same-length c = search needs
 returns : tie.Need-returns
 unfolding bytesOf
 returns c =
-    let a = c .before .before .before .before .before .before .before .before .before .before .before .before .before .before .before .before .before .args in
+    let a = c .before .before .before .before .before .before .before .before .before .before .before .before .before .before .before .before .args in
     let out = now (a .out) in
     let opened : List ℕ = 73 ∷ 40 ∷ [] in
     let closed : List ℕ = 41 ∷ [] in
     let names = withCommas (columnNames (a .mark) (header (now (a .text)))) (passingFrom (listedBy (bitAt (a .above)) (a .n) (membersOf (a .n) (now (a .columns)) (a .count))) 0 (a .count)) in
-    let k = c .before .before .before .before .before .before .before .before .before .before .before .write-bytes in
-    let l = c .before .before .before .before .before .before .before .put-listed in
-    let w = c .before .before .write-bytes2 in
+    let k = c .before .before .before .before .before .before .before .before .before .before .write-bytes in
+    let l = c .before .before .before .before .before .before .put-listed in
+    let w = c .before .before .write-byte in
     let bytes : l .last .1 .1 .1 .1 .1 .1 .0 ≡ written out 0 (opened ++ names) = l .ensures .1 ∙ then-bytes out 0 opened names (k .last .1 .0) (k .result) (k .ensures .1) (k .ensures .0) in
     let place : l .result ≡ placeAfter out 0 (opened ++ names) = l .ensures .0 ∙ then-place out 0 opened names (k .last .1 .0) (k .result) (k .ensures .1) (k .ensures .0) in (
       w .ensures .0 ∙ then-place out 0 (opened ++ names) closed (l .last .1 .1 .1 .1 .1 .1 .0) (l .result) bytes place,
@@ -57,7 +54,6 @@ put-infimum-spec =
     slice-aggregate-write-bytes
     write-bytes-requires
     put-listed-requires
-    slice-aggregate-write-bytes-2
-    write-bytes-requires-2
+    write-byte-requires
     same-length
     returns)

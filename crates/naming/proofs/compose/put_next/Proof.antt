@@ -28,11 +28,8 @@ returns c =
     let w = c .before .before .put-column .ensures in
     (w .0 ∙ ap (λ (f : Bool). placeAfter out (a .at) (separated f name)) (sym e), w .1 ∙ ap (λ (f : Bool). written out (a .at) (separated f name)) (sym e))
 
-slice-aggregate-write-bytes : tie.Need-slice-aggregate-write-bytes
-slice-aggregate-write-bytes c = search needs
-
-write-bytes-requires : tie.Need-write-bytes-requires
-write-bytes-requires c κs = search needs
+write-byte-requires : tie.Need-write-byte-requires
+write-byte-requires c κs = search needs
 
 put-column-requires-2 : tie.Need-put-column-requires-2
 put-column-requires-2 c κs = search needs
@@ -42,11 +39,11 @@ same-length-2 c = search needs
 
 returns-2 : tie.Need-returns-2
 returns-2 c =
-    let a = c .before .before .before .before .before .before .before .before .before .before .before .before .args in
+    let a = c .before .before .before .before .before .before .before .before .before .before .before .args in
     let out = now (a .out) in
     let name = getD (columnNames (a .mark) (header (now (a .text)))) (a .c) [] in
-    let e = c .before .before .before .before .before .before .before .before .before .if1 .left in
-    let k = c .before .before .before .before .before .before .write-bytes in
+    let e = c .before .before .before .before .before .before .before .before .if1 .left in
+    let k = c .before .before .before .before .before .before .write-byte in
     let w = c .before .before .put-column2 .ensures in (
       w .0 ∙ then-place out (a .at) (44 ∷ []) name (k .last .1 .0) (k .result) (k .ensures .1) (k .ensures .0) ∙ ap (λ (f : Bool). placeAfter out (a .at) (separated f name)) (sym e),
       w .1 ∙ then-bytes out (a .at) (44 ∷ []) name (k .last .1 .0) (k .result) (k .ensures .1) (k .ensures .0) ∙ ap (λ (f : Bool). written out (a .at) (separated f name)) (sym e),
@@ -59,8 +56,7 @@ put-next-spec =
     put-column-requires
     same-length
     returns
-    slice-aggregate-write-bytes
-    write-bytes-requires
+    write-byte-requires
     put-column-requires-2
     same-length-2
     returns-2)

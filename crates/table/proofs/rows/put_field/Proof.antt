@@ -19,26 +19,22 @@ use Rattle.decimal.proofs.write_bytes.Reads as write-bytes-reads
 write-bytes-requires : tie.Need-write-bytes-requires
 write-bytes-requires c κs = search needs
 
-slice-aggregate-write-bytes : tie.Need-slice-aggregate-write-bytes
-slice-aggregate-write-bytes c = search needs
-
-write-bytes-requires-2 : tie.Need-write-bytes-requires-2
-write-bytes-requires-2 c κs = search needs
+write-byte-requires : tie.Need-write-byte-requires
+write-byte-requires c κs = search needs
 
 same-length : tie.Need-same-length
 same-length c = search needs
 
 returns : tie.Need-returns
 returns c =
-    let a = c .before .before .before .before .before .before .before .before .before .before .before .args in
-    wrote-then (now (a .out)) (a .at) (now (a .field)) (9 ∷ []) (c .before .before .before .before .before .before .before .write-bytes .ensures) (c .before .before .write-bytes2 .ensures)
+    let a = c .before .before .before .before .before .before .before .before .before .before .args in
+    wrote-then (now (a .out)) (a .at) (now (a .field)) (9 ∷ []) (c .before .before .before .before .before .before .write-bytes .ensures) (c .before .before .write-byte .ensures)
 
 pub put-field-spec : {M : Type 1} → statement M
 put-field-spec =
     tie.close
     (tie.spec
     write-bytes-requires
-    slice-aggregate-write-bytes
-    write-bytes-requires-2
+    write-byte-requires
     same-length
     returns)

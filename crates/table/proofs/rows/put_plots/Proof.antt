@@ -26,22 +26,19 @@ write-bytes-requires c κs = search needs
 write-decimal-requires : tie.Need-write-decimal-requires
 write-decimal-requires c κs = search needs
 
-slice-aggregate-write-bytes-2 : tie.Need-slice-aggregate-write-bytes-2
-slice-aggregate-write-bytes-2 c = search needs
-
-write-bytes-requires-2 : tie.Need-write-bytes-requires-2
-write-bytes-requires-2 c κs = search needs
+write-byte-requires : tie.Need-write-byte-requires
+write-byte-requires c κs = search needs
 
 same-length : tie.Need-same-length
 same-length c = search needs
 
 returns : tie.Need-returns
 returns c =
-    let a = c .before .before .before .before .before .before .before .before .before .before .before .before .before .before .before .args in
+    let a = c .before .before .before .before .before .before .before .before .before .before .before .before .before .before .args in
     let o = now (a .out) in
     let d = decimalOf (a .plots) in
-    let two = wrote-then o (a .at) start-plots d (c .before .before .before .before .before .before .before .before .before .before .before .write-bytes .ensures) (c .before .before .before .before .before .before .before .write-decimal .ensures) in
-    wrote-as o (a .at) (plots-bytes (a .plots)) (wrote-then o (a .at) (start-plots ++ d) (10 ∷ []) two (c .before .before .write-bytes2 .ensures))
+    let two = wrote-then o (a .at) start-plots d (c .before .before .before .before .before .before .before .before .before .before .write-bytes .ensures) (c .before .before .before .before .before .before .write-decimal .ensures) in
+    wrote-as o (a .at) (plots-bytes (a .plots)) (wrote-then o (a .at) (start-plots ++ d) (10 ∷ []) two (c .before .before .write-byte .ensures))
 
 pub put-plots-spec : {M : Type 1} → statement M
 put-plots-spec =
@@ -50,7 +47,6 @@ put-plots-spec =
     slice-aggregate-write-bytes
     write-bytes-requires
     write-decimal-requires
-    slice-aggregate-write-bytes-2
-    write-bytes-requires-2
+    write-byte-requires
     same-length
     returns)

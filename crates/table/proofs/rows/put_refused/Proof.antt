@@ -27,39 +27,33 @@ write-bytes-requires c κs = search needs
 write-decimal-requires : tie.Need-write-decimal-requires
 write-decimal-requires c κs = search needs
 
-slice-aggregate-write-bytes-2 : tie.Need-slice-aggregate-write-bytes-2
-slice-aggregate-write-bytes-2 c = search needs
-
-write-bytes-requires-2 : tie.Need-write-bytes-requires-2
-write-bytes-requires-2 c κs = search needs
+write-byte-requires : tie.Need-write-byte-requires
+write-byte-requires c κs = search needs
 
 put-field-requires : tie.Need-put-field-requires
 put-field-requires c κs = search needs
 
-write-bytes-requires-3 : tie.Need-write-bytes-requires-3
-write-bytes-requires-3 c κs = search needs
+write-bytes-requires-2 : tie.Need-write-bytes-requires-2
+write-bytes-requires-2 c κs = search needs
 
-slice-aggregate-write-bytes-3 : tie.Need-slice-aggregate-write-bytes-3
-slice-aggregate-write-bytes-3 c = search needs
-
-write-bytes-requires-4 : tie.Need-write-bytes-requires-4
-write-bytes-requires-4 c κs = search needs
+write-byte-requires-2 : tie.Need-write-byte-requires-2
+write-byte-requires-2 c κs = search needs
 
 same-length : tie.Need-same-length
 same-length c = search needs
 
 returns : tie.Need-returns
 returns c =
-    let a = c .before .before .before .before .before .before .before .before .before .before .before .before .before .before .before .before .before .before .before .before .before .before .before .before .before .before .before .before .before .before .args in
+    let a = c .before .before .before .before .before .before .before .before .before .before .before .before .before .before .before .before .before .before .before .before .before .before .before .before .before .before .before .before .args in
     let o = now (a .out) in
     let d = decimalOf (a .number) in
     let f = now (a .first) ++ 9 ∷ [] in
     let s = now (a .second) in
-    let w2 = wrote-then o 0 start-refused d (c .before .before .before .before .before .before .before .before .before .before .before .before .before .before .before .before .before .before .before .before .before .before .before .before .write-bytes .ensures) (c .before .before .before .before .before .before .before .before .before .before .before .before .before .before .before .before .before .before .before .before .write-decimal .ensures) in
-    let w3 = wrote-then o 0 (start-refused ++ d) (9 ∷ []) w2 (c .before .before .before .before .before .before .before .before .before .before .before .before .before .before .before .write-bytes2 .ensures) in
-    let w4 = wrote-then o 0 (start-refused ++ d ++ 9 ∷ []) f w3 (c .before .before .before .before .before .before .before .before .before .before .before .put-field .ensures) in
-    let w5 = wrote-then o 0 (start-refused ++ d ++ 9 ∷ [] ++ f) s w4 (c .before .before .before .before .before .before .before .write-bytes3 .ensures) in
-    wrote-as o 0 (refused-bytes (a .number) (now (a .first)) s) (wrote-then o 0 (start-refused ++ d ++ 9 ∷ [] ++ f ++ s) (10 ∷ []) w5 (c .before .before .write-bytes4 .ensures))
+    let w2 = wrote-then o 0 start-refused d (c .before .before .before .before .before .before .before .before .before .before .before .before .before .before .before .before .before .before .before .before .before .before .write-bytes .ensures) (c .before .before .before .before .before .before .before .before .before .before .before .before .before .before .before .before .before .before .write-decimal .ensures) in
+    let w3 = wrote-then o 0 (start-refused ++ d) (9 ∷ []) w2 (c .before .before .before .before .before .before .before .before .before .before .before .before .before .before .write-byte .ensures) in
+    let w4 = wrote-then o 0 (start-refused ++ d ++ 9 ∷ []) f w3 (c .before .before .before .before .before .before .before .before .before .before .put-field .ensures) in
+    let w5 = wrote-then o 0 (start-refused ++ d ++ 9 ∷ [] ++ f) s w4 (c .before .before .before .before .before .before .write-bytes2 .ensures) in
+    wrote-as o 0 (refused-bytes (a .number) (now (a .first)) s) (wrote-then o 0 (start-refused ++ d ++ 9 ∷ [] ++ f ++ s) (10 ∷ []) w5 (c .before .before .write-byte2 .ensures))
 
 pub put-refused-spec : {M : Type 1} → statement M
 put-refused-spec =
@@ -68,11 +62,9 @@ put-refused-spec =
     slice-aggregate-write-bytes
     write-bytes-requires
     write-decimal-requires
-    slice-aggregate-write-bytes-2
-    write-bytes-requires-2
+    write-byte-requires
     put-field-requires
-    write-bytes-requires-3
-    slice-aggregate-write-bytes-3
-    write-bytes-requires-4
+    write-bytes-requires-2
+    write-byte-requires-2
     same-length
     returns)
