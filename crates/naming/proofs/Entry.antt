@@ -3,7 +3,7 @@
 use mathlib.Core.Path.{_≡_, refl, ap, _∙_}
 use mathlib.Core.Bool.{Bool, true, false, _&&_}
 use mathlib.Core.List.{List, []}
-use Prim.Native.Nat.{ℕ, suc, _≤_, _<_}
+use Prim.Native.Nat.{ℕ, _≤_, _<_}
 use native.Mathlib.Omega.{arith}
 use lib.Dec.{eqb, ltb, leb}
 use lib.ListN.{length, take}
@@ -12,12 +12,12 @@ use borrow.Author.Tests.{leb-true, ltb-true, eqb-true, lt-ltb, lt-leb, le-leb, e
 use Rattle.rules.specs.Factor.{Column}
 use Rattle.rules.specs.Family.{Family, columnsFrom, membersOf, wellFormed}
 use Rattle.rules.specs.Design.{plotsWithin, allNonzero}
-use Rattle.rules.specs.Sheet.{upTo, countKind, header, question2, question3}
+use Rattle.rules.specs.Sheet.{countKind, header, question2, question3}
 use Rattle.rules.specs.Naming.{Kind as Rule, markOf, firstColumn, kindNames, kindColumns, nameOn, nameAt, nameRefused, namingWithin, namingFrom7, naming}
 use Rattle.rules.proofs.Buffer.{length-columns}
 use Rattle.rules.proofs.NameSize.{names-short, bytes-length}
 use Rattle.rules.proofs.Sheet.{and-left, and-right, header-form}
-use Rattle.sheet.specs.Answers.{headed}
+use Rattle.sheet.specs.Answers.{firstLine, headed}
 use Rattle.sheet.specs.declared.header.Header.{Header}
 use Rattle.sheet.proofs.HeaderLaws.{headed-yes}
 use Rattle.naming.specs.declared.Kind.{Kind}
@@ -28,9 +28,10 @@ use Rattle.naming.specs.Answers.{kindOf, countIn, memberFits, countedOn,
 
 module _ (kind : Kind) (text : List ℕ) (q : question3 text ≡ true) where
   pub count-is : (h : Header) → h ≡ headed text → countIn kind h ≡ countKind (markOf (kindOf kind)) (header text)
+  unfolding firstLine
   count-is h e = ap (countIn kind) (e ∙ headed-yes text q) ∙ of kind
     where
-      of : (kind : Kind) → countIn kind (record { end = suc (length (upTo 10 text)); «plot_columns» = countKind 112 (header text); «treatment_columns» = countKind 116 (header text) }) ≡ countKind (markOf (kindOf kind)) (header text)
+      of : (kind : Kind) → countIn kind (firstLine text) ≡ countKind (markOf (kindOf kind)) (header text)
       of Plot = refl
       of Treatment = refl
 

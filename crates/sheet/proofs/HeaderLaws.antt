@@ -1,25 +1,25 @@
 -- Laws of a walk over the first line.
 -- Assumes nothing.
 use mathlib.Core.Path.{_≡_, refl, sym, ap, _∙_}
-use mathlib.Core.Bool.{true, false, _&&_}
+use mathlib.Core.Bool.{Bool, true, false, _&&_}
 use mathlib.Core.List.{List, [], _∷_, _++_}
-use Prim.Native.Nat.{ℕ, zero, suc, _+_, _≤_, _<_}
+use mathlib.Core.Logic.{_⊎_, ⊎-elim}
+use Prim.Native.Nat.{ℕ, suc, _+_, _-_, _≤_, _<_}
 use native.Mathlib.Omega.{arith}
-use native.Mathlib.Nat.{le-of-lt, zero-add}
+use native.Mathlib.Nat.{zero-add, add-zero}
 use native.Mathlib.Numerals.{add-one}
 use lib.Dec.{eqb, leb}
-use lib.ListN.{length, getD, take, drop, set, length-drop}
-use lib.Seq.{slice, drop-drop, drop-cons, set-at, length-take-le, take-suc, append-snoc, take-all, take-at}
-use borrow.Author.Tests.{eq-eqb, ne-eqb, eqb-true, eqb-false, lt-ltb, le-leb, lt-leb}
-use Rattle.rules.specs.Sheet.{Field, upTo, has, fields, all, isColumn, isKind, countKind, sameBytes, nameOf, newName, namesDiffer, header, columnsAfter, within, isHeader, question3}
-use Rattle.rules.proofs.Sheet.{and-false, and-left, and-right, fields-some, kind-yes, kind-no, column-plot, column-treatment, kinds-all}
+use lib.ListN.{length, getD, take, drop, set, replicate, length-drop, length-append}
+use lib.Seq.{slice, drop-drop, set-at, append-snoc, take-at}
+use borrow.Author.Tests.{eqb-true, eqb-false, lt-ltb, leb-true, le-leb, lt-leb}
+use Rattle.rules.specs.Sheet.{Field, upTo, has, all, isColumn, countKind, sameBytes, nameOf, newName, namesDiffer, header, columnsAfter, isHeader, question3}
+use Rattle.rules.proofs.Sheet.{and-false, and-left, and-right, fields-some, kind-yes, kind-no, column-plot, column-treatment, kinds-all, HeaderForm, header-form}
 use Rattle.rules.proofs.Members.{clash}
 use Rattle.rules.proofs.Numbering.{by-cases}
 use Rattle.sheet.specs.Walk.{fieldOf, columnThere}
-use Rattle.sheet.specs.Answers.{noHeader, marked, headed}
+use Rattle.sheet.specs.Answers.{padded, noHeader, markable, marked, firstLine, headed}
 use Rattle.sheet.specs.declared.header.Header.{Header}
 use Rattle.sheet.proofs.Stops.{AtTab, AtNewline, AtEnd, Stop, at-tab, at-newline, at-end, stop, field-byte, field-part, field-next}
-use Rattle.sheet.proofs.Walk.{field-tab, field-newline, field-on}
 use Rattle.sheet.proofs.ColumnLaws.{Column, column-long}
 
 -- ---- the place e where the field that starts at `at` ends
@@ -69,98 +69,125 @@ module _ (text : List ℕ) (at e : ℕ) (d : e ≡ at + length (fieldOf (drop at
       go (at-newline r) = absurd (b (field-byte text at e d ∙ r .byte))
       go (at-end r) = absurd (no (r .all-of-it))
 
--- ---- kinds
+  module _ (h : e < length text) where
+    -- the fields of the line from here on
+    line-last : getD text e 0 ≡ 10 → header (drop at text) ≡ fieldOf (drop at text) ∷ []
+    unfolding header
+    line-last b = newline-here h b .parts
 
--- counting a field changes p and t to p′ and t′
-abbrev pub Tally : Field → ℕ → ℕ → ℕ → ℕ → Type 0
-Tally f p t p′ t′ = (F : List Field) → (p + countKind 112 (f ∷ F) ≡ p′ + countKind 112 F) × (t + countKind 116 (f ∷ F) ≡ t′ + countKind 116 F)
-
-pub tally-plot : (f : Field) (p t : ℕ) → isColumn f ≡ true → getD f 0 0 ≡ 112 → Tally f p t (p + 1) t
-tally-plot f p t e b F =
-    let k = column-plot f e b in
-    let y = kind-yes 112 f F (k .0) in
-    let n = kind-no 116 f F (k .1) in
-    (omega arith, omega arith)
-
-pub tally-treatment : (f : Field) (p t : ℕ) → isColumn f ≡ true → (getD f 0 0 ≡ 112 → ⊥) → Tally f p t p (t + 1)
-tally-treatment f p t e b F =
-    let k = column-treatment f e b in
-    let n = kind-no 112 f F (k .0) in
-    let y = kind-yes 116 f F (k .1) in
-    (omega arith, omega arith)
+    line-on : (getD text e 0 ≡ 10 → ⊥) → header (drop at text) ≡ fieldOf (drop at text) ∷ header (drop (e + 1) text)
+    unfolding header
+    line-on b = rw (field-next text at e d) at (tab-here h b .parts)
 
 -- ---- columns one by one
 
-module _ (at p t : ℕ) (xs : List ℕ) where
-  pub marked-yes : has 10 xs ≡ true → all isColumn (fields (upTo 10 xs)) ≡ true
-      → marked at p t xs ≡ record { end = at + suc (length (upTo 10 xs)); «plot_columns» = p + countKind 112 (fields (upTo 10 xs)); «treatment_columns» = t + countKind 116 (fields (upTo 10 xs)) }
-  unfolding marked header
-  marked-yes h a = rw (h, a, marked)
+-- the field f is counted, after which there are p′ and t′ columns, and takes column c of the level table
+pub record Counted (f : Field) (p t c p′ t′ : ℕ) : Type 0 where
+  pub plots : (F : List Field) → p + countKind 112 (f ∷ F) ≡ p′ + countKind 112 F
+  pub treatments : (F : List Field) → t + countKind 116 (f ∷ F) ≡ t′ + countKind 116 F
+  pub takes : (F : List Field) → columnsAfter p t (f ∷ F) ≡ c ∷ columnsAfter p′ t′ F
 
-  pub marked-unended : has 10 xs ≡ false → marked at p t xs ≡ noHeader
-  unfolding marked header
-  marked-unended h = rw (h, marked)
+module _ (f : Field) (p t : ℕ) (e : isColumn f ≡ true) where
+  pub counted-plot : getD f 0 0 ≡ 112 → Counted f p t p (p + 1) t
+  unfolding columnsAfter
+  counted-plot b =
+      let k = column-plot f e b in
+      record {
+        plots = λ F. let y = kind-yes 112 f F (k .0) in omega arith;
+        treatments = λ F. let n = kind-no 116 f F (k .1) in omega arith;
+        takes = λ F. rw (k .0, add-one, columnsAfter);
+      }
 
-  pub marked-no : all isColumn (fields (upTo 10 xs)) ≡ false → marked at p t xs ≡ noHeader
-  unfolding marked header
-  marked-no a = rw (a, and-false (has 10 xs), marked)
+  pub counted-treatment : (getD f 0 0 ≡ 112 → ⊥) → Counted f p t (6 + t) p (t + 1)
+  unfolding columnsAfter
+  counted-treatment b =
+      let k = column-treatment f e b in
+      record {
+        plots = λ F. let n = kind-no 112 f F (k .0) in omega arith;
+        treatments = λ F. let y = kind-yes 116 f F (k .1) in omega arith;
+        takes = λ F. rw (k .0, add-one, columnsAfter);
+      }
 
-module _ (text : List ℕ) (at p t : ℕ) where
+marked-no : (at p t : ℕ) (cs xs : List ℕ) → markable p t xs ≡ false → marked at p t cs xs ≡ noHeader
+unfolding marked
+marked-no at p t cs xs e = rw (e, marked)
+
+marked-yes : (at p t : ℕ) (cs xs : List ℕ) → markable p t xs ≡ true
+    → marked at p t cs xs ≡ record { end = at + suc (length (upTo 10 xs)); «plot_columns» = p + countKind 112 (header xs); «treatment_columns» = t + countKind 116 (header xs); columns = padded (cs ++ columnsAfter p t (header xs)) }
+unfolding marked
+marked-yes at p t cs xs e = rw (e, marked)
+
+markable-no : (p t : ℕ) (xs : List ℕ) → all isColumn (header xs) ≡ false → markable p t xs ≡ false
+unfolding markable
+markable-no p t xs e = rw (e, and-false (has 10 xs))
+
+module _ (text : List ℕ) (at p t : ℕ) (cs : List ℕ) where
   -- no column, or one that nothing ends
-  pub marks-off : columnThere (drop at text) ≡ false → marked at p t (drop at text) ≡ noHeader
-  unfolding columnThere all
-  marks-off n = go (stop (drop at text))
+  pub marks-off : columnThere (drop at text) ≡ false → marked at p t cs (drop at text) ≡ noHeader
+  unfolding columnThere all markable header
+  marks-off n = marked-no at p t cs (drop at text) (go (stop (drop at text)))
     where
       bad : length (fieldOf (drop at text)) < length (drop at text) → isColumn (fieldOf (drop at text)) ≡ false
       bad l = rw (lt-ltb (length (fieldOf (drop at text))) (length (drop at text)) l) at n
 
-      go : Stop (drop at text) → marked at p t (drop at text) ≡ noHeader
-      go (at-tab r) = marked-no at p t (drop at text) (rw (r .parts, bad (r .less)))
-      go (at-newline r) = marked-no at p t (drop at text) (rw (r .parts, bad (r .less)))
-      go (at-end r) = marked-unended at p t (drop at text) (r .ends)
+      go : Stop (drop at text) → markable p t (drop at text) ≡ false
+      go (at-tab r) = markable-no p t (drop at text) (rw (r .parts, bad (r .less)))
+      go (at-newline r) = markable-no p t (drop at text) (rw (r .parts, bad (r .less)))
+      go (at-end r) = rw (r .ends)
 
   -- a column, which ends at e and is counted
-  module _ (k : Column text at) (e : ℕ) (d : e ≡ at + length (fieldOf (drop at text))) (p′ t′ : ℕ) (tally : Tally (fieldOf (drop at text)) p t p′ t′) where
+  module _ (k : Column text at) (e : ℕ) (d : e ≡ at + length (fieldOf (drop at text))) (c p′ t′ : ℕ) (m : Counted (fieldOf (drop at text)) p t c p′ t′) where
     inText : e < length text
     inText = omega (arith, k .ended)
 
-    pub marks-last : getD text e 0 ≡ 10 → marked at p t (drop at text) ≡ record { end = e + 1; «plot_columns» = p′; «treatment_columns» = t′ }
-    unfolding all countKind
-    marks-last b =
-        let r = newline-here text at e d inText b in
-        let c = tally [] in
-        let a : all isColumn (fields (upTo 10 (drop at text))) ≡ true = rw (r .parts, k .is) in
-        let x : at + suc (length (upTo 10 (drop at text))) ≡ e + 1 = omega (arith, r .size) in
-        let y : p + countKind 112 (fields (upTo 10 (drop at text))) ≡ p′ = rw (r .parts) (omega arith) in
-        let z : t + countKind 116 (fields (upTo 10 (drop at text))) ≡ t′ = rw (r .parts) (omega arith) in
-        marked-yes at p t (drop at text) (r .ends) a ∙ rw (x, y, z)
-
-    pub marks-on : (getD text e 0 ≡ 10 → ⊥) → marked at p t (drop at text) ≡ marked (e + 1) p′ t′ (drop (e + 1) text)
-    unfolding all
-    marks-on b =
-        by-cases (has 10 (drop (e + 1) text))
-        (λ h. by-cases (all isColumn (fields (upTo 10 (drop (e + 1) text)))) (λ a. same h a)
-        (λ a. marked-no at p t (drop at text) (rw (parts, k .is) a) ∙ sym (marked-no (e + 1) p′ t′ (drop (e + 1) text) a)))
-        (λ h. marked-unended at p t (drop at text) (ends ∙ h) ∙ sym (marked-unended (e + 1) p′ t′ (drop (e + 1) text) h))
+    -- one too many of its kind
+    pub marks-over : (6 < p′) ⊎ (6 < t′) → marked at p t cs (drop at text) ≡ noHeader
+    unfolding markable
+    marks-over h =
+        marked-no at p t cs (drop at text)
+        (by-cases (eqb (getD text e 0) 10)
+        (λ b. over [] (line-last text at e d inText (eqb-true _ _ b)))
+        (λ b. over (header (drop (e + 1) text)) (line-on text at e d inText (eqb-false _ _ b))))
       where
-        r : AtTab (drop at text)
-        r = tab-here text at e d inText b
+        over : (F : List Field) → header (drop at text) ≡ fieldOf (drop at text) ∷ F → markable p t (drop at text) ≡ false
+        over F q =
+            ⊎-elim
+            (λ l. rw (q, m .plots F, lt-leb (p′ + countKind 112 F) 6 (omega arith), and-false (has 10 (drop at text) && all isColumn (fieldOf (drop at text) ∷ F))))
+            (λ l. rw (q, m .treatments F, lt-leb (t′ + countKind 116 F) 6 (omega arith)) (and-false (has 10 (drop at text) && all isColumn (fieldOf (drop at text) ∷ F) && leb (p + countKind 112 (fieldOf (drop at text) ∷ F)) 6)))
+            h
 
-        parts : fields (upTo 10 (drop at text)) ≡ fieldOf (drop at text) ∷ fields (upTo 10 (drop (e + 1) text))
-        parts = rw (field-next text at e d) at (r .parts)
+    pub marks-last : getD text e 0 ≡ 10 → p′ ≤ 6 → t′ ≤ 6 → marked at p t cs (drop at text) ≡ record { end = e + 1; «plot_columns» = p′; «treatment_columns» = t′; columns = padded (cs ++ c ∷ []) }
+    unfolding markable all countKind columnsAfter
+    marks-last b hp ht =
+        let r = newline-here text at e d inText b in
+        let q = line-last text at e d inText b in
+        let y : p + countKind 112 (header (drop at text)) ≡ p′ = rw q (m .plots [] ∙ add-zero p′) in
+        let z : t + countKind 116 (header (drop at text)) ≡ t′ = rw q (m .treatments [] ∙ add-zero t′) in
+        let x : at + suc (length (upTo 10 (drop at text))) ≡ e + 1 = omega (arith, r .size) in
+        let w : columnsAfter p t (header (drop at text)) ≡ c ∷ [] = rw q (m .takes []) in
+        let a : all isColumn (header (drop at text)) ≡ true = rw (q, k .is) in
+        let good : markable p t (drop at text) ≡ true = rw (r .ends, a, y, z, le-leb p′ 6 hp, le-leb t′ 6 ht) in
+        marked-yes at p t cs (drop at text) good ∙ rw (x, y, z, w)
 
+    pub marks-on : (getD text e 0 ≡ 10 → ⊥) → marked at p t cs (drop at text) ≡ marked (e + 1) p′ t′ (cs ++ c ∷ []) (drop (e + 1) text)
+    unfolding markable all
+    marks-on b =
+        let r = tab-here text at e d inText b in
+        let q = line-on text at e d inText b in
+        let F = header (drop (e + 1) text) in
+        let s = rw (field-next text at e d) at (r .size) in
+        let y : p + countKind 112 (header (drop at text)) ≡ p′ + countKind 112 F = rw q (m .plots F) in
+        let z : t + countKind 116 (header (drop at text)) ≡ t′ + countKind 116 F = rw q (m .treatments F) in
+        let x : at + suc (length (upTo 10 (drop at text))) ≡ e + 1 + suc (length (upTo 10 (drop (e + 1) text))) = omega arith in
+        let w : cs ++ columnsAfter p t (header (drop at text)) ≡ (cs ++ c ∷ []) ++ columnsAfter p′ t′ F = rw (q, m .takes F) (sym (append-snoc cs c (columnsAfter p′ t′ F))) in
+        let a : all isColumn (header (drop at text)) ≡ all isColumn F = rw (q, k .is) in
+        let same : markable p t (drop at text) ≡ markable p′ t′ (drop (e + 1) text) = rw (ends, a, y, z) in
+        by-cases (markable p′ t′ (drop (e + 1) text))
+        (λ g. marked-yes at p t cs (drop at text) (same ∙ g) ∙ rw (x, y, z, w) (sym (marked-yes (e + 1) p′ t′ (cs ++ c ∷ []) (drop (e + 1) text) g)))
+        (λ g. marked-no at p t cs (drop at text) (same ∙ g) ∙ sym (marked-no (e + 1) p′ t′ (cs ++ c ∷ []) (drop (e + 1) text) g))
+      where
         ends : has 10 (drop at text) ≡ has 10 (drop (e + 1) text)
-        ends = rw (field-next text at e d) at (r .ends)
-
-        same : has 10 (drop (e + 1) text) ≡ true → all isColumn (fields (upTo 10 (drop (e + 1) text))) ≡ true → marked at p t (drop at text) ≡ marked (e + 1) p′ t′ (drop (e + 1) text)
-        same h a =
-            let c = tally (fields (upTo 10 (drop (e + 1) text))) in
-            let s = rw (field-next text at e d) at (r .size) in
-            let x : at + suc (length (upTo 10 (drop at text))) ≡ e + 1 + suc (length (upTo 10 (drop (e + 1) text))) = omega arith in
-            let y : p + countKind 112 (fields (upTo 10 (drop at text))) ≡ p′ + countKind 112 (fields (upTo 10 (drop (e + 1) text))) = rw parts (c .0) in
-            let z : t + countKind 116 (fields (upTo 10 (drop at text))) ≡ t′ + countKind 116 (fields (upTo 10 (drop (e + 1) text))) = rw parts (c .1) in
-            marked-yes at p t (drop at text) (ends ∙ h) (rw (parts, k .is) a)
-            ∙ rw (x, y, z) (sym (marked-yes (e + 1) p′ t′ (drop (e + 1) text) h a))
+        ends = rw (field-next text at e d) at (tab-here text at e d inText b .ends)
 
 -- ---- names
 
@@ -181,12 +208,10 @@ module _ (text : List ℕ) (at e : ℕ) (d : e ≡ at + length (fieldOf (drop at
   room = omega (arith, column-long (fieldOf (drop at text)) column-here)
 
   header-last : getD text e 0 ≡ 10 → header (drop at text) ≡ slice at e text ∷ []
-  unfolding header
-  header-last b = rw (newline-here text at e d (inside text at e d h) b .parts, field-part text at e d)
+  header-last b = rw (line-last text at e d (inside text at e d h) b, field-part text at e d)
 
   header-on : (getD text e 0 ≡ 10 → ⊥) → header (drop at text) ≡ slice at e text ∷ header (drop (e + 1) text)
-  unfolding header
-  header-on b = rw (tab-here text at e d (inside text at e d h) b .parts, field-next text at e d, field-part text at e d)
+  header-on b = rw (line-on text at e d (inside text at e d h) b, field-part text at e d)
 
   pub rest-ended : (getD text e 0 ≡ 10 → ⊥) → has 10 (drop (e + 1) text) ≡ true
   rest-ended b = sym (rw (field-next text at e d) at (tab-here text at e d (inside text at e d h) b .ends)) ∙ h
@@ -221,101 +246,42 @@ module _ (text : List ℕ) (at e : ℕ) (d : e ≡ at + length (fieldOf (drop at
   unfolding namesDiffer
   differ-on b n = rw (header-on b, n)
 
--- ---- the columns of the level table
+-- ---- the columns in an array: the first n cells, and 0 past them
 
--- s written over the start of b, i elements of it
-abbrev pub filled : List ℕ → List ℕ → ℕ → List ℕ
-filled b s i = take i s ++ drop i b
+pub record Filled (r : List ℕ) (n : ℕ) : Type 0 where
+  pub size : length (take n r) ≡ n
+  pub rest : r ≡ padded (take n r)
 
-pub filled-step : (b s : List ℕ) (i : ℕ) → i < length s → i < length b → set (filled b s i) i (getD s i 0) ≡ filled b s (i + 1)
-filled-step b s i h k =
-    ap (λ (r : List ℕ). set (take i s ++ r) i (getD s i 0)) (drop-cons b i 0 k)
-    ∙ set-at (take i s) (getD b i 0) (drop (suc i) b) (getD s i 0) i (length-take-le i s (le-of-lt h))
-    ∙ rw (add-one, take-suc s i 0) (sym (append-snoc (take i s) (getD s i 0) (drop (suc i) b)))
+pub filled-none : Filled (replicate 12 0) 0
+filled-none = record { size = refl; rest = refl }
 
-pub filled-all : (b s : List ℕ) (n : ℕ) → length s ≡ n → take n (filled b s n) ≡ s
-filled-all b s n e =
-    let h : length s ≤ n = omega arith in
-    let l : length (take n s) ≡ n = rw (take-all n s h) e in
-    take-at (take n s) (drop n b) n l ∙ take-all n s h
+padded-set : (cs : List ℕ) (n c : ℕ) → length cs ≡ n → n < 12 → set (padded cs) n c ≡ padded (cs ++ c ∷ [])
+padded-set cs n c l h =
+    let a : 12 - length cs ≡ suc (11 - n) = omega arith in
+    let b : 12 - length (cs ++ c ∷ []) ≡ 11 - n = rw length-append (omega arith) in
+    rw (a, b) (set-at cs 0 (replicate (11 - n) 0) c n l ∙ sym (append-snoc cs c (replicate (11 - n) 0)))
 
--- the field f takes column c, and p′ and t′ are the counts after it
-abbrev pub Takes : Field → ℕ → ℕ → ℕ → ℕ → ℕ → Type 0
-Takes f p t c p′ t′ = (F : List Field) → columnsAfter p t (f ∷ F) ≡ c ∷ columnsAfter p′ t′ F
+module _ (r : List ℕ) (n c : ℕ) (f : Filled r n) (h : n < 12) where
+  pub filled-set : set r n c ≡ padded (take n r ++ c ∷ [])
+  filled-set = ap (λ (r : List ℕ). set r n c) (f .rest) ∙ padded-set (take n r) n c (f .size) h
 
-takes-plot : (f : Field) (p t : ℕ) → isKind 112 f ≡ true → Takes f p t p (p + 1) t
-unfolding columnsAfter
-takes-plot f p t e F = rw (e, add-one, columnsAfter)
+  longer : length (take n r ++ c ∷ []) ≡ n + 1
+  longer = length-append (take n r) (c ∷ []) ∙ ap (λ (k : ℕ). k + 1) (f .size)
 
-takes-treatment : (f : Field) (p t : ℕ) → isKind 112 f ≡ false → Takes f p t (6 + t) p (t + 1)
-unfolding columnsAfter
-takes-treatment f p t e F = rw (e, add-one, columnsAfter)
+  pub filled-take : take (n + 1) (set r n c) ≡ take n r ++ c ∷ []
+  filled-take = ap (take (n + 1)) filled-set ∙ take-at (take n r ++ c ∷ []) (replicate (12 - length (take n r ++ c ∷ [])) 0) (n + 1) longer
 
--- the first byte tells the kind, of an empty field too
-kind-first : (text : List ℕ) (at : ℕ) → at < length text → isKind 112 (fieldOf (drop at text)) ≡ eqb (getD text at 0) 112
-unfolding isKind
-kind-first text at h =
-    by-cases (eqb (getD text at 0) 9)
-    (λ e. rw (field-tab text at h (eqb-true _ _ e), eqb-true (getD text at 0) 9 e))
-    (λ e. by-cases (eqb (getD text at 0) 10)
-    (λ k. rw (field-newline text at h (eqb-true _ _ k), eqb-true (getD text at 0) 10 k))
-    (λ k. rw (field-on text at h (eqb-false _ _ e) (eqb-false _ _ k))))
+  pub filled-on : Filled (set r n c) (n + 1)
+  filled-on = record { size = ap length filled-take ∙ longer; rest = filled-set ∙ ap padded (sym filled-take) }
 
-module _ (text : List ℕ) (at p t : ℕ) (h : at < length text) where
-  pub plot-here : getD text at 0 ≡ 112 → Takes (fieldOf (drop at text)) p t p (p + 1) t
-  plot-here b = takes-plot (fieldOf (drop at text)) p t (kind-first text at h ∙ eq-eqb _ _ b)
-
-  pub treatment-here : (getD text at 0 ≡ 112 → ⊥) → Takes (fieldOf (drop at text)) p t (6 + t) p (t + 1)
-  treatment-here b = takes-treatment (fieldOf (drop at text)) p t (kind-first text at h ∙ ne-eqb _ _ b)
-
--- what is left of the first line: m fields, which take the columns L
-abbrev pub Heads : ℕ → List ℕ → ℕ → ℕ → List ℕ → Type 0
-Heads zero xs p t L = L ≡ []
-Heads (suc m) xs p t L = (has 10 xs ≡ true) × (length (header xs) ≡ suc m) × (L ≡ columnsAfter p t (header xs))
-
-nil-columns : columnsAfter 0 0 [] ≡ []
-unfolding columnsAfter
-nil-columns = refl
-
-pub heads-start : (n : ℕ) (text : List ℕ) → has 10 text ≡ true → n ≡ length (header text) → Heads n text 0 0 (columnsAfter 0 0 (header text))
-heads-start zero text h e = none (header text) (sym e)
-  where
-    none : (fs : List Field) → length fs ≡ 0 → columnsAfter 0 0 fs ≡ []
-    none [] z = nil-columns
-    none (f ∷ fs) z = absurd (no z)
-      where
-        no : suc (length fs) ≡ 0 → ⊥
-        no z = omega arith
-heads-start (suc n) text h e = (h, sym e, refl)
-
-module _ (text : List ℕ) (at e p t c p′ t′ : ℕ) (d : e ≡ at + length (fieldOf (drop at text))) (k : Takes (fieldOf (drop at text)) p t c p′ t′) where
-  pub heads-turn : (m : ℕ) (L : List ℕ) → Heads (suc m) (drop at text) p t L → (getD L 0 0 ≡ c) × Heads m (drop (e + 1) text) p′ t′ (drop 1 L)
-  unfolding header columnsAfter
-  heads-turn m L l = go m l (stop (drop at text))
-    where
-      go : (m : ℕ) → Heads (suc m) (drop at text) p t L → Stop (drop at text) → (getD L 0 0 ≡ c) × Heads m (drop (e + 1) text) p′ t′ (drop 1 L)
-      go zero l (at-newline r) =
-          let q : L ≡ c ∷ [] = l .2 ∙ rw (r .parts) (k []) in
-          (rw q, rw q)
-      go zero l (at-tab r) = absurd (two (fields-some (upTo 10 (drop (suc (length (fieldOf (drop at text)))) (drop at text)))))
-        where
-          two : 1 ≤ length (fields (upTo 10 (drop (suc (length (fieldOf (drop at text)))) (drop at text)))) → ⊥
-          two s = omega (arith, rw (r .parts) at (l .1))
-      go zero l (at-end r) = clash (l .0) (r .ends)
-      go (suc m) l (at-tab r) =
-          let F = fields (upTo 10 (drop (e + 1) text)) in
-          let parts = rw (field-next text at e d) at (r .parts) in
-          let q : L ≡ c ∷ columnsAfter p′ t′ F = l .2 ∙ rw parts (k F) in
-          let s : suc (length F) ≡ suc (suc m) = rw parts at (l .1) in
-          (rw q, (sym (rw (field-next text at e d) at (r .ends)) ∙ l .0, omega arith, rw q))
-      go (suc m) l (at-newline r) = absurd (no (rw (r .parts) at (l .1)))
-        where
-          no : _≡_ {A = ℕ} 1 (suc (suc m)) → ⊥
-          no z = omega arith
-      go (suc m) l (at-end r) = clash (l .0) (r .ends)
-
-pub heads-inside : (m : ℕ) (text : List ℕ) (at p t : ℕ) (L : List ℕ) → Heads (suc m) (drop at text) p t L → at + length (fieldOf (drop at text)) < length text
-heads-inside m text at p t L l = inside text at (at + length (fieldOf (drop at text))) refl (l .0)
+-- a field is counted, and its column stored
+pub record Step (f : Field) (p t : ℕ) (r : List ℕ) (p′ t′ : ℕ) (r′ : List ℕ) : Type 0 where
+  pub column : ℕ
+  pub counted : Counted f p t column p′ t′
+  pub stored : r′ ≡ set r (p + t) column
+  pub one : p′ + t′ ≡ p + t + 1
+  pub few-plots : p′ ≤ 6
+  pub few-treatments : t′ ≤ 6
 
 -- ---- question 3
 
@@ -323,69 +289,63 @@ pub headed-no : (text : List ℕ) → question3 text ≡ false → headed text �
 unfolding headed
 headed-no text e = rw (e, headed)
 
-pub headed-yes : (text : List ℕ) → question3 text ≡ true
-    → headed text ≡ record { end = suc (length (upTo 10 text)); «plot_columns» = countKind 112 (header text); «treatment_columns» = countKind 116 (header text) }
+pub headed-yes : (text : List ℕ) → question3 text ≡ true → headed text ≡ firstLine text
 unfolding headed
 headed-yes text e = rw (e, headed)
 
-header-some : (text : List ℕ) → 1 ≤ length (header text)
-unfolding header
-header-some text = fields-some (upTo 10 text)
+-- what a line of columns tells
+pub record Marks (text : List ℕ) : Type 0 where
+  pub ended : has 10 text ≡ true
+  pub columns : all isColumn (header text) ≡ true
+  pub plots : countKind 112 (header text) ≤ 6
+  pub treatments : countKind 116 (header text) ≤ 6
 
 module _ (text : List ℕ) where
-  pub refuse-marks : has 10 text && all isColumn (header text) ≡ false → question3 text ≡ false
-  unfolding question3 isHeader
-  refuse-marks e =
-      by-cases (has 10 text)
-      (λ h. let a = rw h at e in
-      rw (h, a, and-false (within 1 12 (length (header text)))))
-      (λ h. rw h)
+  pub told : markable 0 0 text ≡ true → Marks text
+  unfolding markable
+  told e =
+      let p : Bool = leb (0 + countKind 112 (header text)) 6 in
+      let t : Bool = leb (0 + countKind 116 (header text)) 6 in
+      let e1 = and-left (has 10 text && all isColumn (header text) && p) t e in
+      let e2 = and-left (has 10 text && all isColumn (header text)) p e1 in
+      let l = leb-true (0 + countKind 112 (header text)) 6 (and-right (has 10 text && all isColumn (header text)) p e1) in
+      let m = leb-true (0 + countKind 116 (header text)) 6 (and-right (has 10 text && all isColumn (header text) && p) t e) in
+      record {
+        ended = and-left (has 10 text) (all isColumn (header text)) e2;
+        columns = and-right (has 10 text) (all isColumn (header text)) e2;
+        plots = omega arith;
+        treatments = omega arith;
+      }
 
-  pub refuse-plots : 6 < countKind 112 (header text) → question3 text ≡ false
-  unfolding question3 isHeader
-  refuse-plots h =
-      rw (lt-leb (countKind 112 (header text)) 6 h, and-false (within 1 12 (length (header text)) && all isColumn (header text))) (and-false (has 10 text))
-
-  pub refuse-treatments : 6 < countKind 116 (header text) → question3 text ≡ false
-  unfolding question3 isHeader
-  refuse-treatments h =
-      rw (lt-leb (countKind 116 (header text)) 6 h, and-false (within 1 12 (length (header text)) && all isColumn (header text) && leb (countKind 112 (header text)) 6)) (and-false (has 10 text))
+  pub refuse-marks : markable 0 0 text ≡ false → question3 text ≡ false
+  unfolding markable
+  refuse-marks e = by-cases (question3 text) (λ q. clash (good (header-form text q)) e) (λ q. q)
+    where
+      good : HeaderForm text → markable 0 0 text ≡ true
+      good f = rw (f .ended, f .columns, le-leb (0 + countKind 112 (header text)) 6 (omega (arith, f .plots)), le-leb (0 + countKind 116 (header text)) 6 (omega (arith, f .treatments)))
 
   pub refuse-names : namesDiffer (header text) ≡ false → question3 text ≡ false
-  unfolding question3 isHeader
-  refuse-names e =
-      rw (e, and-false (within 1 12 (length (header text)) && all isColumn (header text) && leb (countKind 112 (header text)) 6 && leb (countKind 116 (header text)) 6)) (and-false (has 10 text))
+  refuse-names e = by-cases (question3 text) (λ q. clash (header-form text q .names) e) (λ q. q)
 
-  pub accept : has 10 text ≡ true → all isColumn (header text) ≡ true → countKind 112 (header text) ≤ 6 → countKind 116 (header text) ≤ 6 → namesDiffer (header text) ≡ true → question3 text ≡ true
-  unfolding question3 isHeader
-  accept h a p t n =
-      let s = kinds-all (header text) a in
-      rw (h, le-leb 1 (length (header text)) some, le-leb (length (header text)) 12 (omega arith), a, le-leb (countKind 112 (header text)) 6 p, le-leb (countKind 116 (header text)) 6 t, n)
-    where
-      some : 1 ≤ length (header text)
-      some = header-some text
+  pub accept : markable 0 0 text ≡ true → namesDiffer (header text) ≡ true → question3 text ≡ true
+  unfolding question3 isHeader header
+  accept e n =
+      let m = told e in
+      let s = kinds-all (header text) (m .columns) in
+      rw (m .ended, le-leb 1 (length (header text)) (fields-some (upTo 10 text)), le-leb (length (header text)) 12 (omega (arith, m .plots, m .treatments)), m .columns, le-leb (countKind 112 (header text)) 6 (m .plots), le-leb (countKind 116 (header text)) 6 (m .treatments), n)
 
-  -- what the walk over the marks found
-  pub record Found (h : Header) : Type 0 where
-    pub ended : has 10 text ≡ true
-    pub columns : all isColumn (header text) ≡ true
-    pub is : h ≡ record { end = suc (length (upTo 10 text)); «plot_columns» = countKind 112 (header text); «treatment_columns» = countKind 116 (header text) }
+  -- what the walk over the fields found
+  module _ (h : Header) (e : h ≡ marked 0 0 0 [] text) where
+    pub found : (h .end ≡ 0 → ⊥) → markable 0 0 text ≡ true
+    found n = by-cases (markable 0 0 text) (λ a. a) (λ a. absurd (n (ap (λ (h : Header). h .end) (e ∙ marked-no 0 0 0 [] text a))))
 
-  pub found : (h : Header) → h ≡ marked 0 0 0 text → (h .end ≡ 0 → ⊥) → Found h
-  unfolding marked
-  found h e n =
-      by-cases (has 10 text && all isColumn (header text))
-      (λ a. let x = and-left (has 10 text) (all isColumn (header text)) a in
-      let y = and-right (has 10 text) (all isColumn (header text)) a in
-      record { ended = x; columns = y; is = e ∙ rw (x, y, marked, zero-add, zero-add, zero-add) })
-      (λ a. absurd (n (ap (λ (h : Header). h .end) e ∙ rw (a, marked))))
+    pub found-line : markable 0 0 text ≡ true → h ≡ firstLine text
+    unfolding marked firstLine
+    found-line a = e ∙ rw (a, marked, zero-add, zero-add, zero-add)
 
-  pub not-found : (h : Header) → h ≡ marked 0 0 0 text → h .end ≡ 0 → has 10 text && all isColumn (header text) ≡ false
-  unfolding marked
-  not-found h e z =
-      by-cases (has 10 text && all isColumn (header text))
-      (λ a. absurd (no (sym (ap (λ (h : Header). h .end) e ∙ rw (a, marked)) ∙ z)))
-      (λ a. a)
-    where
-      no : 0 + suc (length (upTo 10 text)) ≡ 0 → ⊥
-      no z = omega arith
+    pub not-found : h .end ≡ 0 → markable 0 0 text ≡ false
+    unfolding firstLine
+    not-found z = by-cases (markable 0 0 text) (λ a. absurd (no (sym (ap (λ (h : Header). h .end) (found-line a)) ∙ z))) (λ a. a)
+      where
+        no : suc (length (upTo 10 text)) ≡ 0 → ⊥
+        no z = omega arith

@@ -6,18 +6,17 @@ use mathlib.Core.List.{List, [], _∷_}
 use Prim.Native.Nat.{ℕ, zero, suc, _+_, _*_, _≤_, _<_}
 use native.Mathlib.Omega.{arith}
 use native.Mathlib.Nat.{not-suc-le-zero, le-of-suc-le-suc}
-use native.Mathlib.Numerals.{add-one}
 use lib.Dec.{ltb}
-use lib.ListN.{length, getD, drop, set, length-drop}
+use lib.ListN.{length, getD, take, drop, set, length-drop}
 use lib.Seq.{drop-drop}
 use borrow.Author.Tests.{ltb-true, lt-ltb, le-ltb}
-use Rattle.rules.specs.Sheet.{Field, Line, upTo, has, fields, lines, all, decimal, withPlot, withPlots, isPlotLine}
-use Rattle.rules.proofs.Sheet.{and-left, and-right}
+use Rattle.rules.specs.Sheet.{Line, upTo, has, fields, lines, all, decimal, withPlot, withPlots, isPlotLine}
+use Rattle.rules.proofs.Sheet.{and-false, and-left, and-right}
 use Rattle.rules.proofs.Members.{clash}
 use Rattle.rules.proofs.Numbering.{by-cases}
 use Rattle.sheet.specs.Walk.{fieldOf, stopBefore, levelThere, levelEnd, rowThere, isPlace, storedRow, storedAt, storedFrom}
-use Rattle.sheet.proofs.Stops.{AtTab, AtNewline, Stop, at-tab, at-newline, at-end, stop}
-use Rattle.sheet.proofs.RowLaws.{row-turn, row-last, not-there, lines-turn, lines-none}
+use Rattle.sheet.proofs.Stops.{AtTab, AtNewline, Stop, at-tab, at-newline, at-end, stop, past-drop, lines-cons}
+use Rattle.sheet.proofs.RowLaws.{row-turn, row-last, not-there, lines-none}
 
 -- ---- a level that is there
 
@@ -37,52 +36,21 @@ there-newline xs e = go (stop xs)
     go (at-newline r) = r
     go (at-end r) = clash e (not-there 10 0 xs (λ h b. omega (arith, r .all-of-it)))
 
--- ---- what is left of a line: m fields, to be stored in the columns cs, whole work W
-
-abbrev pub Left : ℕ → List ℕ → ℕ → List ℕ → List ℕ → List ℕ → Type 0
-Left zero cs u xs levels W = levels ≡ W
-Left (suc m) cs u xs levels W = (rowThere (suc m) xs ≡ true) × (withPlot cs u (fields (upTo 10 xs)) levels ≡ W)
-
-pub left-start : (n : ℕ) (cs : List ℕ) (u : ℕ) (xs : List ℕ) (levels : List ℕ) → 1 ≤ n → rowThere n xs ≡ true
-    → Left n cs u xs levels (withPlot cs u (fields (upTo 10 xs)) levels)
-left-start zero cs u xs levels h e = absurd (not-suc-le-zero h)
-left-start (suc n) cs u xs levels h e = (e, refl)
-
-no-fields : (cs : List ℕ) (u : ℕ) (levels : List ℕ) → withPlot cs u [] levels ≡ levels
-unfolding withPlot
-no-fields [] u levels = refl
-no-fields (c ∷ cs) u levels = refl
-
-one-field : (c : ℕ) (cs : List ℕ) (u : ℕ) (f : Field) (fs : List Field) (levels : List ℕ) → withPlot (c ∷ cs) u (f ∷ fs) levels ≡ withPlot cs u fs (set levels (240 * c + u) (decimal f))
-unfolding withPlot
-one-field c cs u f fs levels = refl
-
-module _ (c : ℕ) (cs : List ℕ) (u : ℕ) (text : List ℕ) (at r : ℕ) (levels W : List ℕ) (d : r ≡ at + suc (length (fieldOf (drop at text)))) where
-  next : drop (suc (length (fieldOf (drop at text)))) (drop at text) ≡ drop r text
-  next = drop-drop (suc (length (fieldOf (drop at text)))) at text ∙ ap (λ (k : ℕ). drop k text) (sym d)
-
-  -- a turn: one field is stored
-  pub left-turn : (m : ℕ) → Left (suc m) (c ∷ cs) u (drop at text) levels W
-      → Left m cs u (drop r text) (set levels (240 * c + u) (decimal (fieldOf (drop at text)))) W
-  left-turn zero l =
-      let h : levelThere 10 (drop at text) ≡ true = sym (row-last (drop at text)) ∙ l .0 in
-      let w = rw (there-newline (drop at text) h .parts) at (l .1) in
-      sym (no-fields cs u (set levels (240 * c + u) (decimal (fieldOf (drop at text)))))
-      ∙ sym (one-field c cs u (fieldOf (drop at text)) [] levels) ∙ w
-  left-turn (suc m) l =
-      let both : levelThere 9 (drop at text) && rowThere (suc m) (drop (suc (length (fieldOf (drop at text)))) (drop at text)) ≡ true = sym (row-turn m (drop at text)) ∙ l .0 in
-      let h : levelThere 9 (drop at text) ≡ true = and-left (levelThere 9 (drop at text)) _ both in
-      let there = and-right (levelThere 9 (drop at text)) (rowThere (suc m) (drop (suc (length (fieldOf (drop at text)))) (drop at text))) both in
-      let w = rw (there-tab (drop at text) h .parts, next) at (l .1) in
-      (rw next at there, sym (one-field c cs u (fieldOf (drop at text)) (fields (upTo 10 (drop r text))) levels) ∙ w)
-
 -- ---- what is stored, whether or not the lines have the form
 
 -- no column is left
-pub stored-none : (cs : List ℕ) (u : ℕ) (xs levels : List ℕ) → length cs ≡ 0 → storedRow cs u xs levels ≡ levels
+no-column : (u : ℕ) (xs levels : List ℕ) → storedRow [] u xs levels ≡ levels
 unfolding storedRow
-stored-none [] u xs levels e = refl
+no-column u xs levels = refl
+
+pub stored-none : (cs : List ℕ) (u : ℕ) (xs levels : List ℕ) → length cs ≡ 0 → storedRow cs u xs levels ≡ levels
+stored-none [] u xs levels e = no-column u xs levels
 stored-none (c ∷ cs) u xs levels e = absurd (omega arith)
+
+one-column : (c : ℕ) (cs : List ℕ) (u : ℕ) (xs levels : List ℕ) → levelThere (stopBefore (length cs)) xs ≡ true
+    → storedRow (c ∷ cs) u xs levels ≡ storedRow cs u (drop (suc (length (fieldOf xs))) xs) (set levels (240 * c + u) (decimal (fieldOf xs)))
+unfolding storedRow
+one-column c cs u xs levels e = rw (e, storedRow)
 
 module _ (c : ℕ) (cs : List ℕ) (u : ℕ) (text : List ℕ) (at : ℕ) (levels : List ℕ) (m : ℕ) (l : length cs ≡ m) where
   -- the field is not there: nothing more is stored
@@ -96,9 +64,8 @@ module _ (c : ℕ) (cs : List ℕ) (u : ℕ) (text : List ℕ) (at : ℕ) (level
   -- it is there, and stored
   pub stored-on : levelThere (stopBefore m) (drop at text) ≡ true → (r : ℕ) → r ≡ at + suc (length (fieldOf (drop at text)))
       → storedRow (c ∷ cs) u (drop at text) levels ≡ storedRow cs u (drop r text) (set levels (240 * c + u) (decimal (fieldOf (drop at text))))
-  unfolding storedRow
   stored-on e r q =
-      (rw (l, e, storedRow))
+      one-column c cs u (drop at text) levels (rw l e)
       ∙ ap (λ (xs : List ℕ). storedRow cs u xs (set levels (240 * c + u) (decimal (fieldOf (drop at text))))) (drop-drop (suc (length (fieldOf (drop at text)))) at text ∙ ap (λ (k : ℕ). drop k text) (sym q))
 
 -- a plot, and a line past the last plot
@@ -143,48 +110,75 @@ module _ (cs : List ℕ) (n u : ℕ) where
     pub from-off : (k : ℕ) → at < length text → rowThere n (drop at text) ≡ false → storedFrom (suc k) cs n u (drop at text) levels ≡ storedAt cs u (drop at text) levels
     from-off k h e = last-one k (drop at text) levels (omega (arith, length-drop at text)) e
 
--- a column of the level table
+-- ---- columns of the level table
+
 pub place-at : (cs : List ℕ) (i : ℕ) → all isPlace cs ≡ true → i < length cs → getD cs i 0 < 12
 unfolding all
 place-at [] i e h = absurd (not-suc-le-zero h)
 place-at (c ∷ cs) zero e h = ltb-true c 12 (and-left (ltb c 12) (all isPlace cs) e)
 place-at (c ∷ cs) (suc i) e h = place-at cs i (and-right (ltb c 12) (all isPlace cs) e) (le-of-suc-le-suc h)
 
--- ---- all lines
+-- one more of them is one, or is none
+pub places-on : (cs : List ℕ) (i : ℕ) → all isPlace (take i cs) ≡ true → getD cs i 0 < 12 → all isPlace (take (suc i) cs) ≡ true
+unfolding all
+places-on [] zero e h = e
+places-on [] (suc i) e h = e
+places-on (c ∷ cs) zero e h = rw (lt-ltb c 12 h)
+places-on (c ∷ cs) (suc i) e h = rw (and-left (ltb c 12) (all isPlace (take i cs)) e) (places-on cs i (and-right (ltb c 12) (all isPlace (take i cs)) e) h)
 
-no-lines : (cs : List ℕ) (u : ℕ) (levels : List ℕ) → withPlots cs u [] levels ≡ levels
-unfolding withPlots
-no-lines cs u levels = refl
+pub places-off : (cs : List ℕ) (n i : ℕ) → i < n → 12 ≤ getD cs i 0 → all isPlace (take n cs) ≡ false
+unfolding all
+places-off cs zero i l h = absurd (not-suc-le-zero l)
+places-off [] (suc n) i l h = absurd (not-suc-le-zero h)
+places-off (c ∷ cs) (suc n) zero l h = rw (le-ltb c 12 h)
+places-off (c ∷ cs) (suc n) (suc i) l h = rw (places-off cs n i (le-of-suc-le-suc l) h, and-false (ltb c 12))
 
--- what is left: lines from `at` on, to be stored from plot u on
-pub record More (cs : List ℕ) (n u plots : ℕ) (text : List ℕ) (at : ℕ) (levels W : List ℕ) : Type 0 where
-  pub counted : u + length (lines (drop at text)) ≡ plots
-  pub form : all (isPlotLine n) (lines (drop at text)) ≡ true
-  pub work : withPlots cs u (lines (drop at text)) levels ≡ W
+-- ---- what is stored of lines that have the form
 
-module _ (cs : List ℕ) (n u plots : ℕ) (text : List ℕ) (at : ℕ) (levels W : List ℕ) (m : More cs n u plots text at levels W) where
-  pub more-none : length text ≤ at → levels ≡ W
-  more-none h = sym (no-lines cs u levels) ∙ (rw (lines-none text at h) at (m .work))
+-- the levels of one plot
+row-stored : (cs : List ℕ) (u : ℕ) (xs levels : List ℕ) → 1 ≤ length cs → rowThere (length cs) xs ≡ true → storedRow cs u xs levels ≡ withPlot cs u (fields (upTo 10 xs)) levels
+unfolding withPlot
+row-stored [] u xs levels h e = absurd (not-suc-le-zero h)
+row-stored (c ∷ []) u xs levels h e =
+    let l : levelThere 10 xs ≡ true = sym (row-last xs) ∙ e in
+    one-column c [] u xs levels l ∙ no-column u _ _ ∙ rw (there-newline xs l .parts)
+row-stored (c ∷ d ∷ cs) u xs levels h e =
+    let ys = drop (suc (length (fieldOf xs))) xs in
+    let both : levelThere 9 xs && rowThere (suc (length cs)) ys ≡ true = sym (row-turn (length cs) xs) ∙ e in
+    let l : levelThere 9 xs ≡ true = and-left (levelThere 9 xs) (rowThere (suc (length cs)) ys) both in
+    one-column c (d ∷ cs) u xs levels l
+    ∙ row-stored (d ∷ cs) u ys (set levels (240 * c + u) (decimal (fieldOf xs))) (omega arith) (and-right (levelThere 9 xs) (rowThere (suc (length cs)) ys) both)
+    ∙ rw (there-tab xs l .parts)
 
-  module _ (inside : at < length text) where
-    abbrev first : Line
-    first = record { bytes = upTo 10 (drop at text); ended = has 10 (drop at text) }
+-- the levels of all plots: the rules' table
+pub lines-stored : (k : ℕ) (cs : List ℕ) (n u : ℕ) (xs levels : List ℕ) → length xs < k → length cs ≡ n → 1 ≤ n → all (isPlotLine n) (lines xs) ≡ true → u + length (lines xs) ≤ 240
+    → storedFrom k cs n u xs levels ≡ withPlots cs u (lines xs) levels
+unfolding all isPlotLine rowThere withPlots
+lines-stored zero cs n u xs levels h l s a m = absurd (not-suc-le-zero h)
+lines-stored (suc k) cs n u [] levels h l s a m = no-more cs n u (suc k) [] levels refl ∙ rw (lines-none [] 0 (omega arith))
+lines-stored (suc k) cs n u (x ∷ xs) levels h l s a m =
+    one-more cs n u k (x ∷ xs) levels (omega arith) there
+    ∙ ap (storedFrom k cs n (suc u) ys) (stored-plot cs u (x ∷ xs) levels (omega (arith, count)) ∙ row-stored cs u (x ∷ xs) levels (omega arith) (rw l there))
+    ∙ lines-stored k cs n (suc u) ys (withPlot cs u (fields (upTo 10 (x ∷ xs))) levels) (omega (arith, length-drop (suc (length (upTo 10 (x ∷ xs)))) (x ∷ xs))) l s others (omega (arith, count))
+    ∙ next
+  where
+    ys : List ℕ
+    ys = drop (suc (length (upTo 10 (x ∷ xs)))) (x ∷ xs)
 
-    pub more-plot : u < plots
-    more-plot = let k = ap length (lines-turn text at inside) in omega (arith, m .counted)
+    first : Line
+    first = record { bytes = upTo 10 (x ∷ xs); ended = has 10 (x ∷ xs) }
 
-    pub more-form : rowThere n (drop at text) ≡ true
-    unfolding isPlotLine rowThere all
-    more-form = and-left (isPlotLine n first) _ (rw (lines-turn text at inside) at (m .form))
+    turn : lines (x ∷ xs) ≡ first ∷ lines ys
+    turn = lines-cons x xs ∙ ap (λ (r : List ℕ). first ∷ lines r) (past-drop (x ∷ xs))
 
-    pub more-turn : (r : ℕ) (next : List ℕ) → r ≡ at + suc (length (upTo 10 (drop at text))) → next ≡ withPlot cs u (fields (upTo 10 (drop at text))) levels
-        → More cs n (u + 1) plots text r next W
-    unfolding all withPlots
-    more-turn r next e w = record {
-      counted = let k = ap length turn in omega (arith, m .counted);
-      form = and-right (isPlotLine n first) (all (isPlotLine n) (lines (drop r text))) (rw turn at (m .form));
-      work = rw (w, add-one) (rw turn at (m .work));
-    }
-      where
-        turn : lines (drop at text) ≡ first ∷ lines (drop r text)
-        turn = rw e (lines-turn text at inside)
+    there : rowThere n (x ∷ xs) ≡ true
+    there = and-left (isPlotLine n first) (all (isPlotLine n) (lines ys)) (rw turn at a)
+
+    others : all (isPlotLine n) (lines ys) ≡ true
+    others = and-right (isPlotLine n first) (all (isPlotLine n) (lines ys)) (rw turn at a)
+
+    count : u + suc (length (lines ys)) ≤ 240
+    count = rw turn at m
+
+    next : withPlots cs (suc u) (lines ys) (withPlot cs u (fields (upTo 10 (x ∷ xs))) levels) ≡ withPlots cs u (lines (x ∷ xs)) levels
+    next = rw turn

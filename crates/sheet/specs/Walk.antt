@@ -6,7 +6,7 @@ use mathlib.Core.Path.{_≡_}
 use Prim.Native.Nat.{ℕ, zero, suc, _+_, _*_, _≤_}
 use lib.Dec.{eqb, ltb}
 use lib.ListN.{length, getD, drop, set}
-use Rattle.rules.specs.Sheet.{Field, tab, newline, all, upTo, has, fields, isColumn, isLevel, isRow, decimal, decimalFrom, plotMark, treatmentMark, header, question3}
+use Rattle.rules.specs.Sheet.{Field, tab, newline, all, upTo, has, fields, isColumn, isLevel, isRow, decimal, decimalFrom, plotMark, treatmentMark}
 use Rattle.rules.specs.Limits.{tableCells, mostFields, mostPlots}
 use Rattle.sheet.specs.declared.field.FieldLevel.{FieldLevel}
 
@@ -99,11 +99,4 @@ pub record Store (columns : List ℕ) (n cells : ℕ) : Type 0 where
   pub some : 1 ≤ n
   pub size : length columns ≡ n
   pub places : all isPlace columns ≡ true
-  pub room : tableCells ≤ cells
-
--- what writing asks: question 3 said yes, and the walk's place and count
-pub record Headed (text : List ℕ) (at n cells : ℕ) : Type 0 where
-  pub header-form : question3 text ≡ true
-  pub place : at ≡ suc (length (upTo newline text))
-  pub size : n ≡ length (header text)
   pub room : tableCells ≤ cells

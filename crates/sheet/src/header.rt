@@ -4,24 +4,27 @@ ghost use mathlib.Core.Path.{_≡_};
 ghost use mathlib.Core.Bool.{true};
 ghost use mathlib.Core.List.{[]};
 ghost use Prim.Native.Nat.{_+_, _<_, _≤_, min};
-ghost use lib.ListN.{length, getD, take, drop};
+ghost use lib.ListN.{length, getD, drop};
 ghost use lib.Seq.{slice};
-ghost use Rattle.rules.specs.Sheet.{newline, has, all, isColumn, isKind, columnNames, newName, namesDiffer, header, columnsAfter};
+ghost use Rattle.rules.specs.Sheet.{newline, has, all, isColumn, isKind, columnNames, newName, namesDiffer, header};
 ghost use Rattle.sheet.specs.Walk.{columnEnd};
-ghost use Rattle.sheet.specs.Answers.{noHeader, marked, headed};
+ghost use Rattle.sheet.specs.Answers.{noHeader, marked, headed, fitting};
 use limits::COLUMNS;
 use limits::FIELDS;
 
-// A column has 4 to 14 bytes: its mark, a colon and a name, and a byte follows.
+// A column has at least its mark, a colon and two bytes of a name.
 const LEAST_COLUMN: usize = 4;
 
+// A column has at most 14 bytes, and a byte follows.
 const PAST_COLUMN: usize = 15;
 
-// The first line of a sheet: where the next one starts, 0 if the line has not the form, and the columns of each kind.
+// The first line of a sheet: where the next one starts, 0 if the line has not the form, the columns of each kind, and the column of
+// the level table that each field takes, 0 past the fields.
 pub struct Header {
     pub end: usize,
     pub plot_columns: usize,
     pub treatment_columns: usize,
+    pub columns: [u8; FIELDS],
 }
 
 // Where bytes of a text stand: from `start` on, those before `end`.
@@ -39,14 +42,6 @@ pub fn read_header(text: &[u8]) -> Header
     if end == 0 {
         return refusal();
     }
-    let plot_columns = h.plot_columns;
-    if COLUMNS < plot_columns {
-        return refusal();
-    }
-    let treatment_columns = h.treatment_columns;
-    if COLUMNS < treatment_columns {
-        return refusal();
-    }
     if !names_differ(text) {
         return refusal();
     }
@@ -61,6 +56,7 @@ fn refusal() -> Header
         end: 0,
         plot_columns: 0,
         treatment_columns: 0,
+        columns: [0u8; FIELDS],
     }
 }
 
@@ -103,21 +99,30 @@ fn column_end(text: &[u8], start: usize) -> usize
     0
 }
 
-// The first line as far as each field by itself tells.
+// The first line but for its names: the fields one by one, each counted and given its column of the level table.
 fn marks(text: &[u8]) -> Header
-    ensures { λ r. ⌜ r ≡ marked 0 0 0 (now (text .entry)) ⌝ }
+    ensures { λ r. ⌜ r ≡ marked 0 0 0 [] (now (text .entry)) ⌝ }
 {
     let mut at = 0;
     let mut p = 0;
     let mut t = 0;
+    let mut columns = [0u8; FIELDS];
     loop {
         let e = column_end(text, at);
         if e == 0 {
             return refusal();
         }
         if text[at] == b'p' {
+            if COLUMNS <= p {
+                return refusal();
+            }
+            columns[p + t] = p as u8;
             p += 1;
         } else {
+            if COLUMNS <= t {
+                return refusal();
+            }
+            columns[p + t] = (COLUMNS + t) as u8;
             t += 1;
         }
         at = e + 1;
@@ -126,6 +131,7 @@ fn marks(text: &[u8]) -> Header
                 end: at,
                 plot_columns: p,
                 treatment_columns: t,
+                columns,
             };
         }
     }
@@ -167,26 +173,28 @@ fn new_name(text: &[u8], start: usize, stop: usize) -> bool
     }
 }
 
-// The column of the level table that each of the `n` fields takes.
-pub fn columns(text: &[u8], n: usize) -> [usize; FIELDS]
-    requires { ⌜ (has newline (now text) ≡ true) × (n ≡ length (header (now text))) × (n ≤ 12) ⌝ }
-    ensures { λ r. ⌜ take n r ≡ columnsAfter 0 0 (header (now (text .entry))) ⌝ }
+// Whether a header's numbers fit: at least one field, at most 6 of a kind, each with a column of the level table.
+pub fn fits(h: Header) -> bool
+    ensures { λ r. ⌜ r ≡ fitting h ⌝ }
 {
-    let mut r = [0usize; FIELDS];
-    let mut at = 0;
-    let mut p = 0;
-    let mut t = 0;
-    for i in 0..n {
-        if text[at] == b'p' {
-            r[i] = p;
-            p += 1;
-        } else {
-            r[i] = COLUMNS + t;
-            t += 1;
-        }
-        at = field::end_of(text, at) + 1;
+    let plot_columns = h.plot_columns;
+    if COLUMNS < plot_columns {
+        return false;
     }
-    r
+    let treatment_columns = h.treatment_columns;
+    if COLUMNS < treatment_columns {
+        return false;
+    }
+    let n = plot_columns + treatment_columns;
+    if n < 1 {
+        return false;
+    }
+    for i in 0..n {
+        if FIELDS <= h.columns[i] as usize {
+            return false;
+        }
+    }
+    true
 }
 
 // Whether the field from `start` to `stop` starts with the byte that marks a kind.

@@ -5,8 +5,8 @@ ghost use mathlib.Core.Bool.{true};
 ghost use Prim.Native.Nat.{suc, _+_, _-_, _≤_, _<_};
 ghost use lib.ListN.{length, take, drop};
 ghost use Rattle.rules.specs.Limits.{mostPlots};
-ghost use Rattle.rules.specs.Sheet.{newline, upTo, fields, lines, all, isPlotLine, withPlot, withPlots};
-ghost use Rattle.sheet.specs.Walk.{stopBefore, rowThere, rowEnd, Store, storedRow, storedAt, storedFrom};
+ghost use Rattle.rules.specs.Sheet.{lines};
+ghost use Rattle.sheet.specs.Walk.{stopBefore, rowEnd, Store, storedRow, storedAt, storedFrom};
 ghost use Rattle.sheet.specs.Answers.{judged};
 use limits::PLOTS;
 
@@ -63,11 +63,11 @@ fn row_end(text: &[u8], start: usize, n: usize) -> usize
     at
 }
 
-// The same, and writes the levels of the line as those of plot `u`: all of them where the line has the form.
+// The same, and writes the levels of the line as those of plot `u`, up to where it has not the form.
 fn store_row(
     text: &[u8],
     start: usize,
-    columns: &[usize],
+    columns: &[u8],
     n: usize,
     u: usize,
     levels: &mut [u16],
@@ -75,7 +75,6 @@ fn store_row(
     requires { ⌜ Store (take n (now columns)) n (length (now levels)) × (u < mostPlots) ⌝ }
     ensures { λ r. ⌜ r ≡ rowEnd n start (drop start (now (text .entry))) ⌝ }
     ensures { λ _. ⌜ now (levels .exit) ≡ storedRow (take n (now (columns .entry))) u (drop start (now (text .entry))) (now (levels .entry)) ⌝ }
-    ensures { λ _. ⌜ (rowThere n (drop start (now (text .entry))) ≡ true → now (levels .exit) ≡ withPlot (take n (now (columns .entry))) u (fields (upTo newline (drop start (now (text .entry))))) (now (levels .entry))) ⌝ }
 {
     let mut at = start;
     for i in 0..n {
@@ -84,7 +83,7 @@ fn store_row(
         if at == 0 {
             return 0;
         }
-        let column = columns[i];
+        let column = columns[i] as usize;
         levels[PLOTS * column + u] = found.level;
     }
     at
@@ -94,7 +93,7 @@ fn store_row(
 fn next_row(
     text: &[u8],
     start: usize,
-    columns: &[usize],
+    columns: &[u8],
     n: usize,
     u: usize,
     levels: &mut [u16],
@@ -102,7 +101,6 @@ fn next_row(
     requires { ⌜ Store (take n (now columns)) n (length (now levels)) ⌝ }
     ensures { λ r. ⌜ r ≡ rowEnd n start (drop start (now (text .entry))) ⌝ }
     ensures { λ _. ⌜ now (levels .exit) ≡ storedAt (take n (now (columns .entry))) u (drop start (now (text .entry))) (now (levels .entry)) ⌝ }
-    ensures { λ _. ⌜ (u < mostPlots → rowThere n (drop start (now (text .entry))) ≡ true → now (levels .exit) ≡ withPlot (take n (now (columns .entry))) u (fields (upTo newline (drop start (now (text .entry))))) (now (levels .entry))) ⌝ }
 {
     if u < PLOTS {
         return store_row(text, start, columns, n, u, levels);
@@ -110,13 +108,11 @@ fn next_row(
     row_end(text, start, n)
 }
 
-// Question 4, asked of every line from `start` on, and the levels of the lines written: all of them where every line has the form and
-// there are not too many.
-pub fn store(text: &[u8], start: usize, columns: &[usize], n: usize, levels: &mut [u16]) -> Rows
+// Question 4, asked of every line from `start` on, and the levels of the lines written, up to where they have not the form.
+pub fn store(text: &[u8], start: usize, columns: &[u8], n: usize, levels: &mut [u16]) -> Rows
     requires { ⌜ Store (take n (now columns)) n (length (now levels)) ⌝ }
     ensures { λ r. ⌜ r ≡ judged 0 n (lines (drop start (now (text .entry)))) ⌝ }
     ensures { λ _. ⌜ now (levels .exit) ≡ storedFrom (suc (length (now (text .entry)))) (take n (now (columns .entry))) n 0 (drop start (now (text .entry))) (now (levels .entry)) ⌝ }
-    ensures { λ _. ⌜ (all (isPlotLine n) (lines (drop start (now (text .entry)))) ≡ true → length (lines (drop start (now (text .entry)))) ≤ mostPlots → now (levels .exit) ≡ withPlots (take n (now (columns .entry))) 0 (lines (drop start (now (text .entry)))) (now (levels .entry))) ⌝ }
 {
     let mut at = start;
     let mut count = 0;

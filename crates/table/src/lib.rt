@@ -12,7 +12,7 @@ ghost use Rattle.rules.specs.Table.{tableText, skeletonTable, tableBuffer, rows
 ghost use Rattle.decimal.specs.Writing.{written, placeAfter};
 ghost use Rattle.design.specs.Answers.{fullNumbers};
 ghost use Rattle.naming.specs.Answers.{startingWith};
-ghost use Rattle.sheet.specs.Answers.{outcomeOf};
+ghost use Rattle.sheet.specs.Answers.{outcomeOf, headed};
 ghost use Rattle.table.specs.Answers.{refusalOf, lengthOf, numberOf};
 ghost use Rattle.table.specs.Designs.{Accepted, bufferFor, placedRow, namedRows};
 ghost use Rattle.table.specs.Names.{Nameable, Named, namesIn, placedName};
@@ -31,6 +31,7 @@ use limits::NAME;
 use limits::TEXT;
 use naming::Kind;
 use sheet::Counts;
+use sheet::Header;
 use sheet::Reading;
 
 // Bytes of a buffer for the printed text.
@@ -73,21 +74,22 @@ fn print(text: &[u8], out: &mut [u8]) -> usize
     if TEXT < text.len() {
         return rows::put_refused(2, b"-", b"-", out);
     }
-    let header = sheet::read_header(text);
-    let lines = header.end;
+    let h = sheet::read_header(text);
+    let lines = h.end;
     if lines == 0 {
         return rows::put_refused(3, b"-", b"-", out);
     }
-    print_sheet(text, out)
+    print_sheet(h, text, out)
 }
 
-// Writes the whole text: questions 1 to 5 first.
-fn print_sheet(text: &[u8], out: &mut [u8]) -> usize
+// Writes the whole text of a sheet whose first line is read: questions 4 and 5 first.
+fn print_sheet(h: Header, text: &[u8], out: &mut [u8]) -> usize
+    requires { ⌜ (h ≡ headed (now text)) × (1 ≤ length (now text)) × (length (now text) ≤ 32768) ⌝ }
     ensures answer { λ r. ⌜ r ≡ placeAfter (now (out .entry)) 0 (tableText (now (text .entry))) ⌝ }
     ensures bytes { λ _. ⌜ now (out .exit) ≡ written (now (out .entry)) 0 (tableText (now (text .entry))) ⌝ }
 {
     let mut levels = [0u16; LEVELS];
-    let reading = sheet::read_own(text, &mut levels);
+    let reading = sheet::read_lines(h, text, &mut levels);
     let Reading::Read(counts) = reading else {
         return rows::put_refused(reading_refusal(reading), b"-", b"-", out);
     };

@@ -1,27 +1,38 @@
--- `print_sheet`: the line of a refusal by 1 to 5, or the text of the design.
+-- `print_sheet`: the line of a refusal by 4 or 5, or the text of the design.
 -- Assumes nothing.
 use mathlib.Core.Path.{_≡_, sym, ap, _∙_}
-use mathlib.Core.List.{[], _∷_}
+use mathlib.Core.List.{List, [], _∷_}
 use Prim.Native.Nat.{ℕ}
 use denote.Ref.{now}
 use borrow.Author.Needs.{needs}
-use Rattle.rules.specs.Sheet.{read, reading}
+use Rattle.rules.specs.Sheet.{read, reading, levelsAfter}
 use Rattle.rules.specs.Table.{rowsBytes, refusedRow, dash, emptyTable}
 use Rattle.rules.proofs.ReadSheets.{read-questions}
 use Rattle.rules.proofs.Sheet.{read-accepts}
 use Rattle.decimal.proofs.Writing.{wrote-as}
-use Rattle.sheet.specs.Answers.{outcomeOf}
+use Rattle.sheet.specs.Answers.{outcomeOf, linesRead, linesAfter}
 use Rattle.sheet.specs.declared.Reading.{Reading}
 use Rattle.table.specs.Answers.{numberOf}
-use Rattle.table.proofs.TableLaws.{refused-text, read-text, own-table, levels-long}
+use Rattle.table.proofs.TableLaws.{refused-text, header-read, header-table, read-text, levels-long}
 use Rattle.table.proofs.print_sheet.Statement.{statement}
 use Rattle.table.proofs.print_sheet.Tie as tie
 
-slice-aggregate-read-own : tie.Need-slice-aggregate-read-own
-slice-aggregate-read-own c = search needs
+-- what is read by the header
+module _ (c : tie.Start) where
+  abbrev text : List ℕ
+  text = now (c .args .text)
 
-read-own-requires : tie.Need-read-own-requires
-read-own-requires c κs = search needs
+  reads : linesRead (c .args .h) text emptyTable ≡ reading text emptyTable
+  reads = header-read text (c .args .h) (c .pre .0) (c .pre .1) (c .pre .2)
+
+  table : (n p t : ℕ) (levels : List ℕ) → read n p t ≡ reading text emptyTable → levels ≡ linesAfter (c .args .h) text emptyTable → levels ≡ levelsAfter (reading text emptyTable) text emptyTable
+  table = header-table text (c .args .h) (c .pre .0) (c .pre .1) (c .pre .2)
+
+slice-aggregate-read-lines : tie.Need-slice-aggregate-read-lines
+slice-aggregate-read-lines c = search needs
+
+read-lines-requires : tie.Need-read-lines-requires
+read-lines-requires c κs = search needs
 
 enum-known-reading : tie.Need-enum-known-reading
 enum-known-reading c = search needs
@@ -47,13 +58,14 @@ same-length c = search needs
 returns : tie.Need-returns
 unfolding emptyTable
 returns c =
-    let a = c .before .before .before .before .before .before .before .before .before .before .before .before .before .before .args in
-    let sheet = c .before .before .before .before .before .before .before .before .before .before .read-own in
+    let s = c .before .before .before .before .before .before .before .before .before .before .before .before .before .before in
+    let a = s .args in
+    let sheet = c .before .before .before .before .before .before .before .before .before .before .read-lines in
     let told = c .before .before .before .before .before .before .before .enum-told .given in
     let q = told .0 .0 in
     let is = c .before .before .before .before .before .before .reading-refusal .ensures ∙ ap (λ (x : Reading). numberOf (outcomeOf x)) (told .1) in
     wrote-as (now (a .out)) 0
-    (ap (λ (m : ℕ). rowsBytes (refusedRow m dash dash ∷ [])) is ∙ refused-text (now (a .text)) q (sym (ap outcomeOf (told .1)) ∙ sheet .ensures .0))
+    (ap (λ (m : ℕ). rowsBytes (refusedRow m dash dash ∷ [])) is ∙ refused-text (now (a .text)) q (sym (ap outcomeOf (told .1)) ∙ sheet .ensures .0 ∙ reads s))
     (c .before .before .put-refused .ensures)
 
 slice-aggregate-print-design : tie.Need-slice-aggregate-print-design
@@ -62,16 +74,17 @@ slice-aggregate-print-design c = search needs
 print-design-requires : tie.Need-print-design-requires
 unfolding emptyTable
 print-design-requires c κs =
-    let text = now (c .before .before .before .before .before .before .before .before .before .before .args .text) in
-    let sheet = c .before .before .before .before .before .before .read-own in
+    let s = c .before .before .before .before .before .before .before .before .before .before in
+    let text = now (s .args .text) in
+    let sheet = c .before .before .before .before .before .before .read-lines in
     let given = c .before .before .before .reading .given in
     let k = given .0 .0 in
-    let e : reading text emptyTable ≡ read (k .plots) (k .«plot_columns») (k .«treatment_columns») = sym (sheet .ensures .0) ∙ ap outcomeOf (given .1) in
+    let e : reading text emptyTable ≡ read (k .plots) (k .«plot_columns») (k .«treatment_columns») = sym (sheet .ensures .0 ∙ reads s) ∙ ap outcomeOf (given .1) in
     let w = read-accepts text emptyTable (k .plots) (k .«plot_columns») (k .«treatment_columns») e in (
       read-questions text emptyTable (k .plots) (k .«plot_columns») (k .«treatment_columns») e .1,
       w .plots-some,
       w .plots-few,
-      levels-long text (sheet .last .1 .0) (own-table text (k .plots) (k .«plot_columns») (k .«treatment_columns») (sheet .last .1 .0) (sym e) (sheet .ensures .1 .1)),
+      levels-long text (sheet .last .1 .1 .0) (table s (k .plots) (k .«plot_columns») (k .«treatment_columns») (sheet .last .1 .1 .0) (sym e) (sheet .ensures .1)),
       w .plot-columns,
       w .treatment-columns,
     )
@@ -82,22 +95,23 @@ same-length-2 c = search needs
 returns-2 : tie.Need-returns-2
 unfolding emptyTable
 returns-2 c =
-    let a = c .before .before .before .before .before .before .before .before .before .before .before .before .before .args in
-    let sheet = c .before .before .before .before .before .before .before .before .before .read-own in
+    let s = c .before .before .before .before .before .before .before .before .before .before .before .before .before in
+    let a = s .args in
+    let sheet = c .before .before .before .before .before .before .before .before .before .read-lines in
     let given = c .before .before .before .before .before .before .reading .given in
     let k = given .0 .0 in
-    let e : read (k .plots) (k .«plot_columns») (k .«treatment_columns») ≡ reading (now (a .text)) emptyTable = sym (ap outcomeOf (given .1)) ∙ sheet .ensures .0 in
-    let w = own-table (now (a .text)) (k .plots) (k .«plot_columns») (k .«treatment_columns») (sheet .last .1 .0) e (sheet .ensures .1 .1) in
+    let e : read (k .plots) (k .«plot_columns») (k .«treatment_columns») ≡ reading (now (a .text)) emptyTable = sym (ap outcomeOf (given .1)) ∙ sheet .ensures .0 ∙ reads s in
+    let w = table s (k .plots) (k .«plot_columns») (k .«treatment_columns») (sheet .last .1 .1 .0) e (sheet .ensures .1) in
     wrote-as (now (a .out)) 0
-    (read-text (now (a .text)) (k .plots) (k .«plot_columns») (k .«treatment_columns») (sheet .last .1 .0) e w)
+    (read-text (now (a .text)) (k .plots) (k .«plot_columns») (k .«treatment_columns») (sheet .last .1 .1 .0) e w)
     (c .before .before .print-design .ensures)
 
 pub print-sheet-spec : {M : Type 1} → statement M
 print-sheet-spec =
     tie.close
     (tie.spec
-    slice-aggregate-read-own
-    read-own-requires
+    slice-aggregate-read-lines
+    read-lines-requires
     enum-known-reading
     enum-told
     reading-refusal-requires

@@ -1,19 +1,19 @@
 -- `sheet::questions::from_3` meets its contract.
 -- Assumes nothing.
-use Prim.Native.Nat.{ℕ, suc, _+_, _<_}
-use mathlib.Core.Path.{_≡_, sym, ap, ap₂, _∙_}
+use Prim.Native.Nat.{ℕ, suc}
+use mathlib.Core.Path.{_≡_, sym, ap, _∙_}
 use mathlib.Core.Bool.{true}
 use mathlib.Core.List.{List}
 use native.Mathlib.Omega.{arith}
 use borrow.Author.Needs.{needs}
-use borrow.Author.Tests.{not-true, not-false}
 use denote.Ref.{now}
 use lib.ListN.{length, drop}
-use Rattle.rules.specs.Sheet.{upTo, lines, countKind, header, laterLines, question3, question4, readingFrom3, levelsAfter, refused}
-use Rattle.rules.proofs.Sheet.{HeaderForm, header-form, kinds-all}
+use Rattle.rules.specs.Sheet.{lines, question3, readingFrom3, levelsAfter, read, refused}
 use Rattle.sheet.specs.declared.header.Header.{Header}
+use Rattle.sheet.specs.Walk.{storedFrom}
+use Rattle.sheet.specs.Answers.{firstLine, failing, fromLines, fieldsIn, columnsIn, fitting}
 use Rattle.sheet.proofs.HeaderLaws.{headed-yes}
-use Rattle.sheet.proofs.QuestionLaws.{later-at, headed-none, headed-some, judged-bad, judged-good, judged-count, refused-3, refused-4, too-few, too-many, all-read}
+use Rattle.sheet.proofs.QuestionLaws.{headed-none, headed-some, refused-3, fit, lines-failed, lines-passed, line-fits, line-read, line-stored}
 use Rattle.sheet.proofs.questions.from_3.Statement.{statement}
 use Rattle.sheet.proofs.questions.from_3.Tie as tie
 
@@ -25,44 +25,17 @@ module _ (c : tie.Else1) where
   abbrev h : Header
   h = c .before .read-header .result
 
-  yes-3 : question3 text ≡ true
-  yes-3 = headed-some text h (c .before .read-header .ensures) (c .if1 .left)
+  yes : question3 text ≡ true
+  yes = headed-some text h (c .before .read-header .ensures) (c .if1 .left)
 
-  is : h ≡ record { end = suc (length (upTo 10 text)); «plot_columns» = countKind 112 (header text); «treatment_columns» = countKind 116 (header text) }
-  is = c .before .read-header .ensures ∙ headed-yes text yes-3
+  is : h ≡ firstLine text
+  is = c .before .read-header .ensures ∙ headed-yes text yes
 
-  form : HeaderForm text
-  form = header-form text yes-3
+  fits : fitting h ≡ true
+  fits = ap fitting is ∙ line-fits text yes
 
-  place : h .end ≡ suc (length (upTo 10 text))
-  place = ap (λ (h : Header). h .end) is
-
-  plots : h .«plot_columns» ≡ countKind 112 (header text)
-  plots = ap (λ (h : Header). h .«plot_columns») is
-
-  treatments : h .«treatment_columns» ≡ countKind 116 (header text)
-  treatments = ap (λ (h : Header). h .«treatment_columns») is
-
-  size : h .«plot_columns» + h .«treatment_columns» ≡ length (header text)
-  size = ap₂ _+_ plots treatments ∙ kinds-all (header text) (form .columns)
-
--- question 4 said yes
-module _ (c : tie.Else2) where
-  yes-4 : question4 (text (c .before .before)) ≡ true
-  yes-4 =
-      let d = c .before .before in
-      judged-good (text d) (h d .«plot_columns» + h d .«treatment_columns») (c .before .judge .result) (lines (drop (h d .end) (text d))) (size d) (later-at (text d) (h d .end) (place d)) (c .before .judge .ensures) (not-false _ (c .if2 .left))
-
-  count : c .before .judge .result .count ≡ length (laterLines (text (c .before .before)))
-  count =
-      let d = c .before .before in
-      judged-count (text d) (h d .«plot_columns» + h d .«treatment_columns») (c .before .judge .result) (lines (drop (h d .end) (text d))) (size d) (later-at (text d) (h d .end) (place d)) (c .before .judge .ensures) (not-false _ (c .if2 .left))
-
-  under : c .before .judge .result .count < 1 → readingFrom3 (text (c .before .before)) ≡ refused 5
-  under l = let k = count in too-few (text (c .before .before)) (yes-3 (c .before .before)) yes-4 (omega arith)
-
-  over : 240 < c .before .judge .result .count → readingFrom3 (text (c .before .before)) ≡ refused 5
-  over l = let k = count in too-many (text (c .before .before)) (yes-3 (c .before .before)) yes-4 (omega arith)
+  reads : fromLines (h .«plot_columns») (h .«treatment_columns») (lines (drop (h .end) text)) ≡ readingFrom3 text
+  reads = ap (λ (h : Header). fromLines (h .«plot_columns») (h .«treatment_columns») (lines (drop (h .end) text))) is ∙ line-read text yes
 
 read-header-requires : tie.Need-read-header-requires
 read-header-requires c κs = search needs
@@ -75,53 +48,44 @@ returns c =
     (rw e, rw e)
 
 add-n : tie.Need-add-n
-add-n c = omega (arith, size c, form c .few)
+add-n c = let f = fit (h (c .before)) (fits (c .before)) in omega (arith, f .plots, f .treatments)
 
 judge-requires : tie.Need-judge-requires
-judge-requires c κs = omega (arith, size c, form c .some)
+judge-requires c κs = fit (h (c .before)) (fits (c .before)) .some
+
+failed-requires : tie.Need-failed-requires
+failed-requires c κs = search needs
 
 returns-2 : tie.Need-returns-2
 unfolding levelsAfter
 returns-2 c =
-    let d = c .before .before in
-    let n = judged-bad (text d) (h d .«plot_columns» + h d .«treatment_columns») (c .before .judge .result) (lines (drop (h d .end) (text d))) (size d) (later-at (text d) (h d .end) (place d)) (c .before .judge .ensures) (not-true _ (c .if2 .taken)) in
-    let e = refused-4 (text d) (yes-3 d) n in
+    let d = c .before .before .before .before in
+    let q = c .before .failed .ensures in
+    let n = lines-failed (h d .«plot_columns») (h d .«treatment_columns») (lines (drop (h d .end) (text d))) (c .before .before .judge .result) (c .before .before .judge .ensures) (λ z. let k = q ∙ z in omega arith) in
+    let e : readingFrom3 (text d) ≡ refused (c .before .failed .result) = sym (reads d) ∙ n ∙ ap refused (sym q) in
     (rw e, rw e)
 
-returns-3 : tie.Need-returns-3
-unfolding levelsAfter
-returns-3 c =
-    let e = under (c .before) (c .if3 .taken) in
-    (rw e, rw e)
-
-returns-4 : tie.Need-returns-4
-unfolding levelsAfter
-returns-4 c =
-    let e = over (c .before .before) (omega arith) in
-    (rw e, rw e)
-
-write-requires : tie.Need-write-requires
-write-requires c κs =
-    let d = c .before .before .before in
-    let o = d .before .before in
-    record {
-      header-form = yes-3 o;
-      place = place o;
-      size = size o;
-      room = omega arith;
-    }
+from-4-requires : tie.Need-from-4-requires
+from-4-requires c κs = (omega arith, fits (c .before .before .before .before .before))
 
 same-length : tie.Need-same-length
 same-length c = search needs
 
-returns-5 : tie.Need-returns-5
-unfolding levelsAfter
-returns-5 c =
-    let d = c .before .before .before .before .before .before in
-    let o = d .before .before in
-    let k = count d in
-    let e = all-read (text o) (yes-3 o) (yes-4 d) (omega arith) (omega arith) in
-    (rw (count d, plots o, treatments o) (sym e), rw e (c .before .before .write .ensures .1 .1 (yes-4 d) (omega arith)))
+returns-3 : tie.Need-returns-3
+returns-3 c =
+    let r = c .before .before .from-4 .ensures in
+    let o = c .before .before .before .before in
+    let j = o .before .before .judge in
+    let d = o .before .before .before .before in
+    let levels = now (d .before .before .before .before .args .levels) in
+    let p = h d .«plot_columns» in
+    let t = h d .«treatment_columns» in
+    let none : failing (j .result) ≡ 0 = omega (arith, o .before .failed .ensures) in
+    let n = lines-passed p t (lines (drop (h d .end) (text d))) (j .result) (j .ensures) none in
+    let e : readingFrom3 (text d) ≡ read (j .result .count) p t = sym (reads d) ∙ n in (
+      r .0 ∙ reads d,
+      r .1 ∙ ap (λ (h : Header). storedFrom (suc (length (text d))) (columnsIn h) (fieldsIn h) 0 (drop (h .end) (text d)) levels) (is d) ∙ line-stored (text d) (yes d) levels (j .result .count) p t e,
+    )
 
 pub from-3-spec : {M : Type 1} → statement M
 from-3-spec =
@@ -131,9 +95,8 @@ from-3-spec =
     returns
     add-n
     judge-requires
+    failed-requires
     returns-2
-    returns-3
-    returns-4
-    write-requires
+    from-4-requires
     same-length
-    returns-5)
+    returns-3)

@@ -1,8 +1,6 @@
 -- `sheet::rows::next_row` meets its contract.
 -- Assumes nothing.
-use Prim.Native.Nat.{_<_}
 use mathlib.Core.Path.{sym, _∙_}
-use native.Mathlib.Omega.{arith}
 use denote.Ref.{now}
 use lib.ListN.{take, drop}
 use Rattle.sheet.proofs.StoreLaws.{stored-plot, stored-past}
@@ -22,7 +20,7 @@ returns c =
     let w = r .store-row .ensures in
     let t = r .before .before in
     let a = t .before .before .before .before .args in
-    (w .0, (w .1 .0 ∙ sym (stored-plot (take (a .n) (now (a .columns))) (a .u) (drop (a .start) (now (a .text))) (now (a .levels)) (t .if1 .taken)), λ h e. w .1 .1 e))
+    (w .0, w .1 ∙ sym (stored-plot (take (a .n) (now (a .columns))) (a .u) (drop (a .start) (now (a .text))) (now (a .levels)) (t .if1 .taken)))
 
 row-end-requires : tie.Need-row-end-requires
 row-end-requires c κs = search needs
@@ -31,10 +29,7 @@ returns-2 : tie.Need-returns-2
 returns-2 c =
     let t = c .before in
     let a = t .before .before .before .before .args in
-    (c .row-end .ensures, (sym (stored-past (take (a .n) (now (a .columns))) (a .u) (drop (a .start) (now (a .text))) (now (a .levels)) (t .if1 .left)), λ h e. absurd (past h)))
-  where
-    past : c .before .before .before .before .before .args .u < 240 → ⊥
-    past h = omega arith
+    (c .row-end .ensures, sym (stored-past (take (a .n) (now (a .columns))) (a .u) (drop (a .start) (now (a .text))) (now (a .levels)) (t .if1 .left)))
 
 pub next-row-spec : {M : Type 1} → statement M
 next-row-spec =

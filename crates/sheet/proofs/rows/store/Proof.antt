@@ -1,21 +1,19 @@
 -- `sheet::rows::store` meets its contract. The loop's invariant: the lines from `at` on, after those counted, give the whole answer, and
--- where all have the form, these lines, stored from plot `count` on, complete the work.
+-- these lines, stored from plot `count` on, are what all lines store.
 -- Assumes nothing.
 use Prim.Native.Nat.{ℕ, suc, _+_, _-_, _≤_}
 use mathlib.Core.Path.{_≡_, refl, sym, ap, ap₂, _∙_}
-use mathlib.Core.Bool.{true}
 use native.Mathlib.Omega.{arith}
-use native.Mathlib.Nat.{zero-add, sub-zero}
+use native.Mathlib.Nat.{sub-zero}
 use native.Mathlib.Numerals.{add-one}
 use borrow.Author.Needs.{needs}
 use denote.Ref.{now}
 use lib.ListN.{length, take, drop}
-use Rattle.rules.specs.Sheet.{upTo, lines, all, isPlotLine, withPlots}
-use Rattle.rules.proofs.Members.{clash}
+use Rattle.rules.specs.Sheet.{upTo, lines}
 use Rattle.sheet.specs.Walk.{storedAt, storedFrom}
 use Rattle.sheet.specs.Answers.{judged}
 use Rattle.sheet.proofs.RowLaws.{judge-end, judge-off, judge-on, row-end-none, row-end-some, row-end-is}
-use Rattle.sheet.proofs.StoreLaws.{from-end, from-on, from-off, More, more-none, more-plot, more-form, more-turn}
+use Rattle.sheet.proofs.StoreLaws.{from-end, from-on, from-off}
 use Rattle.sheet.proofs.rows.store.Statement.{statement}
 use Rattle.sheet.proofs.rows.store.Tie as tie
 
@@ -23,13 +21,12 @@ abbrev Inv-loop : tie.InvT-loop
 Inv-loop text start columns n levels₀ at₀ count₀ levels at count =
     (count ≤ at) × (length levels ≡ length levels₀) × (judged count n (lines (drop at text)) ≡ judged 0 n (lines (drop start text)))
     × (storedFrom (suc (length text)) (take n columns) n 0 (drop start text) levels₀ ≡ storedFrom (suc (length text) - count) (take n columns) n count (drop at text) levels)
-    × (all (isPlotLine n) (lines (drop start text)) ≡ true → length (lines (drop start text)) ≤ 240 → More (take n columns) n count (length (lines (drop start text))) text at levels (withPlots (take n columns) 0 (lines (drop start text)) levels₀))
 
 abbrev μ-loop : tie.MeasureT-loop
 μ-loop text start columns n levels₀ at₀ count₀ levels at count = length text - at
 
 loop-holds : tie.Need-loop-holds Inv-loop μ-loop
-loop-holds c = (omega arith, refl, refl, rw sub-zero refl, λ e k. record { counted = zero-add _; form = e; work = refl })
+loop-holds c = (omega arith, refl, refl, rw sub-zero refl)
 
 next-row-requires : tie.Need-next-row-requires Inv-loop μ-loop
 next-row-requires c κs =
@@ -56,13 +53,8 @@ returns c =
     let fuel : suc (length text) - b .loop .count ≡ suc (length text - b .loop .count) = omega arith in
     let bad = row-end-none (a .n) (b .loop .at) (drop (b .loop .at) text) z in (
       sym (judge-off (b .loop .count) (a .n) text (b .loop .at) (omega arith) z) ∙ b .loop .inv .2,
-      (
-        w .ensures .1 .0 ∙ sym (b .loop .inv .3 ∙ ap (λ (k : ℕ). storedFrom k cs (a .n) (b .loop .count) (drop (b .loop .at) text) (b .loop .levels)) fuel
-            ∙ from-off cs (a .n) (b .loop .count) text (b .loop .at) (b .loop .levels) (length text - b .loop .count) (omega arith) bad),
-        λ e k. clash
-            (more-form cs (a .n) (b .loop .count) (length (lines (drop (a .start) text))) text (b .loop .at) (b .loop .levels) _ (b .loop .inv .4 e k) (omega arith))
-            bad,
-      ),
+      w .ensures .1 ∙ sym (b .loop .inv .3 ∙ ap (λ (k : ℕ). storedFrom k cs (a .n) (b .loop .count) (drop (b .loop .at) text) (b .loop .levels)) fuel
+          ∙ from-off cs (a .n) (b .loop .count) text (b .loop .at) (b .loop .levels) (length text - b .loop .count) (omega arith) bad),
     )
 
 add-count : tie.Need-add-count Inv-loop μ-loop
@@ -84,7 +76,6 @@ loop-again c =
     let text = now (a .text) in
     let at = b .loop .at in
     let cs = take (a .n) (now (a .columns)) in
-    let plots = length (lines (drop (a .start) text)) in
     let r = judge-on (b .loop .count) (a .n) text at (w .result) (omega arith) (w .ensures .0) (c .if1 .left) in
     let fuel : suc (length text) - b .loop .count ≡ suc (length text - b .loop .count) = omega arith in
     let less : length text - b .loop .count ≡ suc (length text) - (b .loop .count + 1) = omega arith in
@@ -96,10 +87,7 @@ loop-again c =
       b .loop .inv .3 ∙ ap (λ (k : ℕ). storedFrom k cs (a .n) (b .loop .count) (drop at text) (b .loop .levels)) fuel
           ∙ from-on cs (a .n) (b .loop .count) text at (b .loop .levels) (length text - b .loop .count) (omega arith) there (w .result) next
           ∙ ap₂ (λ (k : ℕ) (u : ℕ). storedFrom k cs (a .n) u (drop (w .result) text) (storedAt cs (b .loop .count) (drop at text) (b .loop .levels))) less (sym (add-one (b .loop .count)))
-          ∙ ap (storedFrom (suc (length text) - (b .loop .count + 1)) cs (a .n) (b .loop .count + 1) (drop (w .result) text)) (sym (w .ensures .1 .0)),
-      λ e k. let m = b .loop .inv .4 e k in
-          let u = more-plot cs (a .n) (b .loop .count) plots text at (b .loop .levels) _ m (omega arith) in
-          more-turn cs (a .n) (b .loop .count) plots text at (b .loop .levels) _ m (omega arith) (w .result) _ next (w .ensures .1 .1 (omega arith) there),
+          ∙ ap (storedFrom (suc (length text) - (b .loop .count + 1)) cs (a .n) (b .loop .count + 1) (drop (w .result) text)) (sym (w .ensures .1)),
     )
 
 same-length-2 : tie.Need-same-length-2 Inv-loop μ-loop
@@ -111,10 +99,7 @@ returns-2 c =
     let a = b .before .before .before .before .args in
     let text = now (a .text) in (
       sym (judge-end (b .loop .count) (a .n) text (b .loop .at) (omega arith)) ∙ b .loop .inv .2,
-      (
-        sym (b .loop .inv .3 ∙ from-end (take (a .n) (now (a .columns))) (a .n) (b .loop .count) text (b .loop .at) (b .loop .levels) (suc (length text) - b .loop .count) (omega arith)),
-        λ e k. more-none (take (a .n) (now (a .columns))) (a .n) (b .loop .count) (length (lines (drop (a .start) text))) text (b .loop .at) (b .loop .levels) _ (b .loop .inv .4 e k) (omega arith),
-      ),
+      sym (b .loop .inv .3 ∙ from-end (take (a .n) (now (a .columns))) (a .n) (b .loop .count) text (b .loop .at) (b .loop .levels) (suc (length text) - b .loop .count) (omega arith)),
     )
 
 pub store-spec : {M : Type 1} → statement M

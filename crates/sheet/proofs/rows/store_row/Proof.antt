@@ -1,5 +1,5 @@
--- `sheet::rows::store_row` meets its contract. The loop's invariant: the line ends where the rest of it does, and where the line has the
--- form, what is left of its work, done from here, is the whole of it.
+-- `sheet::rows::store_row` meets its contract. The loop's invariant: the line ends where the rest of it does, and the rest, stored from
+-- here, is what the whole line stores.
 -- Assumes nothing.
 use Prim.Native.Nat.{ℕ, suc, _+_, _-_, _*_, _<_, _≤_}
 use mathlib.Core.Path.{_≡_, refl, sym, ap, _∙_}
@@ -11,12 +11,11 @@ use native.Mathlib.Nat.{sub-zero}
 use denote.Ref.{now}
 use lib.ListN.{length, getD, take, drop, set, length-set, length-take, length-drop}
 use lib.Seq.{drop-cons, getD-take}
-use Rattle.rules.specs.Sheet.{upTo, fields, decimal, withPlot}
-use Rattle.rules.proofs.Members.{clash}
-use Rattle.sheet.specs.Walk.{fieldOf, stopBefore, levelThere, levelEnd, rowThere, rowEnd, storedRow}
+use Rattle.rules.specs.Sheet.{decimal}
+use Rattle.sheet.specs.Walk.{fieldOf, stopBefore, levelThere, levelEnd, rowEnd, storedRow}
 use Rattle.sheet.proofs.LevelLaws.{then-end, then-number}
-use Rattle.sheet.proofs.RowLaws.{Rest, rest-start, rest-off, rest-on, stop-known, level-end-some, level-end-at, row-end-none}
-use Rattle.sheet.proofs.StoreLaws.{Left, left-start, left-turn, place-at, stored-none, stored-off, stored-on}
+use Rattle.sheet.proofs.RowLaws.{Rest, rest-start, rest-off, rest-on, stop-known, level-end-some, level-end-at}
+use Rattle.sheet.proofs.StoreLaws.{place-at, stored-none, stored-off, stored-on}
 use Rattle.sheet.proofs.rows.store_row.Statement.{statement}
 use Rattle.sheet.proofs.rows.store_row.Tie as tie
 
@@ -24,7 +23,6 @@ abbrev Inv-loop : tie.InvT-loop
 Inv-loop text start columns n u levels₀ at₀ i₀ levels at i =
     (i ≤ n) × (length levels ≡ length levels₀) × Rest (n - i) text at (rowEnd n start (drop start text))
     × (storedRow (take n columns) u (drop start text) levels₀ ≡ storedRow (drop i (take n columns)) u (drop at text) levels)
-    × (rowThere n (drop start text) ≡ true → Left (n - i) (drop i (take n columns)) u (drop at text) levels (withPlot (take n columns) u (fields (upTo 10 (drop start text))) levels₀))
 
 abbrev μ-loop : tie.MeasureT-loop
 μ-loop text start columns n u levels₀ at₀ i₀ levels at i = n - i
@@ -111,7 +109,6 @@ loop-holds c =
       refl,
       rw sub-zero (rest-start (a .n) (now (a .text)) (a .start) (s .pre .0 .some)),
       refl,
-      λ e. rw sub-zero (left-start (a .n) (take (a .n) (now (a .columns))) (a .u) (drop (a .start) (now (a .text))) (now (a .levels)) (s .pre .0 .some) e),
     )
 
 stop-after-requires : tie.Need-stop-after-requires Inv-loop μ-loop
@@ -132,13 +129,13 @@ returns c =
     let b = d .before .before .before in
     let a = b .before .before .before .before .args in
     let off = stored-off (getD (now (a .columns)) (b .loop .i) 0) (drop (b .loop .i + 1) (take (a .n) (now (a .columns)))) (a .u) (text d) (at d) (b .loop .levels) (left d) (columns-left b (omega arith)) (sym (end d) ∙ c .if1 .taken) in
-    (e, (sym (b .loop .inv .3 ∙ ap (λ (cs : List ℕ). storedRow cs (a .u) (drop (at d) (text d)) (b .loop .levels)) (columns-next b (omega arith)) ∙ off), λ there. clash there (row-end-none (n d) (start d) (drop (start d) (text d)) (sym e))))
-
-mul-column : tie.Need-mul-column Inv-loop μ-loop
-mul-column c = let e = columns-fit c in omega arith
+    (e, sym (b .loop .inv .3 ∙ ap (λ (cs : List ℕ). storedRow cs (a .u) (drop (at d) (text d)) (b .loop .levels)) (columns-next b (omega arith)) ∙ off))
 
 shared-slice-read-column : tie.Need-shared-slice-read-column Inv-loop μ-loop
 shared-slice-read-column c = let e = columns-fit (c .before) in omega arith
+
+cast-column : tie.Need-cast-column Inv-loop μ-loop
+cast-column c = let e = place c in omega arith
 
 mul-levels : tie.Need-mul-levels Inv-loop μ-loop
 mul-levels c = let e = place c in omega arith
@@ -169,16 +166,13 @@ loop-again c =
     let i = b .loop .i in
     let cs = take (a .n) (now (a .columns)) in
     let k = s .pre .0 .size in
-    let f = columns-next b (omega arith) in
-    let turn = left-turn (getD (now (a .columns)) i 0) (drop (i + 1) cs) (a .u) (now (a .text)) (b .loop .at) (r d) (b .loop .levels)
-    (withPlot cs (a .u) (fields (upTo 10 (drop (a .start) (now (a .text))))) (now (a .levels))) (place-after d (o .if1 .left)) (left d) in (
+    let f = columns-next b (omega arith) in (
       omega arith,
       simp length-set (b .loop .inv .1),
       rest-on (text d) (at d) _ (r d) (left d) (end d) (o .if1 .left) (rest d),
       b .loop .inv .3 ∙ ap (λ (cs : List ℕ). storedRow cs (a .u) (drop (at d) (text d)) (b .loop .levels)) f
           ∙ stored-on (getD (now (a .columns)) i 0) (drop (i + 1) cs) (a .u) (text d) (at d) (b .loop .levels) (left d) (columns-left b (omega arith)) (there d (o .if1 .left)) (r d) (place-after d (o .if1 .left))
           ∙ ap (λ (v : ℕ). storedRow (drop (i + 1) cs) (a .u) (drop (r d) (text d)) (set (b .loop .levels) (240 * getD (now (a .columns)) i 0 + a .u) v)) (sym (number d (o .if1 .left))),
-      λ e. rw (number d (o .if1 .left)) (turn (rw (size d, f) at (b .loop .inv .4 e))),
     )
 
 same-length-2 : tie.Need-same-length-2 Inv-loop μ-loop
@@ -190,7 +184,7 @@ returns-2 c =
     let a = b .before .before .before .before .args in
     let m : a .n - b .loop .i ≡ 0 = omega arith in
     let none : length (drop (b .loop .i) (take (a .n) (now (a .columns)))) ≡ 0 = omega (arith, length-drop (b .loop .i) (take (a .n) (now (a .columns))), length-take (a .n) (now (a .columns))) in
-    (rw m at (b .loop .inv .2), (sym (b .loop .inv .3 ∙ stored-none (drop (b .loop .i) (take (a .n) (now (a .columns)))) (a .u) (drop (b .loop .at) (now (a .text))) (b .loop .levels) none), λ e. rw m at (b .loop .inv .4 e)))
+    (rw m at (b .loop .inv .2), sym (b .loop .inv .3 ∙ stored-none (drop (b .loop .i) (take (a .n) (now (a .columns)))) (a .u) (drop (b .loop .at) (now (a .text))) (b .loop .levels) none))
 
 pub store-row-spec : {M : Type 1} → statement M
 store-row-spec =
@@ -203,8 +197,8 @@ store-row-spec =
     level-then-requires
     same-length
     returns
-    mul-column
     shared-slice-read-column
+    cast-column
     mul-levels
     add-levels
     mul-levels-2
