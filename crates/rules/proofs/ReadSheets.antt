@@ -16,13 +16,7 @@ use Rattle.rules.specs.Design.{Answer, nonzero, allNonzero, withinLimits
 use Rattle.rules.specs.Sheet.{Outcome, read, refused, question1, question2, question3, readingFrom3, reading, levelsAfter}
 use Rattle.rules.proofs.Numbering.{by-cases}
 use Rattle.rules.proofs.Members.{clash}
-use Rattle.rules.proofs.Sheet.{read-accepts, length-after, read-limits, plot-levels-nonzero, treatment-levels-nonzero}
-
-not-read : {A : Type 0} (q n p t : ℕ) → refused q ≡ read n p t → A
-not-read q n p t e = let z : _≡_ {A = ℕ} 0 1 = cc in absurd (no z)
-  where
-    no : _≡_ {A = ℕ} 0 1 → ⊥
-    no z = omega arith
+use Rattle.rules.proofs.Sheet.{not-read, read-accepts, length-after, read-limits, plot-levels-nonzero, treatment-levels-nonzero}
 
 -- accepted, or refused by a question from 8 on
 abbrev pub Late : Answer → Type 0

@@ -236,7 +236,8 @@ pub record Accepts (text levels : List ℕ) (n p t : ℕ) : Type 0 where
 three : (a b c n p t : ℕ) → read a b c ≡ read n p t → (n ≡ a) × (p ≡ b) × (t ≡ c)
 three a b c n p t e = (cc, cc, cc)
 
-not-read : {P : Type 0} (q n p t : ℕ) → refused q ≡ read n p t → P
+-- a refusal is no reading
+pub not-read : {P : Type 0} (q n p t : ℕ) → refused q ≡ read n p t → P
 not-read q n p t e = let z : _≡_ {A = ℕ} 0 1 = cc in absurd (no z)
   where
     no : _≡_ {A = ℕ} 0 1 → ⊥

@@ -11,7 +11,7 @@ use lib.ListN.{length, drop, length-drop}
 use lib.Seq.{take-at}
 use borrow.Author.Tests.{leb-true, le-leb, lt-leb}
 use Rattle.rules.specs.Sheet.{Line, upTo, lines, all, within, countKind, header, columnsAfter, laterLines, isPlotLine, withPlots, question3, question4, question5, Outcome, read, refused, counts, readingFrom3, levelsAfter}
-use Rattle.rules.proofs.Sheet.{and-left, and-right, HeaderForm, header-form, kinds-all, length-columns, columns-fit}
+use Rattle.rules.proofs.Sheet.{not-read, and-left, and-right, HeaderForm, header-form, kinds-all, length-columns, columns-fit}
 use Rattle.rules.proofs.Numbering.{by-cases}
 use Rattle.sheet.specs.Walk.{isPlace, storedFrom}
 use Rattle.sheet.specs.Answers.{noHeader, firstLine, headed, judged, failing, fromLines, fieldsIn, columnsIn, fitting, linesRead, linesAfter}
@@ -53,12 +53,6 @@ module _ (text : List ℕ) where
       → readingFrom3 text ≡ read (length (laterLines text)) (countKind 112 (header text)) (countKind 116 (header text))
   unfolding readingFrom3 counts
   all-read a b c = rw (a, b, c, readingFrom3)
-
-not-read : {P : Type 0} (k n p t : ℕ) → refused k ≡ read n p t → P
-not-read k n p t e = let z : _≡_ {A = ℕ} 0 1 = cc in absurd (no z)
-  where
-    no : _≡_ {A = ℕ} 0 1 → ⊥
-    no z = omega arith
 
 -- ---- questions 4 and 5 of judged lines
 

@@ -1,15 +1,12 @@
 -- `write_signed`: a minus sign and then the magnitude is the whole number.
 -- Assumes nothing.
-use mathlib.Core.Path.{_≡_, refl, sym, ap, ap₂, _∙_, subst}
+use mathlib.Core.Path.{_≡_, ap, _∙_, subst}
 use mathlib.Core.Bool.{true, false}
-use mathlib.Core.List.{List, [], _∷_}
-use Prim.Native.Nat.{ℕ}
+use mathlib.Core.List.{[], _∷_}
 use denote.Ref.{now}
 use lib.IntN.{ℤ, pos, natAbs}
 use lib.Signed.{ltZ}
 use Rattle.rules.specs.Lists.{decimalOf}
-use Rattle.rules.specs.Table.{signed}
-use Rattle.decimal.specs.Writing.{written, placeAfter}
 use Rattle.decimal.proofs.Writing.{written-append}
 use Rattle.decimal.proofs.Signed.{back, signed-below, signed-above}
 use borrow.Author.Needs.{needs}

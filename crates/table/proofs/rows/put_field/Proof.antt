@@ -1,14 +1,9 @@
 -- `put_field`: the field, then a tab.
 -- Assumes nothing.
-use mathlib.Core.Path.{_≡_, refl, sym, ap, _∙_, subst}
-use mathlib.Core.List.{List, [], _∷_, _++_}
-use Prim.Native.Nat.{ℕ, _+_, _-_, _*_, _<_, _≤_}
-use native.Mathlib.Omega.{arith}
+use mathlib.Core.List.{[], _∷_}
+use Prim.Native.Nat.{_-_}
 use denote.Ref.{now}
-use lib.IntN.{ℤ, pos}
-use lib.ListN.{length, getD, take, drop}
-use Rattle.rules.specs.Table.{rowBytes, rowsBytes, signed}
-use Rattle.decimal.proofs.Writing.{wrote-nil, wrote-as, wrote-then}
+use Rattle.decimal.proofs.Writing.{wrote-then}
 use borrow.Author.Needs.{needs}
 use Rattle.table.proofs.rows.put_field.Statement.{statement}
 use Rattle.table.proofs.rows.put_field.Tie as tie

@@ -1,14 +1,11 @@
 -- `put_last`: the number, then the end of the line.
 -- Assumes nothing.
-use mathlib.Core.Path.{_≡_, refl, sym, ap, _∙_, subst}
-use mathlib.Core.List.{List, [], _∷_, _++_}
-use Prim.Native.Nat.{ℕ, _+_, _-_, _*_, _<_, _≤_}
-use native.Mathlib.Omega.{arith}
+use mathlib.Core.Path.{ap}
+use mathlib.Core.List.{[], _∷_}
+use Prim.Native.Nat.{_-_}
 use denote.Ref.{now}
-use lib.IntN.{ℤ, pos}
-use lib.ListN.{length, getD, take, drop}
-use Rattle.rules.specs.Table.{rowBytes, rowsBytes, signed}
-use Rattle.decimal.proofs.Writing.{wrote-nil, wrote-as, wrote-then}
+use Rattle.rules.specs.Table.{signed}
+use Rattle.decimal.proofs.Writing.{wrote-as, wrote-then}
 use mir.Syntax.{w64}
 use mir.ValLaws.{toZ-ofZ}
 use borrow.Author.Needs.{needs}

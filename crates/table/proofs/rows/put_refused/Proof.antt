@@ -1,12 +1,8 @@
 -- `put_refused`: the word, the number and the two names in turn.
 -- Assumes nothing.
-use mathlib.Core.Path.{_≡_, refl, sym, ap, _∙_}
-use mathlib.Core.List.{List, [], _∷_, _++_}
-use Prim.Native.Nat.{ℕ}
+use mathlib.Core.List.{[], _∷_, _++_}
 use denote.Ref.{now}
-use lib.ListN.{take}
 use Rattle.rules.specs.Lists.{decimalOf}
-use Rattle.rules.specs.Table.{rowBytes, rowsBytes, refusedRow, strataRows, wordAll, wordTotal, wordStratum, wordSource, wordDf}
 use Rattle.decimal.proofs.Writing.{wrote-as, wrote-then}
 use Rattle.table.proofs.RowLaws.{start-refused, refused-bytes}
 use borrow.Author.Needs.{needs}
