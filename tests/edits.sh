@@ -1,6 +1,7 @@
 #!/usr/bin/env bash
-# The prover refused each must-fail edit for the reason that it should: in every function that the edit names with `fails:`, something
-# that has to hold is found not to. It reads what `rt ci` left of the edits it tried.
+# The prover refused each must-fail edit where it should: every function that the edit names with `fails:` has an error of its own. It does
+# not count that a function it calls is not proved, nor that the proof names a step or a place that the edited code has not. It reads
+# what `rt ci` left of the edits it tried. That what is refused is false, and not only written for other code, a reader has to see.
 set -u
 cd "$(dirname "$0")/.." || exit 1
 named=0
@@ -12,12 +13,12 @@ complain() {
   bad=1
 }
 
-# fails LOG FUNCTION: a fact of the function itself is refused; that a function it calls is not proved does not count
+# fails LOG FUNCTION: the function has an error of its own that is no misfit of its proof
 fails() {
   local path=${2#*::}
   path=proofs/${path//:://}/Proof.antt
   if grep -q "/$path:[0-9]*:[0-9]*: error" "$1"; then
-    grep "/$path:[0-9]*:[0-9]*: error" "$1" | grep -v 'so this cannot be checked' | grep -qv 'has no `Need-'
+    grep "/$path:[0-9]*:[0-9]*: error" "$1" | grep -v 'so this cannot be checked' | grep -v 'has no field' | grep -qv 'has no `Need-'
   else
     grep -q "^fn $2: no proof: .*\`search\` does not close" "$1"
   fi
@@ -32,6 +33,9 @@ for edit in crates/*/must-fail/*.edit; do
   fi
   if grep -m 1 ': error' "$log" | grep -q 'has no `Need-'; then
     complain "$edit" 'it only makes the proof unfit for the code'
+  fi
+  if grep -q '^file: src/' "$edit" && ! grep -q '^fails: ' "$edit"; then
+    complain "$edit" 'it changes code and names no function'
   fi
   for function in $(sed -n 's/^fails: //p' "$edit"); do
     named=$((named + 1))

@@ -62,6 +62,12 @@ pub count-no : (k : ℕ) (p : ℕ → Bool) → p k ≡ false → count (suc k) 
 unfolding count
 count-no k p e = rw (e, count)
 
+-- a test that no plot passes
+pub count-none : (n : ℕ) (p : ℕ → Bool) → ((v : ℕ) → v < n → p v ≡ false) → count n p ≡ 0
+unfolding count
+count-none zero p h = refl
+count-none (suc k) p h = count-no k p (h k (le-refl _)) ∙ count-none k p (λ v hv. h v (omega arith))
+
 pub count-same : (n : ℕ) (p q : ℕ → Bool) → ((u : ℕ) → u < n → p u ≡ q u) → count n p ≡ count n q
 unfolding count
 count-same zero p q h = refl

@@ -13,14 +13,9 @@ use Rattle.rules.specs.Factor.{Column, at, count, same, classes, classSi
 use Rattle.rules.proofs.Numbering.{by-cases}
 use Rattle.rules.proofs.Supremum.{equivalent-sym}
 use Rattle.rules.proofs.ClassCount.{at-up, finer-universal, one-class, each-class}
-use Rattle.rules.proofs.Tests.{count-yes, count-no, size-same, uniform-equivalent, uniform-test}
+use Rattle.rules.proofs.Tests.{count-yes, count-no, count-none, size-same, uniform-equivalent, uniform-test}
 
--- none, or just one, passes
-count-none : (n : ℕ) (p : ℕ → Bool) → ((v : ℕ) → v < n → p v ≡ false) → count n p ≡ 0
-unfolding count
-count-none zero p h = refl
-count-none (suc k) p h = count-no k p (h k (omega arith)) ∙ count-none k p (λ v l. h v (omega arith))
-
+-- just one plot passes
 count-one : (n : ℕ) (p : ℕ → Bool) (u : ℕ) → u < n → p u ≡ true → ((v : ℕ) → v < n → (u ≡ v → ⊥) → p v ≡ false) → count n p ≡ 1
 count-one zero p u l e h = absurd (not-suc-le-zero l)
 count-one (suc k) p u l e h =

@@ -13,11 +13,11 @@ use lib.Seq.{getD-set-same, getD-set-other}
 use borrow.Author.Tests.{eqb-true, eqb-false, eq-eqb}
 use Rattle.rules.specs.Factor.{Column, at, count}
 use Rattle.rules.proofs.Numbering.{by-cases}
-use Rattle.rules.proofs.Tests.{count-same}
+use Rattle.rules.proofs.Tests.{count-none, count-same}
 use Rattle.rules.proofs.Walks.{bool-false}
 use Rattle.factor.specs.Sizes.{labelled}
 use Rattle.standing.specs.Cells.{labelledBoth, Inside, CellSizes, Listed, cellSize, sumAt}
-use Rattle.standing.proofs.CellTable.{and-both, both-and, and-false, count-none, stays, added, count-split}
+use Rattle.standing.proofs.CellTable.{and-both, both-and, and-false, stays, added, count-split}
 use Rattle.standing.proofs.Listing.{listed-inside}
 
 -- ---- sums by label

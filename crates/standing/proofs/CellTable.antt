@@ -13,7 +13,7 @@ use lib.Seq.{getD-set-same, getD-set-other}
 use borrow.Author.Tests.{eqb-true, eqb-false, eq-eqb, ne-eqb, ltb-true, ltb-false, lt-ltb, le-ltb}
 use Rattle.rules.specs.Factor.{Column, at, every, count, classSize, overlap, infimum, supremum, orthogonal}
 use Rattle.rules.proofs.Numbering.{by-cases}
-use Rattle.rules.proofs.Tests.{every-at, every-all, count-yes, count-no, count-same, size-equivalent}
+use Rattle.rules.proofs.Tests.{every-at, every-all, count-yes, count-no, count-none, count-same, size-equivalent}
 use Rattle.rules.proofs.Walks.{bool-false, count-le}
 use Rattle.rules.proofs.Orthogonality.{same-test, overlap-infimum, orthogonal-test-plots}
 use Rattle.factor.specs.Sizes.{labelled}
@@ -97,12 +97,6 @@ count-all : (n : ℕ) (p : ℕ → Bool) → ((v : ℕ) → v < n → p v ≡ tr
 unfolding count
 count-all zero p h = refl
 count-all (suc k) p h = count-yes k p (h k (le-refl _)) ∙ ap suc (count-all k p (λ v hv. h v (omega arith)))
-
--- a test that no plot passes
-pub count-none : (n : ℕ) (p : ℕ → Bool) → ((v : ℕ) → v < n → p v ≡ false) → count n p ≡ 0
-unfolding count
-count-none zero p h = refl
-count-none (suc k) p h = count-no k p (h k (le-refl _)) ∙ count-none k p (λ v hv. h v (omega arith))
 
 -- of three tests the third passes where one of the others does, and they never do both
 pub data Split (a b c : Bool) : Type 0 where
