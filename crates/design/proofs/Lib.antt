@@ -1,3 +1,5 @@
+pub mod PointLaws
+pub mod Lifting
 pub mod Search
 pub mod Asked
 pub mod Order
@@ -16,3 +18,4 @@ pub mod Judge
 pub mod Answered
 pub mod FullAnswered
 pub mod WithTreatments
+pub mod Pasted

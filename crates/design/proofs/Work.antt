@@ -243,6 +243,20 @@ makes-self false n F H lF e m = List·Memᴰ·eq-of-singleton m ∙ supremum-sel
 
 -- ---- the work in a store
 
+-- the members make themselves
+pub work-self : {n : ℕ} {infima : Bool} {Gs : List Column} {store counts marks : List ℕ} {size i j : ℕ} → Work n infima Gs store counts marks size i j → Work n infima (membersOf n store size) store counts marks size i j
+work-self w = record {
+  held = w .held;
+  cells = w .cells;
+  numbered = w .numbered;
+  found = record { distinct = w .found .distinct; only = λ G m. given m };
+  given = λ G m. m;
+  combined = record { rows = w .combined .rows; row = w .combined .row };
+  rows = w .rows;
+  row = w .row;
+  joins = w .joins;
+}
+
 -- before the first pair
 pub work-begun : {n : ℕ} (infima : Bool) {Gs : List Column} {store counts marks : List ℕ} {size : ℕ} → Begun n Gs store counts size → length marks ≡ 1024 → Work n infima Gs store counts marks size 0 0
 work-begun {n} infima {Gs} {store} {size = size} b l = record {

@@ -5,3 +5,4 @@ pub mod Answers
 pub mod Treatments
 pub mod Crossing
 pub mod Closings
+pub mod Points

@@ -5,10 +5,10 @@ ghost use mathlib.Core.List.{List, [], _∷_, _++_};
 ghost use Prim.Native.Nat.{_≤_};
 ghost use lib.ListN.{length};
 ghost use Rattle.rules.specs.Factor.{Column, equality};
-ghost use Rattle.rules.specs.Family.{columnsFrom, membersOf};
+ghost use Rattle.rules.specs.Family.{_∈_, columnsFrom, membersOf};
 ghost use Rattle.rules.specs.Closing.{plotFamily, treatmentGenerators};
 ghost use Rattle.rules.specs.Design.{question8, plotBuffer};
-ghost use Rattle.design.specs.State.{Begun};
+ghost use Rattle.design.specs.State.{Begun, Work};
 ghost use Rattle.design.specs.Judging.{Listed, PlotListed};
 ghost use Rattle.design.specs.Treatments.{AllPlaced};
 ghost use Rattle.design.specs.Closings.{closedIn, Ready};
@@ -18,6 +18,8 @@ use crate::closing::close;
 use crate::closing::close_or_grow;
 use crate::columns::equality;
 use crate::columns::place_plot_columns;
+use crate::points::close_points;
+use crate::points::meet_members;
 use crate::sorting::sort;
 use crate::sorting::write;
 use crate::store::place;
@@ -28,6 +30,7 @@ use crate::treatments::place_infima;
 use limits::COLUMNS;
 use limits::Level;
 use limits::MEMBERS;
+use limits::PLOTS;
 
 // U, E and three columns: fewer make one pair at most.
 const CROSSED: usize = 5;
@@ -38,21 +41,22 @@ pub struct ClosedFamily {
     pub order: [u8; MEMBERS],
 }
 
-// Closes the family that starts from the first `start` members of a store, marks its pairs, and writes it in its order where it is
-// not too large.
+// Closes the family that starts from the first `start` members of a store, of which those before place `from` are combined with each
+// other; marks its pairs, and writes it in its order where it is not too large.
 pub fn close_family(
     store: &mut [u8],
     counts: &mut [u8; MEMBERS],
     marks: &mut [u8; PAIRS],
     start: usize,
+    from: usize,
     n: usize,
     infima: bool,
     family: &mut [u8],
 ) -> ClosedFamily
-    requires { ⌜ Begun n (membersOf n (now store) start) (now store) (now counts) start × (length (now marks) ≡ 1024) × (7680 ≤ length (now family)) ⌝ }
-    ensures { λ r. ⌜ ((Gs : List Column) → Begun n Gs (now (store .entry)) (now (counts .entry)) start → Listed n infima Gs (now (family .entry)) (now (family .exit)) (now (marks .exit)) (r .order) (r .size)) ⌝ }
+    requires { ⌜ Work n infima (membersOf n (now store) start) (now store) (now counts) (now marks) start from 0 × (from ≤ start) × (7680 ≤ length (now family)) ⌝ }
+    ensures { λ r. ⌜ ((Gs : List Column) → Work n infima Gs (now (store .entry)) (now (counts .entry)) (now (marks .entry)) start from 0 → Listed n infima Gs (now (family .entry)) (now (family .exit)) (now (marks .exit)) (r .order) (r .size)) ⌝ }
 {
-    let size = close(store, counts, marks, start, n, infima);
+    let size = close(store, counts, marks, start, from, n, infima);
     if size == TOO_MANY {
         let order = [0u8; MEMBERS];
         return ClosedFamily { size, order };
@@ -84,7 +88,7 @@ fn place_plot_infima(
 }
 
 // The answer for a family that is too large.
-fn too_many() -> ClosedFamily
+pub fn too_many() -> ClosedFamily
     ensures { λ r. ⌜ r .size ≡ 33 ⌝ }
 {
     let order = [0u8; MEMBERS];
@@ -121,7 +125,7 @@ fn close_by_infima(
         write(store, &order, n, size, plot);
         return ClosedFamily { size, order };
     }
-    close_family(store, counts, marks, size, n, true, plot)
+    close_family(store, counts, marks, size, 0, n, true, plot)
 }
 
 // The product of a number and a number of classes.
@@ -149,6 +153,45 @@ fn look_crossed(counts: &[u8; MEMBERS], size: usize, n: usize) -> bool
     true
 }
 
+// Whether three plot columns or more, placed after U and E, have few classes: there may be few points then. Any answer is right; this one
+// is quick.
+fn few_classes(counts: &[u8; MEMBERS], size: usize, n: usize) -> bool
+    requires { ⌜ (size ≤ 32) × (n ≤ 240) ⌝ }
+{
+    if size < CROSSED {
+        return false;
+    }
+    for i in 2..size {
+        if n <= times(4, counts[i]) {
+            return false;
+        }
+    }
+    true
+}
+
+// Closes the plot family that starts from U, E and columns, on the points of these where there are few.
+fn close_columns(
+    store: &mut [u8],
+    counts: &mut [u8; MEMBERS],
+    marks: &mut [u8; PAIRS],
+    start: usize,
+    n: usize,
+    family: &mut [u8],
+) -> ClosedFamily
+    requires { ⌜ Begun n (membersOf n (now store) start) (now store) (now counts) start × (equality n ∈ membersOf n (now store) start) × (length (now marks) ≡ 1024) × (7680 ≤ length (now family)) ⌝ }
+    ensures { λ r. ⌜ ((Gs : List Column) → Begun n Gs (now (store .entry)) (now (counts .entry)) start → Listed n true Gs (now (family .entry)) (now (family .exit)) (now (marks .exit)) (r .order) (r .size)) ⌝ }
+{
+    if !few_classes(counts, start, n) {
+        return close_family(store, counts, marks, start, 0, n, true, family);
+    }
+    let mut points = [1u8; PLOTS];
+    let m = meet_members(store, counts, start, n, &mut points);
+    if n < 2 * m {
+        return close_family(store, counts, marks, start, 0, n, true, family);
+    }
+    close_points(store, counts, marks, start, n, &points, m, family)
+}
+
 // Closes the plot family and writes it in its order, where it is not too large.
 pub fn close_plot_family(
     levels: &[Level],
@@ -168,5 +211,5 @@ pub fn close_plot_family(
     if look_crossed(&counts, start, n) {
         return close_by_infima(levels, n, columns, store, &mut counts, marks, plot);
     }
-    close_family(store, &mut counts, marks, start, n, true, plot)
+    close_columns(store, &mut counts, marks, start, n, plot)
 }

@@ -354,22 +354,23 @@ fn combine_row(
     now
 }
 
-// Closes the family; answers its size, or TOO_MANY.
+// Closes the family, of which the members before place `from` are combined with each other; answers its size, or TOO_MANY.
 pub fn close(
     store: &mut [u8],
     counts: &mut [u8; MEMBERS],
     marks: &mut [u8; PAIRS],
     size: usize,
+    from: usize,
     n: usize,
     infima: bool,
 ) -> usize
-    requires { ⌜ Held n (now store) (now counts) size ⌝ }
+    requires { ⌜ Held n (now store) (now counts) size × (from ≤ size) ⌝ }
     ensures kept { λ r. ⌜ Kept n (now (store .exit)) (now (counts .exit)) size r ⌝ }
-    ensures closes { λ r. ⌜ ((Gs : List Column) → Work n infima Gs (now (store .entry)) (now (counts .entry)) (now (marks .entry)) size 0 0 → Closed n infima Gs (now (store .exit)) (now (counts .exit)) (now (marks .exit)) r) ⌝ }
+    ensures closes { λ r. ⌜ ((Gs : List Column) → Work n infima Gs (now (store .entry)) (now (counts .entry)) (now (marks .entry)) size from 0 → Closed n infima Gs (now (store .exit)) (now (counts .exit)) (now (marks .exit)) r) ⌝ }
 {
     let mut above = [0u32; MEMBERS];
     let mut now = size;
-    let mut i = 0;
+    let mut i = from;
     while i < now {
         now = combine_row(store, counts, marks, &mut above, now, n, infima, i);
         if now == TOO_MANY {

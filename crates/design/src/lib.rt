@@ -15,6 +15,7 @@ mod columns;
 mod crossing;
 mod following;
 mod nesting;
+mod points;
 mod questions;
 mod sorting;
 mod steps;

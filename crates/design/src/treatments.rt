@@ -238,5 +238,5 @@ fn first_by(
         let order = [0u8; MEMBERS];
         return ClosedFamily { size: start, order };
     }
-    close_family(store, &mut counts, marks, start, n, false, family)
+    close_family(store, &mut counts, marks, start, 0, n, false, family)
 }

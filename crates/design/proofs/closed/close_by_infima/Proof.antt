@@ -3,7 +3,7 @@
 use mathlib.Core.Path.{_≡_, refl, sym, ap, _∙_, subst}
 use mathlib.Core.Bool.{true, false}
 use mathlib.Core.List.{List}
-use Prim.Native.Nat.{ℕ, _≤_, _<_}
+use Prim.Native.Nat.{ℕ, _≤_, _<_, zero-le}
 use native.Mathlib.Omega.{arith}
 use borrow.Author.Needs.{needs}
 use denote.Ref.{now}
@@ -126,7 +126,7 @@ close-family-requires c κs =
     let g = l .before .before .before in
     let p = placed g in
     let o = grows-own (l .if2 .left) (grows g) in
-    (o .begun, o .cells, start p .pre .4)
+    (work-begun true (o .begun) (o .cells), zero-le, start p .pre .4)
 
 same-length-5 : tie.Need-same-length-5
 same-length-5 c = search needs
@@ -141,7 +141,7 @@ returns-4 c =
     let g = l .before .before .before in
     let p = placed g in
     let o = grows-own (l .if2 .left) (grows g) in
-    plot-grown (on p) (membersOf (start p .args .n) (g .close-or-grow .last .0) (g .close-or-grow .result)) (o .only) (o .given) (f .close-family .ensures (membersOf (start p .args .n) (g .close-or-grow .last .0) (g .close-or-grow .result)) (o .begun))
+    plot-grown (on p) (membersOf (start p .args .n) (g .close-or-grow .last .0) (g .close-or-grow .result)) (o .only) (o .given) (f .close-family .ensures (membersOf (start p .args .n) (g .close-or-grow .last .0) (g .close-or-grow .result)) (work-begun true (o .begun) (o .cells)))
 
 pub close-by-infima-spec : {M : Type 1} → statement M
 close-by-infima-spec =

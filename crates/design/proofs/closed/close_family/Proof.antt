@@ -10,9 +10,8 @@ use lib.ListN.{getD}
 use Rattle.rules.specs.Factor.{Column}
 use Rattle.rules.specs.Family.{membersOf}
 use Rattle.rules.proofs.Buffer.{length-members}
-use Rattle.design.specs.State.{Begun, Work, Closed}
+use Rattle.design.specs.State.{Work, Closed}
 use Rattle.design.specs.Judging.{unlisted}
-use Rattle.design.proofs.Work.{work-begun}
 use Rattle.design.proofs.Choosing.{closed-on, closed-over}
 use Rattle.design.proofs.Judge.{family-listed}
 use Rattle.design.proofs.closed.close_family.Statement.{statement}
@@ -23,9 +22,9 @@ abbrev start : tie.After-close → tie.Start
 start q = q .before .before .before .before .before .before
 
 -- what closing answers for any columns that the members are made of
-closed : (q : tie.After-close) (Gs : List Column) → Begun (start q .args .n) Gs (now (start q .args .store)) (now (start q .args .counts)) (start q .args .start)
+closed : (q : tie.After-close) (Gs : List Column) → Work (start q .args .n) (start q .args .infima) Gs (now (start q .args .store)) (now (start q .args .counts)) (now (start q .args .marks)) (start q .args .start) (start q .args .from) 0
     → Closed (start q .args .n) (start q .args .infima) Gs (q .close .last .0) (q .close .last .1 .0) (q .close .last .1 .1 .0) (q .close .result)
-closed q Gs b = q .close .ensures .1 Gs (work-begun (start q .args .infima) b (start q .pre .1))
+closed q Gs w = q .close .ensures .1 Gs w
 
 -- the members themselves are such columns
 abbrev own : tie.After-close → List Column
@@ -36,7 +35,7 @@ work : (q : tie.After-close) → (q .close .result ≡ 33 → ⊥) → Work (sta
 work q d = closed-on d (closed q (own q) (start q .pre .0)) .0
 
 close-requires : tie.Need-close-requires
-close-requires c κs = c .before .before .before .before .before .pre .0 .held
+close-requires c κs = let s = c .before .before .before .before .before in (s .pre .0 .held, s .pre .1)
 
 same-length : tie.Need-same-length
 same-length c = search needs

@@ -1,12 +1,13 @@
 -- `closed::close_plot_family` meets its contract: the family is closed and written, by the infima of its columns or from the columns.
 -- Assumes nothing.
-use mathlib.Core.Path.{_≡_}
-use mathlib.Core.List.{List}
+use mathlib.Core.Path.{_≡_, refl}
+use mathlib.Core.List.{List, List·Memᴰ·head, List·Memᴰ·tail}
+use Prim.Native.Nat.{ℕ}
 use native.Mathlib.Omega.{arith}
 use denote.Ref.{now}
 use borrow.Author.Needs.{needs}
 use lib.ListN.{length}
-use Rattle.rules.specs.Factor.{Column}
+use Rattle.rules.specs.Factor.{Column, equality}
 use Rattle.rules.specs.Family.{_∈_, columnsFrom}
 use Rattle.rules.specs.Closing.{plotGenerators}
 use Rattle.rules.proofs.Demand3.{column-length}
@@ -35,6 +36,11 @@ close-by-infima-requires c κs =
     let held = p .place-plot-columns .ensures .held in
     (s .pre .0, s .pre .1, s .pre .2, s .pre .3, s .pre .4, held .room, held .places, s .pre .6)
 
+-- E is among the columns that the family starts from
+has-equality : (n : ℕ) (Fs : List Column) → equality n ∈ plotGenerators n Fs
+unfolding plotGenerators
+has-equality n Fs = List·Memᴰ·tail (List·Memᴰ·head refl)
+
 same-length : tie.Need-same-length
 same-length c = search needs
 
@@ -60,10 +66,10 @@ returns c =
       ),
     )
 
-close-family-requires : tie.Need-close-family-requires
-close-family-requires c κs =
+close-columns-requires : tie.Need-close-columns-requires
+close-columns-requires c κs =
     let p = c .before .before .before .before .before .before .before .before .before in
-    (begun-own (p .place-plot-columns .ensures), start p .pre .6, start p .pre .4)
+    (begun-own (p .place-plot-columns .ensures), p .place-plot-columns .ensures .given _ (has-equality (start p .args .n) (columnsFrom (start p .args .n) (now (start p .args .levels)) 0 (start p .args .columns))), start p .pre .6, start p .pre .4)
 
 same-length-3 : tie.Need-same-length-3
 same-length-3 c = search needs
@@ -78,7 +84,7 @@ returns-2 c =
     let s = start p in
     let n = s .args .n in
     let Fs : List Column = columnsFrom n (now (s .args .levels)) 0 (s .args .columns) in
-    let l = by-counts (f .close-family .ensures (plotGenerators n Fs) (p .place-plot-columns .ensures)) in (
+    let l = by-counts (f .close-columns .ensures (plotGenerators n Fs) (p .place-plot-columns .ensures)) in (
       plot-held n (s .pre .1) (s .pre .0) Fs (on s) _ _ _ _ _ (s .pre .4) l,
       (
         plot-left n (s .pre .1) (s .pre .0) Fs (on s) _ _ _ _ _ (s .pre .4) l,
@@ -96,7 +102,7 @@ close-plot-family-spec =
     same-length
     same-length-2
     returns
-    close-family-requires
+    close-columns-requires
     same-length-3
     same-length-4
     returns-2)

@@ -14,14 +14,14 @@ use Rattle.design.proofs.closing.close.Statement.{statement}
 use Rattle.design.proofs.closing.close.Tie as tie
 
 abbrev Inv-loop : tie.InvT-loop
-Inv-loop store₀ counts₀ marks₀ size n infima above₀ now₀ i₀ store counts marks above now i =
-    (i ≤ now) × Held n store counts now × (size ≤ now) × ((Gs : List Column) → Work n infima Gs store₀ counts₀ marks₀ size 0 0 → Work n infima Gs store counts marks now i 0) × Known n store above now
+Inv-loop store₀ counts₀ marks₀ size from n infima above₀ now₀ i₀ store counts marks above now i =
+    (i ≤ now) × Held n store counts now × (size ≤ now) × ((Gs : List Column) → Work n infima Gs store₀ counts₀ marks₀ size from 0 → Work n infima Gs store counts marks now i 0) × Known n store above now
 
 abbrev μ-loop : tie.MeasureT-loop
-μ-loop store₀ counts₀ marks₀ size n infima above₀ now₀ i₀ store counts marks above now i = 33 - i
+μ-loop store₀ counts₀ marks₀ size from n infima above₀ now₀ i₀ store counts marks above now i = 33 - i
 
 loop-holds : tie.Need-loop-holds Inv-loop μ-loop
-loop-holds c = (omega arith, c .before .pre, omega arith, λ Gs w. w, known-none (c .before .args .n) (now (c .before .args .store)) (c .before .args .size))
+loop-holds c = (c .before .pre .1, c .before .pre .0, omega arith, λ Gs w. w, known-none (c .before .args .n) (now (c .before .args .store)) (c .before .args .size))
 
 combine-row-requires : tie.Need-combine-row-requires Inv-loop μ-loop
 combine-row-requires c κs =
@@ -32,7 +32,7 @@ same-length : tie.Need-same-length Inv-loop μ-loop
 same-length c =
     let b = c .before .before .before in
     let l = b .before .before .before .before .before .before in
-    omega (arith, b .combine-row .kept .0, l .loop .inv .1 .room, l .before .before .pre .room)
+    omega (arith, b .combine-row .kept .0, l .loop .inv .1 .room, l .before .before .pre .0 .room)
 
 returns : tie.Need-returns Inv-loop μ-loop
 returns c =
@@ -64,7 +64,7 @@ loop-again c =
     )
 
 same-length-2 : tie.Need-same-length-2 Inv-loop μ-loop
-same-length-2 c = omega (arith, c .before .loop .inv .1 .room, c .before .before .before .pre .room)
+same-length-2 c = omega (arith, c .before .loop .inv .1 .room, c .before .before .before .pre .0 .room)
 
 returns-2 : tie.Need-returns-2 Inv-loop μ-loop
 returns-2 c =

@@ -1,8 +1,9 @@
 -- `first_by` meets its contract: the infima are placed, and the family is closed.
 -- Assumes nothing.
 use mathlib.Core.Path.{_≡_, refl, subst}
+use mathlib.Core.Bool.{false}
 use mathlib.Core.List.{List, append-nil}
-use Prim.Native.Nat.{ℕ}
+use Prim.Native.Nat.{ℕ, zero-le}
 use native.Mathlib.Omega.{arith}
 use borrow.Author.Needs.{needs}
 use denote.Ref.{now}
@@ -14,6 +15,7 @@ use Rattle.design.specs.Treatments.{AllPlaced}
 use Rattle.design.specs.Judging.{unlisted}
 use Rattle.design.proofs.Choosing.{all-on, all-over, begun-own}
 use Rattle.design.proofs.Start.{held-none, begun-none}
+use Rattle.design.proofs.Work.{work-begun}
 use Rattle.design.proofs.treatments.first_by.Statement.{statement}
 use Rattle.design.proofs.treatments.first_by.Tie as tie
 
@@ -52,7 +54,7 @@ close-family-requires : tie.Need-close-family-requires
 close-family-requires c κs =
     let l = c .before .before .before .before in
     let p = l .before .before .before .before .before in
-    (begun-own (all-on (l .if1 .left) (placed p)), start p .pre .8, start p .pre .6)
+    (work-begun false (begun-own (all-on (l .if1 .left) (placed p))) (start p .pre .8), zero-le, start p .pre .6)
 
 same-length-3 : tie.Need-same-length-3
 same-length-3 c = search needs
@@ -68,7 +70,7 @@ returns-2 c =
     let z = c .before .before .before .before in
     let l = z .before .before .before .before .before in
     let p = l .before .before .before .before .before in
-    z .close-family .ensures (generators p) (all-on (l .if1 .left) (placed p))
+    z .close-family .ensures (generators p) (work-begun false (all-on (l .if1 .left) (placed p)) (start p .pre .8))
 
 pub first-by-spec : {M : Type 1} → statement M
 first-by-spec =

@@ -1,0 +1,274 @@
+-- Laws of a family that is closed on points: what its members make there is what they make on the plots, and E is one member more.
+-- Assumes nothing.
+use mathlib.Core.Path.{_≡_, refl, sym, ap, ap₂, _∙_, subst}
+use mathlib.Core.Logic.{_⊎_, inl, inr, ⊎-elim}
+use mathlib.Core.Bool.{true}
+use mathlib.Core.List.{List, [], _∷_, _++_, map, List·Memᴰ·head, List·Memᴰ·tail, List·Memᴰ·cases-cons, List·Memᴰ·not-nil, List·Memᴰ·append-cases, List·Memᴰ·eq-of-singleton, Memᴰ·append-left, Memᴰ·append-right, Memᴰ·map, Memᴰ·of-map}
+use Prim.Native.Nat.{ℕ, zero, suc, _+_, _≤_, _<_, suc-le-suc, zero-le}
+use native.Mathlib.Nat.{not-suc-le-zero, le-of-suc-le-suc}
+use native.Mathlib.Omega.{arith}
+use lib.ListN.{length, getD, take, List·getD-append}
+use lib.Seq.{take-take}
+use Rattle.rules.specs.Factor.{Column, number, classes, infimum, supremum, equality}
+use Rattle.rules.specs.Family.{Family, _∈_, Distinct, none-left, apart, columnsFrom, membersOf}
+use Rattle.rules.specs.Closing.{both, Made, given, made, tooMany, close}
+use Rattle.rules.specs.Relation.{memberAt}
+use Rattle.rules.proofs.Bounds.{length-infimum′, length-supremum′}
+use Rattle.rules.proofs.Numbering.{length-number}
+use Rattle.rules.proofs.ClassCount.{classes-most}
+use Rattle.rules.proofs.Extremes.{number-equality}
+use Rattle.rules.proofs.Closing.{close-too-many}
+use Rattle.rules.proofs.WorkList.{member-in, Found, found-more, found-over, Combined}
+use Rattle.design.specs.State.{columnIn, Held, Placed, full, old, new, grownTo, Begun, Work}
+use Rattle.design.specs.Points.{Points, onPlots, Gathered, Generates}
+use Rattle.design.proofs.Common.{column-length}
+use Rattle.design.proofs.PointLaws.{plots-apart, classes-plots, number-plots, infimum-plots, supremum-plots, counts-plots, plots-few, plots-part, points-some}
+use Rattle.design.proofs.Start.{After, after-placed, held-none}
+use Rattle.design.proofs.Work.{Stood, size-members, member-length}
+
+-- ---- lists of columns
+
+-- a member of a list that is made by a function
+map-member : (f : Column → Column) (S : Family) (i : ℕ) → i < length S → memberAt (map f S) i ≡ f (memberAt S i)
+map-member f [] i h = absurd (not-suc-le-zero h)
+map-member f (F ∷ S) zero h = refl
+map-member f (F ∷ S) (suc i) h = map-member f S i (le-of-suc-le-suc h)
+
+length-map : (f : Column → Column) (S : Family) → length (map f S) ≡ length S
+length-map f [] = refl
+length-map f (F ∷ S) = ap suc (length-map f S)
+
+-- the columns of one table, made by a function from those of another
+columns-map : (f : Column → Column) (n m : ℕ) (a b : List ℕ) (k c : ℕ) → ((i : ℕ) → c ≤ i → i < c + k → columnIn n a i ≡ f (columnIn m b i)) → columnsFrom n a c k ≡ map f (columnsFrom m b c k)
+unfolding columnsFrom
+columns-map f n m a b zero c h = refl
+columns-map f n m a b (suc k) c h = ap₂ (λ (F : Column) (S : Family). F ∷ S) (h c (omega arith) (omega arith)) (columns-map f n m a b k (suc c) (λ i l u. h i (omega arith) (omega arith)))
+
+-- ---- what columns of points make
+
+module _ {n m : ℕ} {p : Column} (P : Points n m p) where
+  -- two columns make the same on points and on plots
+  both-plots : (F G H : Column) → length F ≡ m → length G ≡ m → H ∈ both F G → onPlots p H ∈ both (onPlots p F) (onPlots p G)
+  unfolding both
+  both-plots F G H lF lG k =
+      ⊎-elim
+      (λ e. List·Memᴰ·head (ap (onPlots p) e ∙ sym (infimum-plots P F G lF lG)))
+      (λ j. List·Memᴰ·tail (List·Memᴰ·head (ap (onPlots p) (List·Memᴰ·eq-of-singleton j) ∙ sym (supremum-plots P F G lF lG))))
+      (List·Memᴰ·cases-cons k)
+
+  both-points : (F G H : Column) → length F ≡ m → length G ≡ m → H ∈ both (onPlots p F) (onPlots p G) → (K : Column) × (K ∈ both F G) × (onPlots p K ≡ H)
+  unfolding both
+  both-points F G H lF lG k =
+      ⊎-elim
+      (λ e. (infimum F G, List·Memᴰ·head refl, sym (e ∙ infimum-plots P F G lF lG)))
+      (λ j. (supremum F G, List·Memᴰ·tail (List·Memᴰ·head refl), sym (List·Memᴰ·eq-of-singleton j ∙ supremum-plots P F G lF lG)))
+      (List·Memᴰ·cases-cons k)
+
+  -- it has the points of both
+  both-length : (F G H : Column) → length F ≡ m → length G ≡ m → H ∈ both F G → length H ≡ m
+  unfolding both
+  both-length F G H lF lG k =
+      ⊎-elim
+      (λ e. ap length e ∙ length-infimum′ m F G lF lG)
+      (λ j. ap length (List·Memᴰ·eq-of-singleton j) ∙ length-supremum′ m F G lF lG)
+      (List·Memᴰ·cases-cons k)
+
+  -- different columns of points are different columns of plots
+  distinct-plots : (S : Family) → Distinct S → ((F : Column) → F ∈ S → length F ≡ m) → Distinct (map (onPlots p) S)
+  distinct-plots [] none-left on = none-left
+  distinct-plots (F ∷ S) (apart d e) on = apart (λ k. go (Memᴰ·of-map (onPlots p) S k)) (distinct-plots S e (λ G k. on G (List·Memᴰ·tail k)))
+    where
+      go : (G : Column) × (G ∈ S) × (onPlots p G ≡ onPlots p F) → ⊥
+      go (G, k, q) = d (subst (λ (H : Column). H ∈ S) (plots-apart P G F (on G (List·Memᴰ·tail k)) (on F (List·Memᴰ·head refl)) q) k)
+
+  module _ {Fs Gs : List Column} (g : Generates n m p Fs Gs) where
+    made-length : (F : Column) → Made both Fs F → length F ≡ m
+    made-length F (given k) = g .plots F k
+    made-length H (made {F} {G} a b k) = both-length F G H (made-length F a) (made-length G b) k
+
+    -- what is made on points is made on plots
+    made-plots : (F : Column) → Made both Fs F → Made both Gs (onPlots p F)
+    made-plots F (given k) = given (g .only F k)
+    made-plots H (made {F} {G} a b k) = made (made-plots F a) (made-plots G b) (both-plots F G H (made-length F a) (made-length G b) k)
+
+    -- too many on points are too many on plots
+    pub points-over : close both Fs ≡ tooMany → close both Gs ≡ tooMany
+    points-over e =
+        close-too-many both Gs .1 (λ few. close-too-many both Fs .0 e (λ S d f. rw (← length-map (onPlots p) S) (few (map (onPlots p) S) (distinct-plots S d (λ F k. made-length F (f F k))) (λ H k. go S f H (Memᴰ·of-map (onPlots p) S k)))))
+      where
+        go : (S : Family) → ((F : Column) → F ∈ S → Made both Fs F) → (H : Column) → (F : Column) × (F ∈ S) × (onPlots p F ≡ H) → Made both Gs H
+        go S f H (F, k, q) = subst (Made both Gs) q (made-plots F (f F k))
+
+    -- ---- the members once they are on the plots
+
+    module _ {own counts marks : List ℕ} {r : ℕ} (w : Work m true Fs own counts marks r r 0) (few : m < n) (small : n ≤ 240) (store : List ℕ) (room : length store ≡ 7680)
+        (spread : (i : ℕ) → i < r → columnIn n store i ≡ onPlots p (columnIn 240 own i)) where
+      -- a member on points, and as a column of plots
+      spread-column : (i : ℕ) → i < r → columnIn n store i ≡ onPlots p (columnIn m own i)
+      spread-column i h =
+          spread i h
+          ∙ sym (plots-part P (columnIn 240 own i))
+          ∙ ap (onPlots p) (take-take m 240 _ (omega arith))
+
+      abbrev S : Family
+      S = membersOf m own r
+
+      abbrev T : Family
+      T = map (onPlots p) (membersOf m own r)
+
+      plots-members : membersOf n store r ≡ T
+      unfolding membersOf
+      plots-members = columns-map (onPlots p) n m store own r 0 (λ i l u. spread-column i (omega arith))
+
+      on : (F : Column) → F ∈ S → length F ≡ m
+      on = member-length (w .held)
+
+      sizeT : length T ≡ r
+      sizeT = length-map (onPlots p) S ∙ size-members (w .held)
+
+      -- they are held
+      pub spread-held : Held n store counts r
+      spread-held = record {
+        some = omega arith;
+        most = small;
+        room = room;
+        places = w .held .places;
+        few = w .held .few;
+        counted = λ i h. w .held .counted i h ∙ sym (ap classes (spread-column i h) ∙ classes-plots P (columnIn m own i) (column-length m own i (w .held .most) (w .held .room) (omega (arith, w .held .few))));
+      }
+
+      -- E is not among them
+      not-equality : equality n ∈ T → ⊥
+      not-equality k = go (Memᴰ·of-map (onPlots p) S k)
+        where
+          go : (F : Column) × (F ∈ S) × (onPlots p F ≡ equality n) → ⊥
+          go (F, j, q) = plots-few P F (on F j) few q
+
+      found-plots : Found both Gs T
+      found-plots = record { distinct = distinct-plots S (w .found .distinct) on; only = λ H k. go H (Memᴰ·of-map (onPlots p) S k) }
+        where
+          go : (H : Column) → (F : Column) × (F ∈ S) × (onPlots p F ≡ H) → Made both Gs H
+          go H (F, k, q) = subst (Made both Gs) q (made-plots F (w .found .only F k))
+
+      -- there is no room for E
+      pub equality-over : {q : ℕ} {store′ counts′ : List ℕ} → Placed n (membersOf n store r) (equality n) q store′ counts′ → q ≡ 32 → close both Gs ≡ tooMany
+      equality-over (full e l f) z = found-over both Gs T found-plots (equality n) (given (g .equal)) not-equality (omega (arith, ap length plots-members))
+      equality-over (old h is held same) z = absurd (omega (arith, w .held .few, ap length plots-members, sizeT))
+      equality-over (new e h f held same) z = absurd (omega arith)
+
+      member-plots : (i : ℕ) → i < r → memberAt (T ++ equality n ∷ []) i ≡ onPlots p (memberAt S i)
+      member-plots i h = List·getD-append T (equality n ∷ []) [] i (omega (arith, sizeT)) ∙ map-member (onPlots p) S i (omega (arith, size-members (w .held)))
+
+      member-points : (i : ℕ) → i < r → length (memberAt S i) ≡ m
+      member-points i h = on (memberAt S i) (member-in S i (omega (arith, size-members (w .held))))
+
+      -- with E, all pairs are combined but those of E
+      pub with-equality : {q : ℕ} {store′ counts′ : List ℕ} {size : ℕ} → Stood n (membersOf n store r) (equality n) q store′ counts′ size → Work n true Gs store′ counts′ marks size r 0
+      with-equality {q} {store′} {counts′} {size} s = record {
+        held = s .held;
+        cells = w .cells;
+        numbered = λ F k. numbered F (List·Memᴰ·append-cases T (cast k));
+        found = subst (Found both Gs) (sym all) (found-more both Gs T (equality n) found-plots (given (g .equal)) not-equality);
+        given = λ G k. back (given-member G (g .given G k));
+        combined = record { rows = λ b a ab br H k. back (Memᴰ·append-left _ (combine b a ab br H (rw all at k))); row = λ a h. absurd (not-suc-le-zero h) };
+        rows = λ b a ab br. rw all (rw (member-plots b br, member-plots a (omega arith)) (w .rows b a ab br ∙ sym (counts-plots P (memberAt S b) (memberAt S a) (member-points b br) (member-points a (omega arith)))));
+        row = λ a h. absurd (not-suc-le-zero h);
+        joins = λ a h. absurd (not-suc-le-zero h);
+      }
+        where
+          all : membersOf n store′ size ≡ T ++ equality n ∷ []
+          all = ⊎-elim
+              (λ e. absurd (not-equality (subst (λ (X : Family). equality n ∈ X) (e ∙ plots-members) (subst (λ (F : Column). F ∈ membersOf n store′ size) (s .is) (member-in (membersOf n store′ size) q (omega (arith, s .here, size-members (s .held))))))))
+              (λ e. e .0 ∙ ap (λ (X : Family). X ++ equality n ∷ []) plots-members)
+              (s .members)
+
+          cast : {F : Column} → F ∈ membersOf n store′ size → F ∈ T ++ equality n ∷ []
+          cast {F} k = subst (λ (X : Family). F ∈ X) all k
+
+          back : {F : Column} → F ∈ T ++ equality n ∷ [] → F ∈ membersOf n store′ size
+          back {F} k = subst (λ (X : Family). F ∈ X) (sym all) k
+
+          numbered : (F : Column) → (F ∈ T) ⊎ (F ∈ equality n ∷ []) → number F ≡ F
+          numbered F (inl k) = go (Memᴰ·of-map (onPlots p) S k)
+            where
+              go : (G : Column) × (G ∈ S) × (onPlots p G ≡ F) → number F ≡ F
+              go (G, j, e) = ap number (sym e) ∙ number-plots P G (on G j) ∙ ap (onPlots p) (w .numbered G j) ∙ e
+          numbered F (inr k) = let e = List·Memᴰ·eq-of-singleton k in ap number e ∙ number-equality n ∙ sym e
+
+          given-member : (G : Column) → (G ≡ equality n) ⊎ ((F : Column) × (F ∈ Fs) × (onPlots p F ≡ G)) → G ∈ T ++ equality n ∷ []
+          given-member G (inl e) = Memᴰ·append-right T (List·Memᴰ·head e)
+          given-member G (inr (F, k, e)) = Memᴰ·append-left _ (subst (λ (X : Column). X ∈ T) e (Memᴰ·map (onPlots p) (w .given F k)))
+
+          combine : (b a : ℕ) → a < b → b < r → (H : Column) → H ∈ both (memberAt (T ++ equality n ∷ []) b) (memberAt (T ++ equality n ∷ []) a) → H ∈ T
+          combine b a ab br H k = go (both-points (memberAt S b) (memberAt S a) H (member-points b br) (member-points a (omega arith)) (rw (member-plots b br, member-plots a (omega arith)) at k))
+            where
+              go : (K : Column) × (K ∈ both (memberAt S b) (memberAt S a)) × (onPlots p K ≡ H) → H ∈ T
+              go (K, j, e) = subst (λ (X : Column). X ∈ T) e (Memᴰ·map (onPlots p) (w .combined .rows b a ab br K j))
+
+-- ---- members are gathered one by one
+
+-- none yet
+pub gathered-none : {n m : ℕ} {p : Column} → Points n m p → 1 ≤ n → n ≤ 240 → (own counts : List ℕ) → length own ≡ 7680 → length counts ≡ 32 → Gathered n m p [] own counts 0
+unfolding membersOf columnsFrom
+gathered-none {n} {m} {p} P some small own counts room places = record {
+  held = held-none m own counts (points-some P some) (omega (arith, classes-most p, P .many, P .on)) room places;
+  distinct = none-left;
+  numbered = λ F k. absurd (List·Memᴰ·not-nil k);
+  only = λ F k. absurd (List·Memᴰ·not-nil k);
+  given = λ G k. absurd (List·Memᴰ·not-nil k);
+}
+
+-- E is left out
+pub gathered-same : {n m : ℕ} {p : Column} {S : Family} {own counts : List ℕ} {r : ℕ} → Gathered n m p S own counts r → (F : Column) → F ≡ equality n → Gathered n m p (S ++ F ∷ []) own counts r
+gathered-same {n} {m} {p} {S} {own} {counts} {r} g F e = record {
+  held = g .held;
+  distinct = g .distinct;
+  numbered = g .numbered;
+  only = λ G k. Memᴰ·append-left _ (g .only G k);
+  given = λ G k. ⊎-elim (g .given G) (λ j. inl (List·Memᴰ·eq-of-singleton j ∙ e)) (List·Memᴰ·append-cases S k);
+}
+
+-- the column X of points, which is the column F of plots, is placed
+pub gathered-more : {n m : ℕ} {p : Column} {S : Family} {own counts : List ℕ} {r : ℕ} → Points n m p → Gathered n m p S own counts r → r < 32 → (X F : Column) → length X ≡ m → onPlots p X ≡ F → number F ≡ F
+    → (q : ℕ) (own′ counts′ : List ℕ) → Placed m (membersOf m own r) X q own′ counts′ → Gathered n m p (S ++ F ∷ []) own′ counts′ (grownTo r q)
+gathered-more {n} {m} {p} {S} {own} {counts} {r} P g less X F l e numbered q own′ counts′ placed = record {
+  held = a .held;
+  distinct = rw (a .members) (a .distinct (g .distinct));
+  numbered = λ G k. as-numbered G (a .only G (rw (a .members) at k));
+  only = λ G k. as-given G (a .only G (rw (a .members) at k));
+  given = λ G k. ⊎-elim (λ j. ⊎-elim inl (λ h. inr (still h)) (g .given G j)) (λ j. inr (X, rw (a .members) (a .placed), e ∙ sym (List·Memᴰ·eq-of-singleton j))) (List·Memᴰ·append-cases S k);
+}
+  where
+    a : After m own counts r (g .held) less X q own′ counts′
+    a = after-placed m own counts r (g .held) less X q own′ counts′ placed
+
+    -- X is numbered, since F is
+    same : number X ≡ X
+    same = plots-apart P (number X) X (length-number X ∙ l) l (sym (number-plots P X l) ∙ ap number e ∙ numbered ∙ sym e)
+
+    as-numbered : (G : Column) → (G ∈ membersOf m own r) ⊎ (G ≡ X) → number G ≡ G
+    as-numbered G (inl k) = g .numbered G k
+    as-numbered G (inr z) = rw z same
+
+    as-given : (G : Column) → (G ∈ membersOf m own r) ⊎ (G ≡ X) → onPlots p G ∈ S ++ F ∷ []
+    as-given G (inl k) = Memᴰ·append-left _ (g .only G k)
+    as-given G (inr z) = Memᴰ·append-right S (List·Memᴰ·head (ap (onPlots p) z ∙ e))
+
+    still : {G : Column} → (H : Column) × (H ∈ membersOf m own r) × (onPlots p H ≡ G) → (H : Column) × (H ∈ membersOf m own′ (grownTo r q)) × (onPlots p H ≡ G)
+    still (H, k, z) = (H, rw (a .members) (a .stays H k), z)
+
+-- ---- the members gathered
+
+module _ {n m : ℕ} {p : Column} (store counts : List ℕ) (start : ℕ) {own counts′ : List ℕ} {r : ℕ} (g : Gathered n m p (membersOf n store start) own counts′ r) where
+  -- they are begun with by themselves
+  pub gathered-begun : Begun m (membersOf m own r) own counts′ r
+  gathered-begun = record { held = g .held; most = omega (arith, size-members (g .held)); distinct = g .distinct; numbered = g .numbered; only = λ F k. k; given = λ F k. k }
+
+  -- they make the columns that the family starts from, but E
+  pub gathered-generates : {Gs : List Column} → equality n ∈ membersOf n store start → Begun n Gs store counts start → Generates n m p (membersOf m own r) Gs
+  gathered-generates e b = record {
+    plots = member-length (g .held);
+    only = λ F k. b .only (onPlots p F) (g .only F k);
+    given = λ G k. g .given G (b .given G k);
+    equal = b .only (equality n) e;
+  }

@@ -1,0 +1,49 @@
+-- Laws of columns of points and plots: labels in range, and a column pasted in a store after others.
+-- Assumes nothing.
+use mathlib.Core.Path.{_≡_, sym, ap, _∙_}
+use mathlib.Core.List.{List, [], _∷_, _++_}
+use Prim.Native.Nat.{ℕ, suc, _+_, _-_, _*_, _≤_, _<_}
+use native.Mathlib.Omega.{arith}
+use lib.Dec.{eqb}
+use lib.ListN.{length, getD, take, length-map, List·getD-append}
+use lib.Seq.{paste, getD-take, getD-at}
+use borrow.Author.Tests.{eqb-true, eqb-false}
+use Rattle.rules.specs.Factor.{Column, at}
+use Rattle.rules.specs.Family.{Family, membersOf}
+use Rattle.rules.proofs.Numbering.{by-cases}
+use Rattle.rules.proofs.Buffer.{length-members, member-is}
+use Rattle.design.specs.State.{columnIn}
+use Rattle.design.specs.Points.{Ranged, onPlots}
+use Rattle.design.proofs.Choosing.{members-paste}
+
+-- the label of a plot's point is in range
+pub in-range : (n : ℕ) (p : Column) → Ranged n (take n p) → (u : ℕ) → u < n → (0 < at p u) × (at p u ≤ 240)
+in-range n p r u h = rw (getD-take n p u 0 h) at (r .1 u h)
+
+-- column F on n plots is pasted at place m of the buffer b
+module _ (n : ℕ) (small : n ≤ 240) (b : List ℕ) (m : ℕ) (F : Column) (l : length F ≡ n) (fits : 240 * m + 240 ≤ length b) where
+  abbrev S : Family
+  S = membersOf n b m
+
+  abbrev after : List ℕ
+  after = paste b (240 * m) F n
+
+  column-of : (k : ℕ) → k < suc m → columnIn n after k ≡ getD (S ++ F ∷ []) k []
+  column-of k h = sym (member-is n small after (suc m) k h) ∙ ap (λ (T : Family). getD T k []) (members-paste n small b m F l fits)
+
+  -- it stands there
+  pub pasted-here : columnIn n after m ≡ F
+  pasted-here = column-of m (omega arith) ∙ getD-at S F [] [] m (length-members n small b m)
+
+  -- the columns before it are as they were
+  pub pasted-before : (k : ℕ) → k < m → columnIn n after k ≡ columnIn n b k
+  pasted-before k h = column-of k (omega arith) ∙ List·getD-append S (F ∷ []) [] k (rw (length-members n small b m) h) ∙ member-is n small b m k h
+
+  -- it is the next of the columns that stand there
+  pub pasted-more : (f : ℕ → Column) → F ≡ f m → ((k : ℕ) → k < m → columnIn n b k ≡ f k) → (k : ℕ) → k < m + 1 → columnIn n after k ≡ f k
+  pasted-more f e all k h = by-cases (eqb k m) (λ q. ap (columnIn n after) (eqb-true k m q) ∙ pasted-here ∙ e ∙ ap f (sym (eqb-true k m q))) (λ q. let w : k < m = omega (arith, eqb-false k m q) in pasted-before k w ∙ all k w)
+
+-- a column of points made a column of plots is on the plots
+pub length-plots : (p F : Column) → length (onPlots p F) ≡ length p
+unfolding onPlots
+length-plots p F = length-map p (λ (x : ℕ). at F (x - 1))
