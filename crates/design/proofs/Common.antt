@@ -7,8 +7,8 @@ use native.Mathlib.Nat.{le-of-eq}
 use native.Mathlib.Omega.{arith}
 use lib.ListN.{length, take, drop, length-drop}
 use lib.Seq.{length-take-le, take-all, take-at}
-use Rattle.rules.specs.Factor.{Column}
-use Rattle.factor.specs.Lent.{common, overlay}
+use Rattle.rules.specs.Factor.{Column, infimum}
+use Rattle.factor.specs.Lent.{common, onCommon, overlay}
 use Rattle.design.specs.State.{columnIn}
 use Rattle.design.proofs.Placing.{part-column}
 
@@ -36,3 +36,9 @@ on-members op n store i j small room hi hj =
 -- what stands at the front of an output array
 pub overlay-front : (n : ℕ) (out : List ℕ) (X : Column) → length X ≡ n → take n (overlay out X) ≡ X
 overlay-front n out X l = take-at X (drop (length X) out) n l
+
+-- a column on n plots, and what stands at the front of an array
+pub common-front : (n : ℕ) (F M : Column) → n ≤ 240 → length F ≡ n → length M ≡ 240 → onCommon infimum F M ≡ infimum F (take n M)
+common-front n F M small lF lM =
+    let e : common F M ≡ n = rw (lF, lM) (omega arith) in
+    ap (λ (k : ℕ). infimum (take k F) (take k M)) e ∙ ap (λ (X : Column). infimum X (take n M)) (take-all n F (le-of-eq lF))

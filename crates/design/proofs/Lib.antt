@@ -1,5 +1,7 @@
 pub mod PointLaws
+pub mod EvenPoints
 pub mod Lifting
+pub mod PointChoices
 pub mod Search
 pub mod Asked
 pub mod Order
@@ -19,3 +21,4 @@ pub mod Answered
 pub mod FullAnswered
 pub mod WithTreatments
 pub mod Pasted
+pub mod Gathering

@@ -2,27 +2,28 @@
 -- Assumes nothing.
 use mathlib.Core.Path.{_≡_, refl, sym, ap, ap₂, _∙_, subst}
 use mathlib.Core.Logic.{_⊎_, inl, inr, ⊎-elim}
-use mathlib.Core.Bool.{true}
+use mathlib.Core.Bool.{Bool, true, false}
 use mathlib.Core.List.{List, [], _∷_, _++_, map, List·Memᴰ·head, List·Memᴰ·tail, List·Memᴰ·cases-cons, List·Memᴰ·not-nil, List·Memᴰ·append-cases, List·Memᴰ·eq-of-singleton, Memᴰ·append-left, Memᴰ·append-right, Memᴰ·map, Memᴰ·of-map}
-use Prim.Native.Nat.{ℕ, zero, suc, _+_, _≤_, _<_, suc-le-suc, zero-le}
+use Prim.Native.Nat.{ℕ, zero, suc, _+_, _≤_, _<_}
 use native.Mathlib.Nat.{not-suc-le-zero, le-of-suc-le-suc}
 use native.Mathlib.Omega.{arith}
-use lib.ListN.{length, getD, take, List·getD-append}
+use lib.ListN.{length, List·getD-append}
 use lib.Seq.{take-take}
-use Rattle.rules.specs.Factor.{Column, number, classes, infimum, supremum, equality}
+use Rattle.rules.specs.Factor.{Column, number, classes, infimum, supremum, equality, Uniform}
 use Rattle.rules.specs.Family.{Family, _∈_, Distinct, none-left, apart, columnsFrom, membersOf}
-use Rattle.rules.specs.Closing.{both, Made, given, made, tooMany, close}
+use Rattle.rules.specs.Closing.{both, onlySupremum, Made, given, made, tooMany, close}
 use Rattle.rules.specs.Relation.{memberAt}
 use Rattle.rules.proofs.Bounds.{length-infimum′, length-supremum′}
 use Rattle.rules.proofs.Numbering.{length-number}
 use Rattle.rules.proofs.ClassCount.{classes-most}
 use Rattle.rules.proofs.Extremes.{number-equality}
 use Rattle.rules.proofs.Closing.{close-too-many}
-use Rattle.rules.proofs.WorkList.{member-in, Found, found-more, found-over, Combined}
-use Rattle.design.specs.State.{columnIn, Held, Placed, full, old, new, grownTo, Begun, Work}
-use Rattle.design.specs.Points.{Points, onPlots, Gathered, Generates}
+use Rattle.rules.proofs.WorkList.{member-in, Found, found-more, found-over}
+use Rattle.design.specs.State.{columnIn, Held, Placed, full, old, new, grownTo, Begun, makeOf, markOf, markedRow, Work}
+use Rattle.design.specs.Points.{Points, onPlots, Gathered}
 use Rattle.design.proofs.Common.{column-length}
 use Rattle.design.proofs.PointLaws.{plots-apart, classes-plots, number-plots, infimum-plots, supremum-plots, counts-plots, plots-few, plots-part, points-some}
+use Rattle.design.proofs.EvenPoints.{orthogonal-plots}
 use Rattle.design.proofs.Start.{After, after-placed, held-none}
 use Rattle.design.proofs.Work.{Stood, size-members, member-length}
 
@@ -34,44 +35,66 @@ map-member f [] i h = absurd (not-suc-le-zero h)
 map-member f (F ∷ S) zero h = refl
 map-member f (F ∷ S) (suc i) h = map-member f S i (le-of-suc-le-suc h)
 
+-- it has as many members
 length-map : (f : Column → Column) (S : Family) → length (map f S) ≡ length S
 length-map f [] = refl
 length-map f (F ∷ S) = ap suc (length-map f S)
 
 -- the columns of one table, made by a function from those of another
-columns-map : (f : Column → Column) (n m : ℕ) (a b : List ℕ) (k c : ℕ) → ((i : ℕ) → c ≤ i → i < c + k → columnIn n a i ≡ f (columnIn m b i)) → columnsFrom n a c k ≡ map f (columnsFrom m b c k)
+pub columns-map : (f : Column → Column) (n m : ℕ) (a b : List ℕ) (k c e : ℕ) → ((i : ℕ) → i < k → columnIn n a (c + i) ≡ f (columnIn m b (e + i))) → columnsFrom n a c k ≡ map f (columnsFrom m b e k)
 unfolding columnsFrom
-columns-map f n m a b zero c h = refl
-columns-map f n m a b (suc k) c h = ap₂ (λ (F : Column) (S : Family). F ∷ S) (h c (omega arith) (omega arith)) (columns-map f n m a b k (suc c) (λ i l u. h i (omega arith) (omega arith)))
+columns-map f n m a b zero c e h = refl
+columns-map f n m a b (suc k) c e h = ap₂ (λ (F : Column) (S : Family). F ∷ S) (first (h 0 (omega arith))) (columns-map f n m a b k (suc c) (suc e) (λ i l. next i (h (suc i) (omega arith))))
+  where
+    first : columnIn n a (c + 0) ≡ f (columnIn m b (e + 0)) → columnIn n a c ≡ f (columnIn m b e)
+    first q = let x : c + 0 ≡ c = omega arith in let y : e + 0 ≡ e = omega arith in rw (x, y) at q
+
+    next : (i : ℕ) → columnIn n a (c + suc i) ≡ f (columnIn m b (e + suc i)) → columnIn n a (suc c + i) ≡ f (columnIn m b (suc e + i))
+    next i q = let x : c + suc i ≡ suc c + i = omega arith in let y : e + suc i ≡ suc e + i = omega arith in rw (x, y) at q
+
+-- the columns Gs of plots are E, and those that the columns Fs of points make
+pub record Generates (n m : ℕ) (p : Column) (Fs Gs : List Column) : Type 0 where
+  pub plots : (F : Column) → F ∈ Fs → length F ≡ m
+  pub only : (F : Column) → F ∈ Fs → onPlots p F ∈ Gs
+  pub given : (G : Column) → G ∈ Gs → (G ≡ equality n) ⊎ ((F : Column) × (F ∈ Fs) × (onPlots p F ≡ G))
+  pub equal : equality n ∈ Gs
 
 -- ---- what columns of points make
 
 module _ {n m : ℕ} {p : Column} (P : Points n m p) where
+  -- a column of a table as one of points
+  pub plots-column : (own : List ℕ) (i : ℕ) → m ≤ 240 → onPlots p (columnIn 240 own i) ≡ onPlots p (columnIn m own i)
+  plots-column own i h = sym (plots-part P (columnIn 240 own i)) ∙ ap (onPlots p) (take-take m 240 _ h)
+
   -- two columns make the same on points and on plots
-  both-plots : (F G H : Column) → length F ≡ m → length G ≡ m → H ∈ both F G → onPlots p H ∈ both (onPlots p F) (onPlots p G)
-  unfolding both
-  both-plots F G H lF lG k =
+  make-plots : (infima : Bool) (F G H : Column) → length F ≡ m → length G ≡ m → H ∈ makeOf infima F G → onPlots p H ∈ makeOf infima (onPlots p F) (onPlots p G)
+  unfolding both onlySupremum
+  make-plots true F G H lF lG k =
       ⊎-elim
       (λ e. List·Memᴰ·head (ap (onPlots p) e ∙ sym (infimum-plots P F G lF lG)))
       (λ j. List·Memᴰ·tail (List·Memᴰ·head (ap (onPlots p) (List·Memᴰ·eq-of-singleton j) ∙ sym (supremum-plots P F G lF lG))))
       (List·Memᴰ·cases-cons k)
+  make-plots false F G H lF lG k = List·Memᴰ·head (ap (onPlots p) (List·Memᴰ·eq-of-singleton k) ∙ sym (supremum-plots P F G lF lG))
 
-  both-points : (F G H : Column) → length F ≡ m → length G ≡ m → H ∈ both (onPlots p F) (onPlots p G) → (K : Column) × (K ∈ both F G) × (onPlots p K ≡ H)
-  unfolding both
-  both-points F G H lF lG k =
+  -- what they make on plots is made on points
+  make-points : (infima : Bool) (F G H : Column) → length F ≡ m → length G ≡ m → H ∈ makeOf infima (onPlots p F) (onPlots p G) → (K : Column) × (K ∈ makeOf infima F G) × (onPlots p K ≡ H)
+  unfolding both onlySupremum
+  make-points true F G H lF lG k =
       ⊎-elim
       (λ e. (infimum F G, List·Memᴰ·head refl, sym (e ∙ infimum-plots P F G lF lG)))
       (λ j. (supremum F G, List·Memᴰ·tail (List·Memᴰ·head refl), sym (List·Memᴰ·eq-of-singleton j ∙ supremum-plots P F G lF lG)))
       (List·Memᴰ·cases-cons k)
+  make-points false F G H lF lG k = (supremum F G, List·Memᴰ·head refl, sym (List·Memᴰ·eq-of-singleton k ∙ supremum-plots P F G lF lG))
 
   -- it has the points of both
-  both-length : (F G H : Column) → length F ≡ m → length G ≡ m → H ∈ both F G → length H ≡ m
-  unfolding both
-  both-length F G H lF lG k =
+  make-length : (infima : Bool) (F G H : Column) → length F ≡ m → length G ≡ m → H ∈ makeOf infima F G → length H ≡ m
+  unfolding both onlySupremum
+  make-length true F G H lF lG k =
       ⊎-elim
       (λ e. ap length e ∙ length-infimum′ m F G lF lG)
       (λ j. ap length (List·Memᴰ·eq-of-singleton j) ∙ length-supremum′ m F G lF lG)
       (List·Memᴰ·cases-cons k)
+  make-length false F G H lF lG k = ap length (List·Memᴰ·eq-of-singleton k) ∙ length-supremum′ m F G lF lG
 
   -- different columns of points are different columns of plots
   distinct-plots : (S : Family) → Distinct S → ((F : Column) → F ∈ S → length F ≡ m) → Distinct (map (onPlots p) S)
@@ -81,55 +104,62 @@ module _ {n m : ℕ} {p : Column} (P : Points n m p) where
       go : (G : Column) × (G ∈ S) × (onPlots p G ≡ onPlots p F) → ⊥
       go (G, k, q) = d (subst (λ (H : Column). H ∈ S) (plots-apart P G F (on G (List·Memᴰ·tail k)) (on F (List·Memᴰ·head refl)) q) k)
 
-  module _ {Fs Gs : List Column} (g : Generates n m p Fs Gs) where
-    made-length : (F : Column) → Made both Fs F → length F ≡ m
-    made-length F (given k) = g .plots F k
-    made-length H (made {F} {G} a b k) = both-length F G H (made-length F a) (made-length G b) k
+  module _ (infima : Bool) {Fs Gs : List Column} (points : (F : Column) → F ∈ Fs → length F ≡ m) (among : (F : Column) → F ∈ Fs → onPlots p F ∈ Gs) where
+    -- what is made on points has a label for each
+    made-length : (F : Column) → Made (makeOf infima) Fs F → length F ≡ m
+    made-length F (given k) = points F k
+    made-length H (made {F} {G} a b k) = make-length infima F G H (made-length F a) (made-length G b) k
 
     -- what is made on points is made on plots
-    made-plots : (F : Column) → Made both Fs F → Made both Gs (onPlots p F)
-    made-plots F (given k) = given (g .only F k)
-    made-plots H (made {F} {G} a b k) = made (made-plots F a) (made-plots G b) (both-plots F G H (made-length F a) (made-length G b) k)
+    made-plots : (F : Column) → Made (makeOf infima) Fs F → Made (makeOf infima) Gs (onPlots p F)
+    made-plots F (given k) = given (among F k)
+    made-plots H (made {F} {G} a b k) = made (made-plots F a) (made-plots G b) (make-plots infima F G H (made-length F a) (made-length G b) k)
+
+    -- the same of a list of what is made
+    all-plots : (S : Family) → ((F : Column) → F ∈ S → Made (makeOf infima) Fs F) → (H : Column) → H ∈ map (onPlots p) S → Made (makeOf infima) Gs H
+    all-plots S f H k = go (Memᴰ·of-map (onPlots p) S k)
+      where
+        go : (F : Column) × (F ∈ S) × (onPlots p F ≡ H) → Made (makeOf infima) Gs H
+        go (F, j, q) = subst (Made (makeOf infima) Gs) q (made-plots F (f F j))
 
     -- too many on points are too many on plots
-    pub points-over : close both Fs ≡ tooMany → close both Gs ≡ tooMany
-    points-over e =
-        close-too-many both Gs .1 (λ few. close-too-many both Fs .0 e (λ S d f. rw (← length-map (onPlots p) S) (few (map (onPlots p) S) (distinct-plots S d (λ F k. made-length F (f F k))) (λ H k. go S f H (Memᴰ·of-map (onPlots p) S k)))))
-      where
-        go : (S : Family) → ((F : Column) → F ∈ S → Made both Fs F) → (H : Column) → (F : Column) × (F ∈ S) × (onPlots p F ≡ H) → Made both Gs H
-        go S f H (F, k, q) = subst (Made both Gs) q (made-plots F (f F k))
+    made-over : close (makeOf infima) Fs ≡ tooMany → close (makeOf infima) Gs ≡ tooMany
+    made-over e =
+        close-too-many (makeOf infima) Gs .1 (λ few. close-too-many (makeOf infima) Fs .0 e (λ S d f. rw (← length-map (onPlots p) S) (few (map (onPlots p) S) (distinct-plots S d (λ F k. made-length F (f F k))) (all-plots S f))))
 
     -- ---- the members once they are on the plots
 
-    module _ {own counts marks : List ℕ} {r : ℕ} (w : Work m true Fs own counts marks r r 0) (few : m < n) (small : n ≤ 240) (store : List ℕ) (room : length store ≡ 7680)
+    module _ {own counts marks : List ℕ} {r : ℕ} (w : Work m infima Fs own counts marks r r 0) (some : 1 ≤ n) (small : n ≤ 240) (store : List ℕ) (room : length store ≡ 7680)
         (spread : (i : ℕ) → i < r → columnIn n store i ≡ onPlots p (columnIn 240 own i)) where
       -- a member on points, and as a column of plots
       spread-column : (i : ℕ) → i < r → columnIn n store i ≡ onPlots p (columnIn m own i)
-      spread-column i h =
-          spread i h
-          ∙ sym (plots-part P (columnIn 240 own i))
-          ∙ ap (onPlots p) (take-take m 240 _ (omega arith))
+      spread-column i h = spread i h ∙ plots-column own i (w .held .most)
 
+      -- the members on points
       abbrev S : Family
       S = membersOf m own r
 
+      -- they as columns of plots
       abbrev T : Family
       T = map (onPlots p) (membersOf m own r)
 
+      -- they are the members on plots
       plots-members : membersOf n store r ≡ T
       unfolding membersOf
-      plots-members = columns-map (onPlots p) n m store own r 0 (λ i l u. spread-column i (omega arith))
+      plots-members = columns-map (onPlots p) n m store own r 0 0 (λ i h. let e : 0 + i ≡ i = omega arith in rw e (spread-column i h))
 
+      -- the members on points have a label for each point
       on : (F : Column) → F ∈ S → length F ≡ m
       on = member-length (w .held)
 
+      -- there are as many on plots
       sizeT : length T ≡ r
       sizeT = length-map (onPlots p) S ∙ size-members (w .held)
 
       -- they are held
-      pub spread-held : Held n store counts r
-      spread-held = record {
-        some = omega arith;
+      held-plots : Held n store counts r
+      held-plots = record {
+        some = some;
         most = small;
         room = room;
         places = w .held .places;
@@ -137,73 +167,158 @@ module _ {n m : ℕ} {p : Column} (P : Points n m p) where
         counted = λ i h. w .held .counted i h ∙ sym (ap classes (spread-column i h) ∙ classes-plots P (columnIn m own i) (column-length m own i (w .held .most) (w .held .room) (omega (arith, w .held .few))));
       }
 
-      -- E is not among them
-      not-equality : equality n ∈ T → ⊥
-      not-equality k = go (Memᴰ·of-map (onPlots p) S k)
-        where
-          go : (F : Column) × (F ∈ S) × (onPlots p F ≡ equality n) → ⊥
-          go (F, j, q) = plots-few P F (on F j) few q
+      -- they are found
+      found-plots : Found (makeOf infima) Gs T
+      found-plots = record { distinct = distinct-plots S (w .found .distinct) on; only = all-plots S (w .found .only) }
 
-      found-plots : Found both Gs T
-      found-plots = record { distinct = distinct-plots S (w .found .distinct) on; only = λ H k. go H (Memᴰ·of-map (onPlots p) S k) }
+      -- they are numbered
+      numbered-plots : (F : Column) → F ∈ T → number F ≡ F
+      numbered-plots F k = go (Memᴰ·of-map (onPlots p) S k)
         where
-          go : (H : Column) → (F : Column) × (F ∈ S) × (onPlots p F ≡ H) → Made both Gs H
-          go H (F, k, q) = subst (Made both Gs) q (made-plots F (w .found .only F k))
+          go : (G : Column) × (G ∈ S) × (onPlots p G ≡ F) → number F ≡ F
+          go (G, j, e) = ap number (sym e) ∙ number-plots P G (on G j) ∙ ap (onPlots p) (w .numbered G j) ∙ e
+
+      -- the columns that the family starts from are among them
+      given-plots : (F : Column) → F ∈ Fs → onPlots p F ∈ T
+      given-plots F k = Memᴰ·map (onPlots p) (w .given F k)
+
+      -- a member by its place, and as a column of plots
+      member-plots : (i : ℕ) → i < r → memberAt T i ≡ onPlots p (memberAt S i)
+      member-plots i h = map-member (onPlots p) S i (omega (arith, size-members (w .held)))
+
+      -- a member by its place has a label for each point
+      member-points : (i : ℕ) → i < r → length (memberAt S i) ≡ m
+      member-points i h = on (memberAt S i) (member-in S i (omega (arith, size-members (w .held))))
+
+      -- all pairs of them are combined
+      combined-plots : (b a : ℕ) → a < b → b < r → (H : Column) → H ∈ makeOf infima (memberAt T b) (memberAt T a) → H ∈ T
+      combined-plots b a ab br H k = go (make-points infima (memberAt S b) (memberAt S a) H (member-points b br) (member-points a (omega arith)) (rw (member-plots b br, member-plots a (omega arith)) at k))
+        where
+          go : (K : Column) × (K ∈ makeOf infima (memberAt S b) (memberAt S a)) × (onPlots p K ≡ H) → H ∈ T
+          go (K, j, e) = subst (λ (X : Column). X ∈ T) e (Memᴰ·map (onPlots p) (w .combined .rows b a ab br K j))
+
+      -- their marks are those of the points, where two columns have the same mark on points and on plots
+      rows-plots : ((F G : Column) → length F ≡ m → length G ≡ m → markOf infima n (onPlots p F) (onPlots p G) ≡ markOf infima m F G)
+          → (b a : ℕ) → a < b → b < r → markedRow marks b a ≡ markOf infima n (memberAt T b) (memberAt T a)
+      rows-plots same b a ab br =
+          w .rows b a ab br
+          ∙ sym (ap₂ (markOf infima n) (member-plots b br) (member-plots a (omega arith)) ∙ same (memberAt S b) (memberAt S a) (member-points b br) (member-points a (omega arith)))
+
+  -- ---- with infima, and E
+
+  module _ {Fs Gs : List Column} (g : Generates n m p Fs Gs) where
+    -- too many on points are too many on plots
+    pub points-over : close both Fs ≡ tooMany → close both Gs ≡ tooMany
+    points-over = made-over true (g .plots) (g .only)
+
+    module _ {own counts marks : List ℕ} {r : ℕ} (w : Work m true Fs own counts marks r r 0) (few : m < n) (small : n ≤ 240) (store : List ℕ) (room : length store ≡ 7680)
+        (spread : (i : ℕ) → i < r → columnIn n store i ≡ onPlots p (columnIn 240 own i)) where
+      -- there are plots
+      some-plots : 1 ≤ n
+      some-plots = omega arith
+
+      -- the members are held
+      pub spread-held : Held n store counts r
+      spread-held = held-plots true (g .plots) (g .only) w some-plots small store room spread
+
+      -- they as columns of plots
+      abbrev R : Family
+      R = map (onPlots p) (membersOf m own r)
+
+      -- they are the members on plots
+      members-are : membersOf n store r ≡ R
+      members-are = plots-members true (g .plots) (g .only) w some-plots small store room spread
+
+      -- there are as many of them
+      sizeR : length R ≡ r
+      sizeR = sizeT true (g .plots) (g .only) w some-plots small store room spread
+
+      -- E is not among them
+      not-equality : equality n ∈ R → ⊥
+      not-equality k = go (Memᴰ·of-map (onPlots p) (membersOf m own r) k)
+        where
+          go : (F : Column) × (F ∈ membersOf m own r) × (onPlots p F ≡ equality n) → ⊥
+          go (F, j, q) = plots-few P F (member-length (w .held) F j) few q
+
+      -- they are found
+      found : Found both Gs R
+      found = found-plots true (g .plots) (g .only) w some-plots small store room spread
 
       -- there is no room for E
       pub equality-over : {q : ℕ} {store′ counts′ : List ℕ} → Placed n (membersOf n store r) (equality n) q store′ counts′ → q ≡ 32 → close both Gs ≡ tooMany
-      equality-over (full e l f) z = found-over both Gs T found-plots (equality n) (given (g .equal)) not-equality (omega (arith, ap length plots-members))
-      equality-over (old h is held same) z = absurd (omega (arith, w .held .few, ap length plots-members, sizeT))
+      equality-over (full e l f) z = found-over both Gs R found (equality n) (given (g .equal)) not-equality (omega (arith, ap length members-are))
+      equality-over (old h is held same) z = absurd (omega (arith, w .held .few, ap length members-are, sizeR))
       equality-over (new e h f held same) z = absurd (omega arith)
-
-      member-plots : (i : ℕ) → i < r → memberAt (T ++ equality n ∷ []) i ≡ onPlots p (memberAt S i)
-      member-plots i h = List·getD-append T (equality n ∷ []) [] i (omega (arith, sizeT)) ∙ map-member (onPlots p) S i (omega (arith, size-members (w .held)))
-
-      member-points : (i : ℕ) → i < r → length (memberAt S i) ≡ m
-      member-points i h = on (memberAt S i) (member-in S i (omega (arith, size-members (w .held))))
 
       -- with E, all pairs are combined but those of E
       pub with-equality : {q : ℕ} {store′ counts′ : List ℕ} {size : ℕ} → Stood n (membersOf n store r) (equality n) q store′ counts′ size → Work n true Gs store′ counts′ marks size r 0
       with-equality {q} {store′} {counts′} {size} s = record {
         held = s .held;
         cells = w .cells;
-        numbered = λ F k. numbered F (List·Memᴰ·append-cases T (cast k));
-        found = subst (Found both Gs) (sym all) (found-more both Gs T (equality n) found-plots (given (g .equal)) not-equality);
+        numbered = λ F k. numbered F (List·Memᴰ·append-cases R (cast k));
+        found = subst (Found both Gs) (sym all) (found-more both Gs R (equality n) found (given (g .equal)) not-equality);
         given = λ G k. back (given-member G (g .given G k));
-        combined = record { rows = λ b a ab br H k. back (Memᴰ·append-left _ (combine b a ab br H (rw all at k))); row = λ a h. absurd (not-suc-le-zero h) };
-        rows = λ b a ab br. rw all (rw (member-plots b br, member-plots a (omega arith)) (w .rows b a ab br ∙ sym (counts-plots P (memberAt S b) (memberAt S a) (member-points b br) (member-points a (omega arith)))));
+        combined = record {
+          rows = λ b a ab br H k. back (Memᴰ·append-left _ (combined-plots true (g .plots) (g .only) w some-plots small store room spread b a ab br H (rw (all, before b br, before a (omega arith)) at k)));
+          row = λ a h. absurd (not-suc-le-zero h);
+        };
+        rows = λ b a ab br. rw (all, before b br, before a (omega arith)) (rows-plots true (g .plots) (g .only) w some-plots small store room spread (counts-plots P) b a ab br);
         row = λ a h. absurd (not-suc-le-zero h);
         joins = λ a h. absurd (not-suc-le-zero h);
       }
         where
-          all : membersOf n store′ size ≡ T ++ equality n ∷ []
+          all : membersOf n store′ size ≡ R ++ equality n ∷ []
           all = ⊎-elim
-              (λ e. absurd (not-equality (subst (λ (X : Family). equality n ∈ X) (e ∙ plots-members) (subst (λ (F : Column). F ∈ membersOf n store′ size) (s .is) (member-in (membersOf n store′ size) q (omega (arith, s .here, size-members (s .held))))))))
-              (λ e. e .0 ∙ ap (λ (X : Family). X ++ equality n ∷ []) plots-members)
+              (λ e. absurd (not-equality (subst (λ (X : Family). equality n ∈ X) (e ∙ members-are) (subst (λ (F : Column). F ∈ membersOf n store′ size) (s .is) (member-in (membersOf n store′ size) q (omega (arith, s .here, size-members (s .held))))))))
+              (λ e. e .0 ∙ ap (λ (X : Family). X ++ equality n ∷ []) members-are)
               (s .members)
 
-          cast : {F : Column} → F ∈ membersOf n store′ size → F ∈ T ++ equality n ∷ []
+          before : (i : ℕ) → i < r → memberAt (R ++ equality n ∷ []) i ≡ memberAt R i
+          before i h = List·getD-append R (equality n ∷ []) [] i (omega (arith, sizeR))
+
+          cast : {F : Column} → F ∈ membersOf n store′ size → F ∈ R ++ equality n ∷ []
           cast {F} k = subst (λ (X : Family). F ∈ X) all k
 
-          back : {F : Column} → F ∈ T ++ equality n ∷ [] → F ∈ membersOf n store′ size
+          back : {F : Column} → F ∈ R ++ equality n ∷ [] → F ∈ membersOf n store′ size
           back {F} k = subst (λ (X : Family). F ∈ X) (sym all) k
 
-          numbered : (F : Column) → (F ∈ T) ⊎ (F ∈ equality n ∷ []) → number F ≡ F
-          numbered F (inl k) = go (Memᴰ·of-map (onPlots p) S k)
-            where
-              go : (G : Column) × (G ∈ S) × (onPlots p G ≡ F) → number F ≡ F
-              go (G, j, e) = ap number (sym e) ∙ number-plots P G (on G j) ∙ ap (onPlots p) (w .numbered G j) ∙ e
+          numbered : (F : Column) → (F ∈ R) ⊎ (F ∈ equality n ∷ []) → number F ≡ F
+          numbered F (inl k) = numbered-plots true (g .plots) (g .only) w some-plots small store room spread F k
           numbered F (inr k) = let e = List·Memᴰ·eq-of-singleton k in ap number e ∙ number-equality n ∙ sym e
 
-          given-member : (G : Column) → (G ≡ equality n) ⊎ ((F : Column) × (F ∈ Fs) × (onPlots p F ≡ G)) → G ∈ T ++ equality n ∷ []
-          given-member G (inl e) = Memᴰ·append-right T (List·Memᴰ·head e)
-          given-member G (inr (F, k, e)) = Memᴰ·append-left _ (subst (λ (X : Column). X ∈ T) e (Memᴰ·map (onPlots p) (w .given F k)))
+          given-member : (G : Column) → (G ≡ equality n) ⊎ ((F : Column) × (F ∈ Fs) × (onPlots p F ≡ G)) → G ∈ R ++ equality n ∷ []
+          given-member G (inl e) = Memᴰ·append-right R (List·Memᴰ·head e)
+          given-member G (inr (F, k, e)) = Memᴰ·append-left _ (subst (λ (X : Column). X ∈ R) e (given-plots true (g .plots) (g .only) w some-plots small store room spread F k))
 
-          combine : (b a : ℕ) → a < b → b < r → (H : Column) → H ∈ both (memberAt (T ++ equality n ∷ []) b) (memberAt (T ++ equality n ∷ []) a) → H ∈ T
-          combine b a ab br H k = go (both-points (memberAt S b) (memberAt S a) H (member-points b br) (member-points a (omega arith)) (rw (member-plots b br, member-plots a (omega arith)) at k))
-            where
-              go : (K : Column) × (K ∈ both (memberAt S b) (memberAt S a)) × (onPlots p K ≡ H) → H ∈ T
-              go (K, j, e) = subst (λ (X : Column). X ∈ T) e (Memᴰ·map (onPlots p) (w .combined .rows b a ab br K j))
+  -- ---- suprema of columns of points
+
+  -- too many on points are too many on plots
+  pub suprema-over : {Fs : List Column} → ((F : Column) → F ∈ Fs → length F ≡ m) → close onlySupremum Fs ≡ tooMany → close onlySupremum (map (onPlots p) Fs) ≡ tooMany
+  suprema-over points = made-over false points (λ F k. Memᴰ·map (onPlots p) k)
+
+  -- with as many plots each, what is closed on points is closed on plots
+  pub spread-work : Uniform n p → {Fs : List Column} {own counts marks : List ℕ} {r : ℕ} → Work m false Fs own counts marks r r 0 → 1 ≤ n → n ≤ 240 → (store : List ℕ) → length store ≡ 7680
+      → ((i : ℕ) → i < r → columnIn n store i ≡ onPlots p (columnIn 240 own i)) → ((F : Column) → F ∈ Fs → length F ≡ m) → Work n false (map (onPlots p) Fs) store counts marks r r 0
+  spread-work even {Fs} {own} {counts} {marks} {r} w some small store room spread points = record {
+    held = held-plots false points among w some small store room spread;
+    cells = w .cells;
+    numbered = rw all (numbered-plots false points among w some small store room spread);
+    found = rw all (found-plots false points among w some small store room spread);
+    given = rw all (λ G k. given-member G (Memᴰ·of-map (onPlots p) Fs k));
+    combined = record { rows = rw all (combined-plots false points among w some small store room spread); row = λ a h. absurd (not-suc-le-zero h) };
+    rows = rw all (rows-plots false points among w some small store room spread (orthogonal-plots P even));
+    row = λ a h. absurd (not-suc-le-zero h);
+    joins = λ a h. absurd (not-suc-le-zero h);
+  }
+    where
+      among : (F : Column) → F ∈ Fs → onPlots p F ∈ map (onPlots p) Fs
+      among F k = Memᴰ·map (onPlots p) k
+
+      all : membersOf n store r ≡ map (onPlots p) (membersOf m own r)
+      all = plots-members false points among w some small store room spread
+
+      given-member : (G : Column) → (F : Column) × (F ∈ Fs) × (onPlots p F ≡ G) → G ∈ map (onPlots p) (membersOf m own r)
+      given-member G (F, k, e) = subst (λ (X : Column). X ∈ map (onPlots p) (membersOf m own r)) e (given-plots false points among w some small store room spread F k)
 
 -- ---- members are gathered one by one
 

@@ -1,6 +1,6 @@
 -- Laws of columns of points and plots: labels in range, and a column pasted in a store after others.
 -- Assumes nothing.
-use mathlib.Core.Path.{_≡_, sym, ap, _∙_}
+use mathlib.Core.Path.{_≡_, sym, ap, _∙_, subst}
 use mathlib.Core.List.{List, [], _∷_, _++_}
 use Prim.Native.Nat.{ℕ, suc, _+_, _-_, _*_, _≤_, _<_}
 use native.Mathlib.Omega.{arith}
@@ -39,9 +39,13 @@ module _ (n : ℕ) (small : n ≤ 240) (b : List ℕ) (m : ℕ) (F : Column) (l 
   pub pasted-before : (k : ℕ) → k < m → columnIn n after k ≡ columnIn n b k
   pasted-before k h = column-of k (omega arith) ∙ List·getD-append S (F ∷ []) [] k (rw (length-members n small b m) h) ∙ member-is n small b m k h
 
+  -- what holds of it at its place, and of those before it at theirs, holds of all
+  pub pasted-each : (Q : ℕ → Column → Type 0) → Q m F → ((k : ℕ) → k < m → Q k (columnIn n b k)) → (k : ℕ) → k < m + 1 → Q k (columnIn n after k)
+  pasted-each Q q all k h = by-cases (eqb k m) (λ e. subst (λ (i : ℕ). Q i (columnIn n after i)) (sym (eqb-true k m e)) (subst (Q m) (sym pasted-here) q)) (λ e. let w : k < m = omega (arith, eqb-false k m e) in subst (Q k) (sym (pasted-before k w)) (all k w))
+
   -- it is the next of the columns that stand there
   pub pasted-more : (f : ℕ → Column) → F ≡ f m → ((k : ℕ) → k < m → columnIn n b k ≡ f k) → (k : ℕ) → k < m + 1 → columnIn n after k ≡ f k
-  pasted-more f e all k h = by-cases (eqb k m) (λ q. ap (columnIn n after) (eqb-true k m q) ∙ pasted-here ∙ e ∙ ap f (sym (eqb-true k m q))) (λ q. let w : k < m = omega (arith, eqb-false k m q) in pasted-before k w ∙ all k w)
+  pasted-more f = pasted-each (λ (k : ℕ) (X : Column). X ≡ f k)
 
 -- a column of points made a column of plots is on the plots
 pub length-plots : (p F : Column) → length (onPlots p F) ≡ length p

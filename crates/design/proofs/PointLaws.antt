@@ -63,7 +63,7 @@ module _ {n m : ℕ} {p : Column} (P : Points n m p) where
   point-place u h = ap (λ (q : Column). at q u) (sym (P .numbered)) ∙ numbering-at eqb eqb-true eqb-self p [] u 0 (rw (P .on) h)
 
   -- there is a label for each point
-  many-labels : length (labels eqb [] p) ≡ m
+  pub many-labels : length (labels eqb [] p) ≡ m
   unfolding classes
   many-labels = P .many
 
@@ -72,7 +72,7 @@ module _ {n m : ℕ} {p : Column} (P : Points n m p) where
   point-range u h = (rw (point-place u h) (suc-le-suc zero-le), rw (point-place u h, ← many-labels) (has-all eqb eqb-true eqb-self p [] u 0 (rw (P .on) h)))
 
   -- points, counted from 0, are below m
-  point-less : (u : ℕ) → u < n → at p u - 1 < m
+  pub point-less : (u : ℕ) → u < n → at p u - 1 < m
   point-less u h = let r = point-range u h in omega arith
 
   -- the label at each place is among the labels
@@ -80,7 +80,7 @@ module _ {n m : ℕ} {p : Column} (P : Points n m p) where
   label-in x h = has-in (labels eqb [] p) (getD (labels eqb [] p) x 0) (has-getD eqb eqb-true eqb-self (labels eqb [] p) x 0 (rw many-labels h))
 
   -- the label at place x is x + 1
-  label-at : (x : ℕ) → x < m → getD (labels eqb [] p) x 0 ≡ suc x
+  pub label-at : (x : ℕ) → x < m → getD (labels eqb [] p) x 0 ≡ suc x
   label-at x h =
       sym (stands .1) ∙ point-place u (stands .0)
       ∙ ap (λ (y : ℕ). suc (indexOf eqb (labels eqb [] p) y)) (stands .1)

@@ -2,14 +2,12 @@
 -- Points and members on them are counted from 0, the labels of points from 1. Assumes nothing.
 use mathlib.Core.Path.{_≡_}
 use mathlib.Core.Logic.{_⊎_}
-use mathlib.Core.Bool.{true}
 use mathlib.Core.List.{List, map}
 use Prim.Native.Nat.{ℕ, _-_, _≤_, _<_}
 use lib.ListN.{length}
 use Rattle.rules.specs.Factor.{Column, at, number, classes, equality}
 use Rattle.rules.specs.Family.{Family, _∈_, Distinct, membersOf}
-use Rattle.rules.specs.Closing.{both, Made, tooMany, close}
-use Rattle.design.specs.State.{Held, Work}
+use Rattle.design.specs.State.{Held}
 
 -- p has the point of each of n plots, numbered by first appearance; there are m
 pub record Points (n m : ℕ) (p : Column) : Type 0 where
@@ -32,15 +30,3 @@ pub record Gathered (n m : ℕ) (p : Column) (S : Family) (store counts : List �
   pub numbered : (F : Column) → F ∈ membersOf m store r → number F ≡ F
   pub only : (F : Column) → F ∈ membersOf m store r → onPlots p F ∈ S
   pub given : (G : Column) → G ∈ S → (G ≡ equality n) ⊎ ((F : Column) × (F ∈ membersOf m store r) × (onPlots p F ≡ G))
-
--- the columns Gs of plots are E, and those that the columns Fs of points make
-pub record Generates (n m : ℕ) (p : Column) (Fs Gs : List Column) : Type 0 where
-  pub plots : (F : Column) → F ∈ Fs → length F ≡ m
-  pub only : (F : Column) → F ∈ Fs → onPlots p F ∈ Gs
-  pub given : (G : Column) → G ∈ Gs → (G ≡ equality n) ⊎ ((F : Column) × (F ∈ Fs) × (onPlots p F ≡ G))
-  pub equal : equality n ∈ Gs
-
--- the family of the columns Gs but E is closed on the points, or it is too large
-pub data OnPoints (n m : ℕ) (p : Column) (Gs : List Column) (store counts marks : List ℕ) (r : ℕ) : Type 0 where
-  excess : r ≡ 33 → close both Gs ≡ tooMany → OnPoints n m p Gs store counts marks r
-  within : (Fs : List Column) → Generates n m p Fs Gs → Work m true Fs store counts marks r r 0 → OnPoints n m p Gs store counts marks r

@@ -23,10 +23,7 @@ use crate::points::meet_members;
 use crate::sorting::sort;
 use crate::sorting::write;
 use crate::store::place;
-use crate::treatments::FEW_COLUMNS;
-use crate::treatments::FEW_INFIMA;
-use crate::treatments::INFIMA;
-use crate::treatments::place_infima;
+use crate::treatments::place_choices;
 use limits::COLUMNS;
 use limits::Level;
 use limits::MEMBERS;
@@ -79,12 +76,7 @@ fn place_plot_infima(
 {
     let column = equality(n);
     place(store, counts, 0, &column[..n], n as u8);
-    if c < FEW_COLUMNS {
-        let mut infima = [0u8; FEW_INFIMA];
-        return place_infima(levels, n, 0, c, COLUMNS, &mut infima, store, counts, 1);
-    }
-    let mut infima = [0u8; INFIMA];
-    place_infima(levels, n, 0, c, COLUMNS, &mut infima, store, counts, 1)
+    place_choices(levels, n, 0, c, COLUMNS, store, counts, 1)
 }
 
 // The answer for a family that is too large.
@@ -129,7 +121,7 @@ fn close_by_infima(
 }
 
 // The product of a number and a number of classes.
-fn times(a: usize, b: u8) -> usize
+pub fn times(a: usize, b: u8) -> usize
     requires { ⌜ a ≤ 240 ⌝ }
 {
     a * b as usize

@@ -17,6 +17,7 @@ mod following;
 mod nesting;
 mod points;
 mod questions;
+mod replicates;
 mod sorting;
 mod steps;
 mod store;

@@ -141,7 +141,16 @@ pub fn close_points(
 {
     let mut own = [0u8; FAMILY];
     let mut own_counts = [0u8; MEMBERS];
-    let some = gather_all(store, counts, start, n, points, m, &mut own, &mut own_counts);
+    let some = gather_all(
+        store,
+        counts,
+        start,
+        n,
+        points,
+        m,
+        &mut own,
+        &mut own_counts,
+    );
     let size = close(&mut own, &mut own_counts, marks, some, 0, m, true);
     if size == TOO_MANY {
         return too_many();
@@ -152,5 +161,14 @@ pub fn close_points(
     if p == MEMBERS {
         return too_many();
     }
-    close_family(store, &mut own_counts, marks, grown(size, p), size, n, true, family)
+    close_family(
+        store,
+        &mut own_counts,
+        marks,
+        grown(size, p),
+        size,
+        n,
+        true,
+        family,
+    )
 }

@@ -14,8 +14,12 @@ ghost use Rattle.design.specs.Judging.{Listed};
 ghost use Rattle.design.specs.Treatments.{extended, Room, Infima, AllPlaced, withChoice};
 use crate::closed::ClosedFamily;
 use crate::closed::close_family;
+use crate::closed::too_many;
 use crate::closing::PAIRS;
 use crate::closing::TOO_MANY;
+use crate::replicates::few_combinations;
+use crate::replicates::first_points;
+use crate::replicates::meet_levels;
 use crate::store::grown;
 use crate::store::largest;
 use crate::store::place;
@@ -29,13 +33,13 @@ use limits::PLOTS;
 const CHOICES: usize = 64;
 
 // Bytes for an infimum of each choice.
-pub const INFIMA: usize = 15360;
+const INFIMA: usize = 15360;
 
 // Fewer columns than these, which most sheets have, make at most 8 choices.
-pub const FEW_COLUMNS: usize = 4;
+const FEW_COLUMNS: usize = 4;
 
 // Bytes for an infimum of each of these.
-pub const FEW_INFIMA: usize = 1920;
+const FEW_INFIMA: usize = 1920;
 
 // Writes the infimum of `column` with infimum `e` at place `total`.
 fn add_infimum(infima: &mut [u8], total: usize, column: &[u8], e: usize)
@@ -179,7 +183,7 @@ fn place_all(
 
 // Places U and all infima of 1 to `k` different columns of the `d` from `first` on beside the members of a store, with memory for the
 // infima; answers how many members there are then, or TOO_MANY.
-pub fn place_infima(
+fn place_infima(
     levels: &[Level],
     n: usize,
     first: usize,
@@ -197,6 +201,49 @@ pub fn place_infima(
     place_all(infima, total, n, store, counts, size)
 }
 
+// The same, with memory of its own for the infima.
+pub fn place_choices(
+    levels: &[Level],
+    n: usize,
+    first: usize,
+    d: usize,
+    k: usize,
+    store: &mut [u8],
+    counts: &mut [u8; MEMBERS],
+    size: usize,
+) -> usize
+    requires { ⌜ (d ≤ 6) × (1 ≤ k) × (k ≤ 6) × (first ≤ 6) × (2880 ≤ length (now levels)) × Begun n (membersOf n (now store) size) (now store) (now counts) size ⌝ }
+    ensures { λ r. ⌜ AllPlaced n (treatmentGenerators n k (columnsFrom n (now (levels .entry)) first d) ++ membersOf n (now (store .entry)) size) (now (store .exit)) (now (counts .exit)) r ⌝ }
+{
+    if d < FEW_COLUMNS {
+        let mut infima = [0u8; FEW_INFIMA];
+        return place_infima(levels, n, first, d, k, &mut infima, store, counts, size);
+    }
+    let mut infima = [0u8; INFIMA];
+    place_infima(levels, n, first, d, k, &mut infima, store, counts, size)
+}
+
+// Closes the first treatment family on all plots.
+fn first_whole(
+    levels: &[Level],
+    n: usize,
+    d: usize,
+    k: usize,
+    store: &mut [u8],
+    marks: &mut [u8; PAIRS],
+    family: &mut [u8],
+) -> ClosedFamily
+    requires { ⌜ (1 ≤ n) × (n ≤ 240) × (d ≤ 6) × (1 ≤ k) × (k ≤ 6) × (2880 ≤ length (now levels)) × (7680 ≤ length (now family)) × (length (now store) ≡ 7680) × (length (now marks) ≡ 1024) ⌝ }
+    ensures { λ r. ⌜ Listed n false (treatmentGenerators n k (columnsFrom n (now (levels .entry)) 6 d)) (now (family .entry)) (now (family .exit)) (now (marks .exit)) (r .order) (r .size) ⌝ }
+{
+    let mut counts = [0u8; MEMBERS];
+    let start = place_choices(levels, n, COLUMNS, d, k, store, &mut counts, 0);
+    if start == TOO_MANY {
+        return too_many();
+    }
+    close_family(store, &mut counts, marks, start, 0, n, false, family)
+}
+
 // Closes the first treatment family and writes it in its order, where it is not too large.
 pub fn first_family(
     levels: &[Level],
@@ -210,33 +257,13 @@ pub fn first_family(
     requires { ⌜ (1 ≤ n) × (n ≤ 240) × (d ≤ 6) × (1 ≤ k) × (k ≤ 6) × (2880 ≤ length (now levels)) × (7680 ≤ length (now family)) × (length (now store) ≡ 7680) × (length (now marks) ≡ 1024) ⌝ }
     ensures { λ r. ⌜ Listed n false (treatmentGenerators n k (columnsFrom n (now (levels .entry)) 6 d)) (now (family .entry)) (now (family .exit)) (now (marks .exit)) (r .order) (r .size) ⌝ }
 {
-    if d < FEW_COLUMNS {
-        let mut infima = [0u8; FEW_INFIMA];
-        return first_by(levels, n, d, k, &mut infima, store, marks, family);
+    if !few_combinations(levels, n, d) {
+        return first_whole(levels, n, d, k, store, marks, family);
     }
-    let mut infima = [0u8; INFIMA];
-    first_by(levels, n, d, k, &mut infima, store, marks, family)
-}
-
-// The same, with memory for the infima of the choices.
-fn first_by(
-    levels: &[Level],
-    n: usize,
-    d: usize,
-    k: usize,
-    infima: &mut [u8],
-    store: &mut [u8],
-    marks: &mut [u8; PAIRS],
-    family: &mut [u8],
-) -> ClosedFamily
-    requires { ⌜ (1 ≤ n) × (n ≤ 240) × (d ≤ 6) × (1 ≤ k) × (k ≤ 6) × (2880 ≤ length (now levels)) × (7680 ≤ length (now family)) × (length (now store) ≡ 7680) × (length (now marks) ≡ 1024) × (((d ≤ 3) × (1920 ≤ length (now infima))) ⊎ (15360 ≤ length (now infima))) ⌝ }
-    ensures { λ r. ⌜ Listed n false (treatmentGenerators n k (columnsFrom n (now (levels .entry)) 6 d)) (now (family .entry)) (now (family .exit)) (now (marks .exit)) (r .order) (r .size) ⌝ }
-{
-    let mut counts = [0u8; MEMBERS];
-    let start = place_infima(levels, n, COLUMNS, d, k, infima, store, &mut counts, 0);
-    if start == TOO_MANY {
-        let order = [0u8; MEMBERS];
-        return ClosedFamily { size: start, order };
+    let mut points = [1u8; PLOTS];
+    let m = meet_levels(levels, n, d, &mut points);
+    if !factor::uniform(&points[..n]) {
+        return first_whole(levels, n, d, k, store, marks, family);
     }
-    close_family(store, &mut counts, marks, start, 0, n, false, family)
+    first_points(levels, n, d, k, &points, m, store, marks, family)
 }

@@ -1,13 +1,12 @@
 -- `place_plot_infima` meets its contract: E is the first member, and the infima are placed after it.
 -- Assumes nothing.
-use mathlib.Core.Path.{_≡_, sym, ap, _∙_, subst}
-use mathlib.Core.Logic.{inl, inr}
+use mathlib.Core.Path.{sym, ap, _∙_, subst}
 use mathlib.Core.List.{List, [], _∷_, _++_}
 use Prim.Native.Nat.{ℕ}
 use native.Mathlib.Omega.{arith}
 use borrow.Author.Needs.{needs}
 use denote.Ref.{now}
-use lib.ListN.{length, take, length-replicate}
+use lib.ListN.{length, take}
 use Rattle.rules.specs.Factor.{Column, equality, classes}
 use Rattle.rules.specs.Family.{columnsFrom, membersOf}
 use Rattle.rules.specs.Closing.{treatmentGenerators}
@@ -70,41 +69,20 @@ place-requires c κs =
       sym (ap classes (e .equality .ensures) ∙ classes-equality n),
     )
 
-slice-aggregate-place-infima : tie.Need-slice-aggregate-place-infima
-slice-aggregate-place-infima c = search needs
-
-place-infima-requires : tie.Need-place-infima-requires
-place-infima-requires c κs =
-    let p = c .before .before .before .before .before .before in
+place-choices-requires : tie.Need-place-choices-requires
+place-choices-requires c κs =
+    let p = c .before .before .before .before in
     let s = start p in
-    (s .pre .2, omega arith, omega arith, omega arith, s .pre .3, inl (omega arith, omega arith), begun-own (begun-one p))
+    (s .pre .2, omega arith, omega arith, omega arith, s .pre .3, begun-own (begun-one p))
 
 same-length : tie.Need-same-length
 same-length c = search needs
 
 returns : tie.Need-returns
 returns c =
-    let i = c .before .before .before in
-    let p = i .before .before .before .before .before .before .before in
-    beside-one p (i .place-infima .ensures)
-
-slice-aggregate-place-infima-2 : tie.Need-slice-aggregate-place-infima-2
-slice-aggregate-place-infima-2 c = search needs
-
-place-infima-requires-2 : tie.Need-place-infima-requires-2
-place-infima-requires-2 c κs =
-    let p = c .before .before .before .before .before .before in
-    let s = start p in
-    (s .pre .2, omega arith, omega arith, omega arith, s .pre .3, inr (omega (arith, length-replicate {A = ℕ} 15360 0)), begun-own (begun-one p))
-
-same-length-2 : tie.Need-same-length-2
-same-length-2 c = search needs
-
-returns-2 : tie.Need-returns-2
-returns-2 c =
-    let i = c .before .before .before in
-    let p = i .before .before .before .before .before .before .before in
-    beside-one p (i .place-infima2 .ensures)
+    let i = c .before .before in
+    let p = i .before .before .before .before .before in
+    beside-one p (i .place-choices .ensures)
 
 pub place-plot-infima-spec : {M : Type 1} → statement M
 place-plot-infima-spec =
@@ -115,11 +93,6 @@ place-plot-infima-spec =
     slice-aggregate-place
     cast-place
     place-requires
-    slice-aggregate-place-infima
-    place-infima-requires
+    place-choices-requires
     same-length
-    returns
-    slice-aggregate-place-infima-2
-    place-infima-requires-2
-    same-length-2
-    returns-2)
+    returns)

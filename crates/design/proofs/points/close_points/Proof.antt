@@ -14,12 +14,12 @@ use Rattle.rules.proofs.ClassCount.{classes-equality}
 use Rattle.rules.proofs.Extremes.{length-equality}
 use Rattle.design.specs.State.{Held, Placed, grownTo, Begun, Work, Closed}
 use Rattle.design.specs.Judging.{unlisted}
-use Rattle.design.specs.Points.{Gathered, Generates}
+use Rattle.design.specs.Points.{Gathered}
 use Rattle.design.proofs.Choosing.{closed-on, closed-over, begun-own}
 use Rattle.design.proofs.Start.{held-on, placed-on}
 use Rattle.design.proofs.Work.{size-members, work-begun, work-self, Stood, stood, stood-as}
 use Rattle.design.proofs.PointLaws.{ranged}
-use Rattle.design.proofs.Lifting.{points-over, spread-held, equality-over, with-equality, gathered-begun, gathered-generates}
+use Rattle.design.proofs.Lifting.{Generates, points-over, spread-held, equality-over, with-equality, gathered-begun, gathered-generates}
 use Rattle.design.proofs.points.close_points.Statement.{statement}
 use Rattle.design.proofs.points.close_points.Tie as tie
 

@@ -1,60 +1,19 @@
 -- `gathered` meets its contract: the points of the first `u` plots have the labels of these.
 -- Assumes nothing.
-use mathlib.Core.Path.{_≡_, refl, sym, ap, _∙_}
-use mathlib.Core.Bool.{true, false}
-use mathlib.Core.List.{map}
+use mathlib.Core.Path.{_≡_, refl, sym, _∙_}
 use Prim.Native.Nat.{ℕ, _+_, _-_, _*_, _≤_, _<_}
 use native.Mathlib.Nat.{not-suc-le-zero}
 use native.Mathlib.Omega.{arith}
 use denote.Ref.{now}
-use lib.ListN.{length, getD, take, drop, set, length-set, length-map}
-use lib.Seq.{getD-take, getD-drop, getD-set-same, getD-set-other, ext-getD}
-use lib.Dec.{eqb}
-use borrow.Author.Tests.{eqb-true, eqb-false}
-use Rattle.rules.specs.Factor.{Column, at, Finer}
-use Rattle.rules.proofs.Numbering.{by-cases}
+use lib.ListN.{length, getD, drop, length-set}
+use lib.Seq.{getD-take, getD-drop}
+use Rattle.rules.specs.Factor.{at}
 use Rattle.design.specs.State.{columnIn}
-use Rattle.design.specs.Points.{Ranged, onPlots}
 use Rattle.design.proofs.Common.{column-length}
-use Rattle.design.proofs.Judge.{getD-map}
 use Rattle.design.proofs.Pasted.{in-range}
+use Rattle.design.proofs.Gathering.{gathered-more, gathered-all}
 use Rattle.design.proofs.points.gathered.Statement.{statement}
 use Rattle.design.proofs.points.gathered.Tie as tie
-
--- one plot more: an earlier plot of the same point has the same label
-gathered-more : (n : ℕ) (p F column : Column) (u : ℕ) → u < n → Ranged n (take n p) → Finer n (take n p) F → length column ≡ 240
-    → ((v : ℕ) → v < u → at column (at p v - 1) ≡ at F v) → (y : ℕ) → y ≡ at F u → (v : ℕ) → v < u + 1 → at (set column (at p u - 1) y) (at p v - 1) ≡ at F v
-gathered-more n p F column u h r f l all y e v k = by-cases (eqb (at p v) (at p u)) here there
-  where
-    of-u : (0 < at p u) × (at p u ≤ 240)
-    of-u = in-range n p r u h
-
-    of-v : (0 < at p v) × (at p v ≤ 240)
-    of-v = in-range n p r v (omega arith)
-
-    here : eqb (at p v) (at p u) ≡ true → at (set column (at p u - 1) y) (at p v - 1) ≡ at F v
-    here q =
-        let w : at p v ≡ at p u = eqb-true (at p v) (at p u) q in
-        ap (λ (x : ℕ). at (set column (at p u - 1) y) (x - 1)) w
-        ∙ getD-set-same column (at p u - 1) y 0 (omega (arith, of-u))
-        ∙ e
-        ∙ f u v h (omega arith) (getD-take n p u 0 h ∙ sym w ∙ sym (getD-take n p v 0 (omega arith)))
-
-    there : eqb (at p v) (at p u) ≡ false → at (set column (at p u - 1) y) (at p v - 1) ≡ at F v
-    there q =
-        let w : at p v ≡ at p u → ⊥ = eqb-false (at p v) (at p u) q in
-        let d : v ≡ u → ⊥ = λ z. w (ap (at p) z) in
-        getD-set-other column (at p u - 1) (at p v - 1) y 0 (λ z. w (omega (arith, of-u, of-v)))
-        ∙ all v (omega (arith, d))
-
--- all plots
-gathered-all : (n : ℕ) (p F column : Column) → Ranged n (take n p) → length F ≡ n → ((v : ℕ) → v < n → at column (at p v - 1) ≡ at F v) → onPlots (take n p) column ≡ F
-unfolding onPlots
-gathered-all n p F column r l all =
-    let f : ℕ → ℕ = λ x. at column (x - 1) in
-    let len : length (map f (take n p)) ≡ n = length-map (take n p) f ∙ r .0 in
-    ext-getD 0 (map f (take n p)) F (len ∙ sym l)
-    (λ v h. getD-map f (take n p) 0 v (omega (arith, len, r .0)) ∙ ap f (getD-take n p v 0 (omega (arith, len))) ∙ all v (omega (arith, len)))
 
 abbrev Inv-loop : tie.InvT-loop
 Inv-loop store i n points at₀ column₀ u₀ column u = (u ≤ n) × (length column ≡ 240) × ((v : ℕ) → v < u → at column (at points v - 1) ≡ at (columnIn n store i) v)

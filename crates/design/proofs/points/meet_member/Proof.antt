@@ -2,27 +2,20 @@
 -- Assumes nothing.
 use mathlib.Core.Path.{_≡_, ap, _∙_}
 use mathlib.Core.List.{List}
-use Prim.Native.Nat.{ℕ, _≤_}
-use native.Mathlib.Nat.{le-of-eq}
+use Prim.Native.Nat.{ℕ}
 use native.Mathlib.Omega.{arith}
 use borrow.Author.Needs.{needs}
 use denote.Ref.{now}
 use lib.ListN.{length, take, replicate}
-use lib.Seq.{take-all, length-take-le}
+use lib.Seq.{length-take-le}
 use Rattle.rules.specs.Factor.{Column, classes, infimum}
 use Rattle.rules.proofs.Bounds.{length-infimum′}
-use Rattle.factor.specs.Lent.{common, onCommon, overlay}
+use Rattle.factor.specs.Lent.{onCommon, overlay}
 use Rattle.design.specs.State.{columnIn}
 use Rattle.design.proofs.Placing.{part-column}
-use Rattle.design.proofs.Common.{column-length, partOf, overlay-front}
+use Rattle.design.proofs.Common.{column-length, partOf, common-front, overlay-front}
 use Rattle.design.proofs.points.meet_member.Statement.{statement}
 use Rattle.design.proofs.points.meet_member.Tie as tie
-
--- a column on n plots, and what stands at the front of an array
-common-front : (n : ℕ) (F M : Column) → n ≤ 240 → length F ≡ n → length M ≡ 240 → onCommon infimum F M ≡ infimum F (take n M)
-common-front n F M small lF lM =
-    let e : common F M ≡ n = rw (lF, lM) (omega arith) in
-    ap (λ (k : ℕ). infimum (take k F) (take k M)) e ∙ ap (λ (X : Column). infimum X (take n M)) (take-all n F (le-of-eq lF))
 
 mul-a : tie.Need-mul-a
 mul-a c = search needs
