@@ -9,4 +9,5 @@ pub use nesting::finer;
 pub use order::alike;
 pub use order::smaller;
 pub use plots::common_plots;
+pub use sizes::label_sizes;
 pub use sizes::uniform;

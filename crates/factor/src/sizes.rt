@@ -20,6 +20,14 @@ fn sizes(f: &[u8]) -> [u8; 256]
     table
 }
 
+// How many plots have each label that a byte holds.
+pub fn label_sizes(f: &[u8]) -> [u8; 256]
+    ensures { λ r. ⌜ r ≡ sizes (plotsOf (now (f .entry))) ⌝ }
+{
+    let n = numbered_plots(f.len());
+    sizes(&f[..n])
+}
+
 // Whether all classes have one size.
 pub fn uniform(f: &[u8]) -> bool
     ensures { λ r. ⌜ r ≡ uniform (length (plotsOf (now (f .entry)))) (plotsOf (now (f .entry))) ⌝ }

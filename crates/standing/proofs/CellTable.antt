@@ -9,16 +9,18 @@ use native.Mathlib.Numerals.{add-one}
 use native.Mathlib.Omega.{arith}
 use lib.Dec.{eqb, ltb}
 use lib.ListN.{length, set, replicate, length-set}
-use lib.Seq.{getD-set-same, getD-set-other}
+use lib.Seq.{getD-set-same, getD-set-other, take-all}
 use borrow.Author.Tests.{eqb-true, eqb-false, eq-eqb, ne-eqb, ltb-true, ltb-false, lt-ltb, le-ltb}
 use Rattle.rules.specs.Factor.{Column, at, every, count, classSize, overlap, infimum, supremum, orthogonal}
 use Rattle.rules.proofs.Numbering.{by-cases}
 use Rattle.rules.proofs.Tests.{every-at, every-all, count-yes, count-no, count-none, count-same, size-equivalent}
 use Rattle.rules.proofs.Walks.{bool-false, count-le}
 use Rattle.rules.proofs.Orthogonality.{same-test, overlap-infimum, orthogonal-test-plots}
-use Rattle.factor.specs.Sizes.{labelled}
+use Rattle.factor.specs.Lent.{plotsOf}
+use Rattle.factor.specs.Sizes.{labelled, sizes}
 use Rattle.standing.specs.Joining.{Below, OneClass, Joins, spread}
 use Rattle.standing.specs.Cells.{labelledBoth, Inside, CellSizes, LabelSizes, EntrySizes, Stands, evenCells}
+use Rattle.factor.proofs.SizeTable.{sizes-at}
 use Rattle.factor.proofs.Table.{getD-zeros}
 use Rattle.standing.proofs.Joining.{joins-supremum, spread-at}
 
@@ -215,3 +217,11 @@ module _ (n w : ℕ) (F G : Column) (l : length G ≡ length F) (inside : Inside
       (λ e. every-all (length F) evenPlot (λ u hu. let p = listed .place u hu in sym (same-even u (p .plot) hu (sym (p .first)) (sym (p .second))) ∙ every-at (length X) evenAt e (p .plot) (p .less)))
       (λ e. every-all (length X) evenAt (λ i hi. let p = listed .plot i hi in same-even (p .plot) i (p .less) (p .first) (p .second) ∙ every-at (length F) evenPlot e (p .plot) (p .less)))
       ∙ sym (orthogonal-test-plots (length F) F G refl l)
+
+-- ---- sizes by plot
+
+-- the size of a plot's class, read from the table of a column of at most 240 plots
+pub plot-size : (n : ℕ) (X H : Column) {t : List ℕ} → X ≡ H → length H ≡ n → n ≤ 240 → t ≡ sizes (plotsOf X) → (u : ℕ) → at X u < 256 → at t (at X u) ≡ classSize n H u
+plot-size n X H x l h e u byte =
+    let long : length X ≡ n = ap length x ∙ l in
+    sizes-at X (e ∙ ap sizes (take-all 240 X (omega arith))) u byte ∙ ap₂ (λ (k : ℕ) (Y : Column). classSize k Y u) long x

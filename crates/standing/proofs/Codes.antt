@@ -2,9 +2,10 @@
 -- Assumes nothing.
 use mathlib.Core.Path.{_≡_, sym, ap, ap₂, _∙_}
 use mathlib.Core.List.{map}
-use Prim.Native.Nat.{ℕ, _+_, _*_, _<_}
+use Prim.Native.Nat.{ℕ, _+_, _*_, _≤_, _<_}
 use native.Mathlib.Omega.{arith}
-use lib.ListN.{length, getD, length-map, List·getD-map}
+use lib.ListN.{length, getD, take, length-map, List·getD-map}
+use lib.Seq.{ext-getD, getD-take, length-take-le}
 use Rattle.rules.specs.Factor.{Column, at, Equivalent, Pair, pairs, number, classes, infimum}
 use Rattle.rules.proofs.Numbering.{length-pairs, pairs-at, length-infimum, infimum-same, number-infimum, number-unique}
 use Rattle.rules.proofs.Columns.{Tells, number-positive, classes-equivalent}
@@ -29,6 +30,12 @@ module _ (w : ℕ) (F G : Column) (l : length F ≡ length G) where
   codes-at u h =
       let z : 0 ≡ w * 0 + 0 = omega arith in
       ap (λ (d : ℕ). getD (map (code w) (pairs F G)) u d) z ∙ List·getD-map (code w) (pairs F G) u (0, 0) ∙ ap (code w) (pairs-at F G l u h)
+
+  -- an array that begins with them
+  pub take-codes : (codes : Column) → length F ≤ length codes → ((u : ℕ) → u < length F → at codes u ≡ w * at F u + at G u) → take (length F) codes ≡ codesOf w F G
+  take-codes codes h e =
+      let long : length (take (length F) codes) ≡ length F = length-take-le (length F) codes h in
+      ext-getD 0 (take (length F) codes) (codesOf w F G) (long ∙ sym length-codes) (λ u k. let hu : u < length F = rw long at k in getD-take (length F) codes u 0 hu ∙ e u hu ∙ sym (codes-at u hu))
 
   module _ (bytes : (u : ℕ) → u < length F → at G u < w) where
     codes-equivalent : Equivalent (length (codesOf w F G)) (codesOf w F G) (infimum F G)

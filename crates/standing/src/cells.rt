@@ -12,14 +12,9 @@ use limits::PLOTS;
 // factors have few cells.
 pub(crate) const FEW_CELLS: usize = 256;
 
-// The cells of two factors of 44 classes each.
+// The cells of two factors of 44 classes each. A longer table would not pay: its memory, which is more than a page, is touched by
+// every call, whatever table is used.
 pub(crate) const CELLS: usize = 2048;
-
-// The cells of two factors of 120 classes each, and of one of 240 with one of 60.
-pub(crate) const MANY_CELLS: usize = 16384;
-
-// The cells of any labels.
-pub(crate) const ALL_CELLS: usize = 65536;
 
 // Counts the plots of each cell, and lists the labels of the cells that have a plot; answers how many these are.
 pub(crate) fn count_cells(
@@ -102,7 +97,7 @@ pub(crate) fn entry_sizes(
 }
 
 // The product of two sizes.
-fn product(x: u8, y: u8) -> u16
+pub(crate) fn product(x: u8, y: u8) -> u16
     ensures { λ r. ⌜ r ≡ x * y ⌝ }
 {
     x as u16 * y as u16

@@ -3,6 +3,7 @@
 mod cells;
 mod join;
 mod labels;
+mod many;
 mod meet;
 mod pair;
 

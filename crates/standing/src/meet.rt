@@ -6,11 +6,10 @@ ghost use Rattle.rules.specs.Factor.{classes, infimum};
 ghost use Rattle.factor.specs.Lent.{onCommon, overlay};
 ghost use Rattle.standing.specs.Joining.{Below};
 ghost use Rattle.standing.specs.Cells.{Inside, Cover};
-use crate::cells::ALL_CELLS;
 use crate::cells::CELLS;
 use crate::cells::FEW_CELLS;
-use crate::cells::MANY_CELLS;
 use crate::labels::past_labels;
+use crate::many::infimum_many;
 use factor::common_plots;
 use limits::PLOTS;
 
@@ -40,12 +39,7 @@ fn infimum_whole(f: &[u8], g: &[u8], a: usize, w: usize, out: &mut [u8; PLOTS]) 
         let mut some = [0u8; CELLS];
         return infimum_cells(f, g, a, w, &mut some, out);
     }
-    if cells <= MANY_CELLS {
-        let mut many = [0u8; MANY_CELLS];
-        return infimum_cells(f, g, a, w, &mut many, out);
-    }
-    let mut numbers = [0u8; ALL_CELLS];
-    infimum_cells(f, g, a, w, &mut numbers, out)
+    infimum_many(f, g, w, out)
 }
 
 // The same with a table of zeros that has room for the cells.

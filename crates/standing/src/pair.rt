@@ -6,21 +6,22 @@ ghost use Rattle.rules.specs.Factor.{classes, infimum, supremum, orthogonal};
 ghost use Rattle.factor.specs.Lent.{onCommon, testCommon, overlay};
 ghost use Rattle.standing.specs.Joining.{Below};
 ghost use Rattle.standing.specs.Cells.{Inside, CellSizes, Listed};
-use crate::cells::ALL_CELLS;
 use crate::cells::CELLS;
 use crate::cells::FEW_CELLS;
-use crate::cells::MANY_CELLS;
 use crate::cells::count_cells;
 use crate::cells::entry_sizes;
 use crate::cells::even_cells;
+use crate::cells::product;
 use crate::cells::sum_cells;
 use crate::join::join_labels;
 use crate::join::number_column;
 use crate::join::number_joins;
 use crate::labels::past_labels;
+use crate::many::number_many;
 use crate::meet::number_cells;
 use factor::common_plots;
 use factor::finer;
+use factor::label_sizes;
 use limits::PLOTS;
 
 // Numbers of classes: of the infimum of two factors and of their supremum.
@@ -75,12 +76,7 @@ fn bounds_whole(
         let mut some = [0u8; CELLS];
         return bounds_cells(f, g, a, w, &mut some, below, above);
     }
-    if cells <= MANY_CELLS {
-        let mut many = [0u8; MANY_CELLS];
-        return bounds_cells(f, g, a, w, &mut many, below, above);
-    }
-    let mut numbers = [0u8; ALL_CELLS];
-    bounds_cells(f, g, a, w, &mut numbers, below, above)
+    bounds_many(f, g, a, w, below, above)
 }
 
 // The same with a table of zeros that has room for the cells. Plots of one cell have the same labels, so one of each cell is looked at.
@@ -102,13 +98,54 @@ fn bounds_cells(
     let mut cell_f = [0u8; PLOTS];
     let mut cell_g = [0u8; PLOTS];
     let k = number_cells(f, g, w, numbers, &mut cell_f, &mut cell_g, below);
-    let mut table = [0u8; 256];
-    let one = join_labels(&cell_f[..k], &cell_g[..k], a, &mut table);
-    let m = number_joins(&table, f, &cell_f[..k], one, above);
+    let m = supremum_listed(f, g, a, &cell_f[..k], &cell_g[..k], above);
     Bounds {
         infimum: k,
         supremum: m,
     }
+}
+
+// The same for many cells, without a table of these.
+fn bounds_many(
+    f: &[u8],
+    g: &[u8],
+    a: usize,
+    w: usize,
+    below: &mut [u8; PLOTS],
+    above: &mut [u8; PLOTS],
+) -> Bounds
+    requires { ⌜ (length (now f) ≤ 240) × (length (now g) ≡ length (now f)) × (a ≤ 256) × (w ≤ 256) × Below a (now f) × Below w (now g) ⌝ }
+    ensures infimum { λ r. ⌜ r .infimum ≡ classes (infimum (now (f .entry)) (now (g .entry))) ⌝ }
+    ensures supremum { λ r. ⌜ r .supremum ≡ classes (supremum (now (f .entry)) (now (g .entry))) ⌝ }
+    ensures below { λ _. ⌜ now (below .exit) ≡ overlay (now (below .entry)) (infimum (now (f .entry)) (now (g .entry))) ⌝ }
+    ensures above { λ _. ⌜ now (above .exit) ≡ overlay (now (above .entry)) (supremum (now (f .entry)) (now (g .entry))) ⌝ }
+{
+    let mut cell_f = [0u8; PLOTS];
+    let mut cell_g = [0u8; PLOTS];
+    let k = number_many(f, g, w, &mut cell_f, &mut cell_g, below);
+    let m = supremum_listed(f, g, a, &cell_f[..k], &cell_g[..k], above);
+    Bounds {
+        infimum: k,
+        supremum: m,
+    }
+}
+
+// Numbers the classes of the supremum by the labels `x` and `y` of the cells that have a plot; answers how many there are.
+fn supremum_listed(
+    f: &[u8],
+    g: &[u8],
+    a: usize,
+    x: &[u8],
+    y: &[u8],
+    above: &mut [u8; PLOTS],
+) -> usize
+    requires { ⌜ (length (now f) ≤ 240) × (length (now g) ≡ length (now f)) × (a ≤ 256) × Below a (now f) × Listed (now f) (now g) (now x) (now y) ⌝ }
+    ensures supremum { λ r. ⌜ r ≡ classes (supremum (now (f .entry)) (now (g .entry))) ⌝ }
+    ensures above { λ _. ⌜ now (above .exit) ≡ overlay (now (above .entry)) (supremum (now (f .entry)) (now (g .entry))) ⌝ }
+{
+    let mut table = [0u8; 256];
+    let one = join_labels(x, y, a, &mut table);
+    number_joins(&table, f, x, one, above)
 }
 
 // Numbers the classes of the supremum of two columns over their common plots; answers how many there are, and whether the
@@ -151,12 +188,7 @@ fn crossing_whole(f: &[u8], g: &[u8], a: usize, w: usize, above: &mut [u8; PLOTS
         let mut some = [0u8; CELLS];
         return crossing_cells(f, g, a, w, &mut some, above);
     }
-    if cells <= MANY_CELLS {
-        let mut many = [0u8; MANY_CELLS];
-        return crossing_cells(f, g, a, w, &mut many, above);
-    }
-    let mut in_cells = [0u8; ALL_CELLS];
-    crossing_cells(f, g, a, w, &mut in_cells, above)
+    crossing_many(f, g, a, w, above)
 }
 
 // The same with a table of zeros that has room for the cells.
@@ -177,6 +209,44 @@ fn crossing_cells(
     let mut cell_g = [0u8; PLOTS];
     let m = count_cells(f, g, w, in_cells, &mut cell_f, &mut cell_g);
     crossing_listed(f, g, a, w, in_cells, &cell_f[..m], &cell_g[..m], above)
+}
+
+// Whether two columns are orthogonal, by their infimum and supremum: the sizes of each plot's classes of these make the product that those
+// of its classes of the two make.
+fn even_plots(f: &[u8], g: &[u8], below: &[u8], above: &[u8]) -> bool
+    requires { ⌜ (length (now f) ≤ 240) × (length (now g) ≡ length (now f)) × (now below ≡ infimum (now f) (now g)) × (now above ≡ supremum (now f) (now g)) ⌝ }
+    ensures { λ r. ⌜ r ≡ orthogonal (length (now (f .entry))) (now (f .entry)) (now (g .entry)) ⌝ }
+{
+    let in_f = label_sizes(f);
+    let in_g = label_sizes(g);
+    let in_i = label_sizes(below);
+    let in_k = label_sizes(above);
+    for u in 0..f.len() {
+        let left = product(in_i[below[u] as usize], in_k[above[u] as usize]);
+        let right = product(in_f[f[u] as usize], in_g[g[u] as usize]);
+        if left != right {
+            return false;
+        }
+    }
+    true
+}
+
+// The same for many cells, without a table of these.
+fn crossing_many(f: &[u8], g: &[u8], a: usize, w: usize, above: &mut [u8; PLOTS]) -> Crossing
+    requires { ⌜ (length (now f) ≤ 240) × (length (now g) ≡ length (now f)) × (a ≤ 256) × (w ≤ 256) × Below a (now f) × Below w (now g) ⌝ }
+    ensures supremum { λ r. ⌜ r .supremum ≡ classes (supremum (now (f .entry)) (now (g .entry))) ⌝ }
+    ensures orthogonal { λ r. ⌜ r .orthogonal ≡ orthogonal (length (now (f .entry))) (now (f .entry)) (now (g .entry)) ⌝ }
+    ensures above { λ _. ⌜ now (above .exit) ≡ overlay (now (above .entry)) (supremum (now (f .entry)) (now (g .entry))) ⌝ }
+{
+    let n = f.len();
+    let mut below = [0u8; PLOTS];
+    let bounds = bounds_many(f, g, a, w, &mut below, above);
+    let numbers: &[u8] = above;
+    let level = even_plots(f, g, &below[..n], &numbers[..n]);
+    Crossing {
+        supremum: bounds.supremum,
+        orthogonal: level,
+    }
 }
 
 // The same by the plots of each cell, and the labels `x` and `y` of the cells that have a plot.

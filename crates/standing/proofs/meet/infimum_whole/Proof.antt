@@ -1,4 +1,4 @@
--- `infimum_whole` meets its contract: there is room for all cells.
+-- `infimum_whole` meets its contract: a table has room for few cells, and many are numbered like levels.
 -- Assumes nothing.
 use mathlib.Core.Path.{refl}
 use native.Mathlib.Omega.{arith}
@@ -32,27 +32,11 @@ infimum-cells-requires-2 c κs =
 returns-2 : tie.Need-returns-2
 returns-2 c = search needs
 
-slice-aggregate-infimum-cells-3 : tie.Need-slice-aggregate-infimum-cells-3
-slice-aggregate-infimum-cells-3 c = search needs
-
-infimum-cells-requires-3 : tie.Need-infimum-cells-requires-3
-infimum-cells-requires-3 c κs =
-    let s = c .before .before .before .before .before .before .before in
-    (s .pre .0, s .pre .1, s .pre .2, s .pre .3, s .pre .4, s .pre .5, c .before .before .if3 .taken, omega arith, refl)
+infimum-many-requires : tie.Need-infimum-many-requires
+infimum-many-requires c κs = search needs
 
 returns-3 : tie.Need-returns-3
 returns-3 c = search needs
-
-slice-aggregate-infimum-cells-4 : tie.Need-slice-aggregate-infimum-cells-4
-slice-aggregate-infimum-cells-4 c = search needs
-
-infimum-cells-requires-4 : tie.Need-infimum-cells-requires-4
-infimum-cells-requires-4 c κs =
-    let s = c .before .before .before .before .before .before .before in
-    (s .pre .0, s .pre .1, s .pre .2, s .pre .3, s .pre .4, s .pre .5, mul-le-mul (s .pre .2) (s .pre .3), omega arith, refl)
-
-returns-4 : tie.Need-returns-4
-returns-4 c = search needs
 
 pub infimum-whole-spec : {M : Type 1} → statement M
 infimum-whole-spec =
@@ -65,9 +49,5 @@ infimum-whole-spec =
     slice-aggregate-infimum-cells-2
     infimum-cells-requires-2
     returns-2
-    slice-aggregate-infimum-cells-3
-    infimum-cells-requires-3
-    returns-3
-    slice-aggregate-infimum-cells-4
-    infimum-cells-requires-4
-    returns-4)
+    infimum-many-requires
+    returns-3)

@@ -1,6 +1,6 @@
 -- `bounds_cells` meets its contract: the listed cells stand for all plots.
 -- Assumes nothing.
-use mathlib.Core.Path.{_≡_, sym, ap, _∙_}
+use mathlib.Core.Path.{_≡_, sym}
 use mathlib.Core.List.{List}
 use Prim.Native.Nat.{ℕ, _≤_}
 use native.Mathlib.Omega.{arith}
@@ -8,11 +8,9 @@ use denote.Ref.{now}
 use lib.ListN.{length, take}
 use lib.Seq.{length-take-le}
 use Rattle.rules.specs.Factor.{Column}
-use Rattle.factor.specs.Lent.{overlay}
 use Rattle.standing.specs.Cells.{Listed}
 use Rattle.standing.proofs.CellTable.{inside-below}
-use Rattle.standing.proofs.Joining.{one-entry, joins-supremum, number-spread, classes-spread}
-use Rattle.standing.proofs.Listing.{cover-none, cover-listed, listed-below, stands-among}
+use Rattle.standing.proofs.Listing.{cover-none, cover-listed}
 use borrow.Author.Needs.{needs}
 use Rattle.standing.proofs.pair.bounds_cells.Statement.{statement}
 use Rattle.standing.proofs.pair.bounds_cells.Tie as tie
@@ -65,49 +63,30 @@ module _ (c : tie.After-number-cells) where
 array-share-prefix-cell-f : tie.Need-array-share-prefix-cell-f
 array-share-prefix-cell-f c = few-x (c .before .before)
 
-slice-aggregate-join-labels : tie.Need-slice-aggregate-join-labels
-slice-aggregate-join-labels c = sym (long-x (c .before .before .before))
+slice-aggregate-supremum-listed : tie.Need-slice-aggregate-supremum-listed
+slice-aggregate-supremum-listed c = sym (long-x (c .before .before .before))
 
 array-share-prefix-cell-g : tie.Need-array-share-prefix-cell-g
 array-share-prefix-cell-g c = few-y (c .before .before .before)
 
-slice-aggregate-join-labels-2 : tie.Need-slice-aggregate-join-labels-2
-slice-aggregate-join-labels-2 c = sym (length-take-le (m (c .before .before .before .before)) (cell-g (c .before .before .before .before)) (few-y (c .before .before .before .before)))
+slice-aggregate-supremum-listed-2 : tie.Need-slice-aggregate-supremum-listed-2
+slice-aggregate-supremum-listed-2 c =
+    let k = c .before .before .before .before in
+    sym (length-take-le (m k) (cell-g k) (few-y k))
 
-join-labels-requires : tie.Need-join-labels-requires
-join-labels-requires c κs =
+supremum-listed-requires : tie.Need-supremum-listed-requires
+supremum-listed-requires c κs =
     let k = c .before .before .before .before .before in
     let s = start k in
-    (listed k .even, s .pre .2, listed-below (F k) (G k) (X k) (Y k) (listed k .stands) (s .args .a) (s .pre .4))
-
-slice-aggregate-number-joins : tie.Need-slice-aggregate-number-joins
-slice-aggregate-number-joins c = search needs
-
-array-share-prefix-cell-f-2 : tie.Need-array-share-prefix-cell-f-2
-array-share-prefix-cell-f-2 c = few-x (c .before .before .before .before .before .before .before)
-
-slice-aggregate-number-joins-2 : tie.Need-slice-aggregate-number-joins-2
-slice-aggregate-number-joins-2 c = sym (long-x (c .before .before .before .before .before .before .before .before))
-
-number-joins-requires : tie.Need-number-joins-requires
-number-joins-requires c κs =
-    let j = c .before .before .before in
-    let k = j .before .before .before .before .before .before in
-    let s = start k in
-    (j .join-labels .ensures .1 .0, s .pre .0, omega (arith, listed k .few, s .pre .0), stands-among (F k) (G k) (X k) (Y k) (listed k .stands), listed k .order, λ e. let one = j .join-labels .ensures .0 e in (omega (arith, one .0, listed k .few), one-entry (F k) (G k) (s .pre .1) (s .args .a) (j .join-labels .last .1 .1 .1 .0) (s .pre .4) (one .1)))
+    (s .pre .0, s .pre .1, s .pre .2, s .pre .4, listed k)
 
 same-length : tie.Need-same-length
 same-length c = search needs
 
 returns : tie.Need-returns
 returns c =
-    let j = c .before .before .before .before in
-    let k = j .before .before .before .before .before .before in
-    let s = start k in
-    let t = j .join-labels .last .1 .1 .1 .0 in
-    let e = joins-supremum (F k) (G k) (s .pre .1) (X k) (Y k) t (listed k .stands) (j .join-labels .ensures .1 .1) in
-    let r = k .number-cells .ensures in
-    (r .0, (c .number-joins .ensures .0 ∙ classes-spread (F k) (G k) (s .pre .1) t e, (r .1 .1, c .number-joins .ensures .1 ∙ ap (overlay (now (s .args .above))) (number-spread (F k) (G k) (s .pre .1) t e))))
+    let k = c .before .before .before .before .before .before in
+    (k .number-cells .ensures .0, (c .supremum-listed .ensures .0, (k .number-cells .ensures .1 .1, c .supremum-listed .ensures .1)))
 
 pub bounds-cells-spec : {M : Type 1} → statement M
 bounds-cells-spec =
@@ -115,13 +94,9 @@ bounds-cells-spec =
     (tie.spec
     number-cells-requires
     array-share-prefix-cell-f
-    slice-aggregate-join-labels
+    slice-aggregate-supremum-listed
     array-share-prefix-cell-g
-    slice-aggregate-join-labels-2
-    join-labels-requires
-    slice-aggregate-number-joins
-    array-share-prefix-cell-f-2
-    slice-aggregate-number-joins-2
-    number-joins-requires
+    slice-aggregate-supremum-listed-2
+    supremum-listed-requires
     same-length
     returns)

@@ -32,27 +32,11 @@ bounds-cells-requires-2 c κs =
 returns-2 : tie.Need-returns-2
 returns-2 c = search needs
 
-slice-aggregate-bounds-cells-3 : tie.Need-slice-aggregate-bounds-cells-3
-slice-aggregate-bounds-cells-3 c = search needs
-
-bounds-cells-requires-3 : tie.Need-bounds-cells-requires-3
-bounds-cells-requires-3 c κs =
-    let s = c .before .before .before .before .before .before .before .before in
-    (s .pre .0, s .pre .1, s .pre .2, s .pre .3, s .pre .4, s .pre .5, c .before .before .before .if3 .taken, omega arith, refl)
+bounds-many-requires : tie.Need-bounds-many-requires
+bounds-many-requires c κs = search needs
 
 returns-3 : tie.Need-returns-3
 returns-3 c = search needs
-
-slice-aggregate-bounds-cells-4 : tie.Need-slice-aggregate-bounds-cells-4
-slice-aggregate-bounds-cells-4 c = search needs
-
-bounds-cells-requires-4 : tie.Need-bounds-cells-requires-4
-bounds-cells-requires-4 c κs =
-    let s = c .before .before .before .before .before .before .before .before in
-    (s .pre .0, s .pre .1, s .pre .2, s .pre .3, s .pre .4, s .pre .5, mul-le-mul (s .pre .2) (s .pre .3), omega arith, refl)
-
-returns-4 : tie.Need-returns-4
-returns-4 c = search needs
 
 pub bounds-whole-spec : {M : Type 1} → statement M
 bounds-whole-spec =
@@ -65,9 +49,5 @@ bounds-whole-spec =
     slice-aggregate-bounds-cells-2
     bounds-cells-requires-2
     returns-2
-    slice-aggregate-bounds-cells-3
-    bounds-cells-requires-3
-    returns-3
-    slice-aggregate-bounds-cells-4
-    bounds-cells-requires-4
-    returns-4)
+    bounds-many-requires
+    returns-3)

@@ -60,27 +60,11 @@ crossing-cells-requires-2 c κs =
 returns-3 : tie.Need-returns-3
 returns-3 c = search needs
 
-slice-aggregate-crossing-cells-3 : tie.Need-slice-aggregate-crossing-cells-3
-slice-aggregate-crossing-cells-3 c = search needs
-
-crossing-cells-requires-3 : tie.Need-crossing-cells-requires-3
-crossing-cells-requires-3 c κs =
-    let s = c .before .before .before .before .before .before .before .before .before in
-    (s .pre .0, s .pre .1, s .pre .2, s .pre .3, s .pre .4, s .pre .5, c .before .before .if4 .taken, omega arith, refl)
+crossing-many-requires : tie.Need-crossing-many-requires
+crossing-many-requires c κs = search needs
 
 returns-4 : tie.Need-returns-4
 returns-4 c = search needs
-
-slice-aggregate-crossing-cells-4 : tie.Need-slice-aggregate-crossing-cells-4
-slice-aggregate-crossing-cells-4 c = search needs
-
-crossing-cells-requires-4 : tie.Need-crossing-cells-requires-4
-crossing-cells-requires-4 c κs =
-    let s = c .before .before .before .before .before .before .before .before .before in
-    (s .pre .0, s .pre .1, s .pre .2, s .pre .3, s .pre .4, s .pre .5, mul-le-mul (s .pre .2) (s .pre .3), omega arith, refl)
-
-returns-5 : tie.Need-returns-5
-returns-5 c = search needs
 
 pub crossing-whole-spec : {M : Type 1} → statement M
 crossing-whole-spec =
@@ -96,9 +80,5 @@ crossing-whole-spec =
     slice-aggregate-crossing-cells-2
     crossing-cells-requires-2
     returns-3
-    slice-aggregate-crossing-cells-3
-    crossing-cells-requires-3
-    returns-4
-    slice-aggregate-crossing-cells-4
-    crossing-cells-requires-4
-    returns-5)
+    crossing-many-requires
+    returns-4)
