@@ -32,6 +32,9 @@ use limits::PLOTS;
 // U, E and three columns: fewer make one pair at most.
 const CROSSED: usize = 5;
 
+// U, E and four columns: fewer make a family that is closed in less time than points take.
+const PARTED: usize = 6;
+
 // A closed family: its size, or TOO_MANY; and where its members were found, in their order.
 pub struct ClosedFamily {
     pub size: usize,
@@ -145,12 +148,12 @@ fn look_crossed(counts: &[u8; MEMBERS], size: usize, n: usize) -> bool
     true
 }
 
-// Whether three plot columns or more, placed after U and E, have few classes: there may be few points then. Any answer is right; this one
+// Whether four plot columns or more, placed after U and E, have few classes: there may be few points then. Any answer is right; this one
 // is quick.
 fn few_classes(counts: &[u8; MEMBERS], size: usize, n: usize) -> bool
     requires { ⌜ (size ≤ 32) × (n ≤ 240) ⌝ }
 {
-    if size < CROSSED {
+    if size < PARTED {
         return false;
     }
     for i in 2..size {
