@@ -11,12 +11,11 @@ use lib.Seq.{getD-take, getD-set-same, getD-set-other, ext-getD}
 use lib.Dec.{eqb}
 use borrow.Author.Tests.{eqb-true, eqb-false}
 use Rattle.rules.specs.Factor.{Column, at, Finer, classes, infimum, universal}
-use Rattle.rules.proofs.Bounds.{finer-trans, length-infimum′, infimum-left, infimum-right}
-use Rattle.rules.proofs.Numbering.{by-cases, number-infimum}
-use Rattle.rules.proofs.Extremes.{length-universal, number-universal}
-use Rattle.rules.proofs.ClassCount.{classes-universal}
+use Rattle.rules.proofs.Bounds.{finer-trans, infimum-left, infimum-right}
+use Rattle.rules.proofs.Numbering.{by-cases}
 use Rattle.design.specs.Points.{Points, Ranged, onPlots}
 use Rattle.design.proofs.Judge.{getD-map}
+use Rattle.design.proofs.PointLaws.{points-universal, points-more}
 use Rattle.design.proofs.Pasted.{in-range}
 
 -- ---- points met
@@ -27,7 +26,7 @@ Met n m p column IsMet i = Points n m p × ((k : ℕ) → k < i → IsMet k → 
 
 -- no column
 pub met-none : (n : ℕ) → 1 ≤ n → (p : Column) (column : ℕ → Column) (IsMet : ℕ → Type 0) → p ≡ universal n → Met n 1 p column IsMet 0
-met-none n some p column IsMet e = rw e (record { on = length-universal n; numbered = number-universal n; many = classes-universal n some }, λ k h. absurd (not-suc-le-zero h))
+met-none n some p column IsMet e = rw e (points-universal n some, λ k h. absurd (not-suc-le-zero h))
 
 module _ (n m : ℕ) (p : Column) (column : ℕ → Column) (IsMet : ℕ → Type 0) (i : ℕ) (h : Met n m p column IsMet i) where
   -- column i is not met
@@ -36,7 +35,7 @@ module _ (n m : ℕ) (p : Column) (column : ℕ → Column) (IsMet : ℕ → Typ
 
   -- it is met
   pub met-more : (m′ : ℕ) (p′ : Column) → m′ ≡ classes (infimum (column i) p) → p′ ≡ infimum (column i) p → length (column i) ≡ n → Met n m′ p′ column IsMet (i + 1)
-  met-more m′ p′ z w l = rw (z, w) (record { on = length-infimum′ n F p l (h .0 .on); numbered = number-infimum F p (l ∙ sym (h .0 .on)); many = refl }, λ k q d. by-cases (eqb k i) (here k) (there k q d))
+  met-more m′ p′ z w l = rw (z, w) (points-more F p l (h .0 .on) (classes (infimum F p)) refl, λ k q d. by-cases (eqb k i) (here k) (there k q d))
     where
       F : Column
       F = column i
@@ -50,9 +49,9 @@ module _ (n m : ℕ) (p : Column) (column : ℕ → Column) (IsMet : ℕ → Typ
 -- ---- columns gathered
 
 -- one plot more: an earlier plot of the same point has the same label
-pub gathered-more : (n : ℕ) (p F column : Column) (u : ℕ) → u < n → Ranged n (take n p) → Finer n (take n p) F → length column ≡ 240
+pub gathered-plot : (n : ℕ) (p F column : Column) (u : ℕ) → u < n → Ranged n (take n p) → Finer n (take n p) F → length column ≡ 240
     → ((v : ℕ) → v < u → at column (at p v - 1) ≡ at F v) → (y : ℕ) → y ≡ at F u → (v : ℕ) → v < u + 1 → at (set column (at p u - 1) y) (at p v - 1) ≡ at F v
-gathered-more n p F column u h r f l all y e v k = by-cases (eqb (at p v) (at p u)) here there
+gathered-plot n p F column u h r f l all y e v k = by-cases (eqb (at p v) (at p u)) here there
   where
     of-u : (0 < at p u) × (at p u ≤ 240)
     of-u = in-range n p r u h
@@ -76,9 +75,9 @@ gathered-more n p F column u h r f l all y e v k = by-cases (eqb (at p v) (at p 
         ∙ all v (omega (arith, d))
 
 -- all plots
-pub gathered-all : (n : ℕ) (p F column : Column) → Ranged n (take n p) → length F ≡ n → ((v : ℕ) → v < n → at column (at p v - 1) ≡ at F v) → onPlots (take n p) column ≡ F
+pub gathered-plots : (n : ℕ) (p F column : Column) → Ranged n (take n p) → length F ≡ n → ((v : ℕ) → v < n → at column (at p v - 1) ≡ at F v) → onPlots (take n p) column ≡ F
 unfolding onPlots
-gathered-all n p F column r l all =
+gathered-plots n p F column r l all =
     let f : ℕ → ℕ = λ x. at column (x - 1) in
     let len : length (map f (take n p)) ≡ n = length-map (take n p) f ∙ r .0 in
     ext-getD 0 (map f (take n p)) F (len ∙ sym l)

@@ -2,10 +2,10 @@
 -- Assumes nothing.
 use mathlib.Core.Path.{_≡_, sym, ap, _∙_, subst}
 use mathlib.Core.List.{List, [], _∷_, _++_}
-use Prim.Native.Nat.{ℕ, suc, _+_, _-_, _*_, _≤_, _<_}
+use Prim.Native.Nat.{ℕ, suc, _+_, _*_, _≤_, _<_}
 use native.Mathlib.Omega.{arith}
 use lib.Dec.{eqb}
-use lib.ListN.{length, getD, take, length-map, List·getD-append}
+use lib.ListN.{length, getD, take, List·getD-append}
 use lib.Seq.{paste, getD-take, getD-at}
 use borrow.Author.Tests.{eqb-true, eqb-false}
 use Rattle.rules.specs.Factor.{Column, at}
@@ -13,7 +13,7 @@ use Rattle.rules.specs.Family.{Family, membersOf}
 use Rattle.rules.proofs.Numbering.{by-cases}
 use Rattle.rules.proofs.Buffer.{length-members, member-is}
 use Rattle.design.specs.State.{columnIn}
-use Rattle.design.specs.Points.{Ranged, onPlots}
+use Rattle.design.specs.Points.{Ranged}
 use Rattle.design.proofs.Choosing.{members-paste}
 
 -- the label of a plot's point is in range
@@ -46,8 +46,3 @@ module _ (n : ℕ) (small : n ≤ 240) (b : List ℕ) (m : ℕ) (F : Column) (l 
   -- it is the next of the columns that stand there
   pub pasted-more : (f : ℕ → Column) → F ≡ f m → ((k : ℕ) → k < m → columnIn n b k ≡ f k) → (k : ℕ) → k < m + 1 → columnIn n after k ≡ f k
   pasted-more f = pasted-each (λ (k : ℕ) (X : Column). X ≡ f k)
-
--- a column of points made a column of plots is on the plots
-pub length-plots : (p F : Column) → length (onPlots p F) ≡ length p
-unfolding onPlots
-length-plots p F = length-map p (λ (x : ℕ). at F (x - 1))

@@ -54,6 +54,11 @@ place-at (x ∷ s) (apart n d) (suc i) h =
 at-before : (F : Column) (x y : ℕ) → y ≡ suc x → at F (y - 1) ≡ at F x
 at-before F x y e = ap (at F) (omega arith)
 
+-- a column of points has a label for each plot
+pub plots-length : (p F : Column) → length (onPlots p F) ≡ length p
+unfolding onPlots
+plots-length p F = length-map p (λ (x : ℕ). at F (x - 1))
+
 module _ {n m : ℕ} {p : Column} (P : Points n m p) where
   -- ---- points and plots
 
@@ -114,10 +119,9 @@ module _ {n m : ℕ} {p : Column} (P : Points n m p) where
 
   -- ---- columns of points as columns of plots
 
-  -- a column of points has a label for each plot
+  -- it is on these plots
   pub length-plots : (F : Column) → length (onPlots p F) ≡ n
-  unfolding onPlots
-  length-plots F = length-map p (λ (x : ℕ). at F (x - 1)) ∙ P .on
+  length-plots F = plots-length p F ∙ P .on
 
   -- a plot has the label of its point
   pub at-plots : (F : Column) (u : ℕ) → u < n → at (onPlots p F) u ≡ at F (at p u - 1)

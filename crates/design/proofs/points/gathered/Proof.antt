@@ -11,7 +11,7 @@ use Rattle.rules.specs.Factor.{at}
 use Rattle.design.specs.State.{columnIn}
 use Rattle.design.proofs.Common.{column-length}
 use Rattle.design.proofs.Pasted.{in-range}
-use Rattle.design.proofs.Gathering.{gathered-more, gathered-all}
+use Rattle.design.proofs.Gathering.{gathered-plot, gathered-plots}
 use Rattle.design.proofs.points.gathered.Statement.{statement}
 use Rattle.design.proofs.points.gathered.Tie as tie
 
@@ -70,14 +70,14 @@ loop-again c =
     let u = b .loop .u in
     let F = columnIn n store (s .args .i) in
     let v : at F u ≡ getD store (240 * s .args .i + u) 0 = getD-take n (drop (240 * s .args .i) store) u 0 (omega arith) ∙ getD-drop (240 * s .args .i) store u 0 in
-    (omega arith, simp length-set (b .loop .inv .1), gathered-more n p F (b .loop .column) u (omega arith) (s .pre .3) (s .pre .4) (b .loop .inv .1) (b .loop .inv .2) (getD store (240 * s .args .i + u) 0) (sym v))
+    (omega arith, simp length-set (b .loop .inv .1), gathered-plot n p F (b .loop .column) u (omega arith) (s .pre .3) (s .pre .4) (b .loop .inv .1) (b .loop .inv .2) (getD store (240 * s .args .i + u) 0) (sym v))
 
 returns : tie.Need-returns Inv-loop μ-loop
 returns c =
     let b = c .before in
     let s = b .before in
     let e : b .loop .u ≡ s .args .n = omega arith in
-    (b .loop .inv .1, gathered-all (s .args .n) (now (s .args .points)) (columnIn (s .args .n) (now (s .args .store)) (s .args .i)) (b .loop .column) (s .pre .3) (column-length (s .args .n) (now (s .args .store)) (s .args .i) (s .pre .0) (s .pre .1) (s .pre .2)) (rw e at (b .loop .inv .2)))
+    (b .loop .inv .1, gathered-plots (s .args .n) (now (s .args .points)) (columnIn (s .args .n) (now (s .args .store)) (s .args .i)) (b .loop .column) (s .pre .3) (column-length (s .args .n) (now (s .args .store)) (s .args .i) (s .pre .0) (s .pre .1) (s .pre .2)) (rw e at (b .loop .inv .2)))
 
 pub gathered-spec : {M : Type 1} → statement M
 gathered-spec =

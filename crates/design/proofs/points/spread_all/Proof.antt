@@ -13,7 +13,8 @@ use Rattle.rules.specs.Factor.{Column}
 use Rattle.design.specs.State.{columnIn}
 use Rattle.design.specs.Points.{onPlots}
 use Rattle.design.proofs.Choosing.{length-pasted}
-use Rattle.design.proofs.Pasted.{pasted-more, length-plots}
+use Rattle.design.proofs.PointLaws.{plots-length}
+use Rattle.design.proofs.Pasted.{pasted-more}
 use Rattle.design.proofs.points.spread_all.Statement.{statement}
 use Rattle.design.proofs.points.spread_all.Tie as tie
 
@@ -35,7 +36,7 @@ made w = onPlots (take (start w .args .n) (now (start w .args .points))) (column
 length-made : (w : tie.After-spread Inv-loop μ-loop) → length (take (start w .args .n) (w .spread .result)) ≡ start w .args .n
 length-made w =
     let a = start w .args in
-    ap length (w .spread .ensures) ∙ length-plots (take (a .n) (now (a .points))) (columnIn 240 (now (a .own)) (w .before .before .loop .i)) ∙ start w .pre .4 .0
+    ap length (w .spread .ensures) ∙ plots-length (take (a .n) (now (a .points))) (columnIn 240 (now (a .own)) (w .before .before .loop .i)) ∙ start w .pre .4 .0
 
 loop-holds : tie.Need-loop-holds Inv-loop μ-loop
 loop-holds c = (omega arith, c .before .before .pre .2, λ k h. absurd (not-suc-le-zero h))

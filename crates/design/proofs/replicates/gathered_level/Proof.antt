@@ -11,7 +11,7 @@ use Rattle.rules.specs.Factor.{at}
 use Rattle.design.specs.State.{columnIn}
 use Rattle.design.proofs.Choosing.{length-part}
 use Rattle.design.proofs.Pasted.{in-range}
-use Rattle.design.proofs.Gathering.{gathered-more, gathered-all}
+use Rattle.design.proofs.Gathering.{gathered-plot, gathered-plots}
 use Rattle.design.proofs.replicates.gathered_level.Statement.{statement}
 use Rattle.design.proofs.replicates.gathered_level.Tie as tie
 
@@ -79,14 +79,14 @@ loop-again c =
     let u = b .loop .u in
     let F = columnIn n levels (s .args .c) in
     let v : at F u ≡ getD levels (240 * s .args .c + u) 0 = getD-take n (drop (240 * s .args .c) levels) u 0 (omega arith) ∙ getD-drop (240 * s .args .c) levels u 0 in
-    (omega arith, simp length-set (b .loop .inv .1), gathered-more n p F (b .loop .column) u (omega arith) (s .pre .3) (s .pre .4) (b .loop .inv .1) (b .loop .inv .2) (getD levels (240 * s .args .c + u) 0) (sym v))
+    (omega arith, simp length-set (b .loop .inv .1), gathered-plot n p F (b .loop .column) u (omega arith) (s .pre .3) (s .pre .4) (b .loop .inv .1) (b .loop .inv .2) (getD levels (240 * s .args .c + u) 0) (sym v))
 
 returns : tie.Need-returns Inv-loop μ-loop
 returns c =
     let b = c .before in
     let s = b .before in
     let e : b .loop .u ≡ s .args .n = omega arith in
-    (b .loop .inv .1, gathered-all (s .args .n) (now (s .args .points)) (columnIn (s .args .n) (now (s .args .levels)) (s .args .c)) (b .loop .column) (s .pre .3) (length-part (s .args .n) (s .args .c) (now (s .args .levels)) (s .pre .0) (s .pre .1)) (rw e at (b .loop .inv .2)))
+    (b .loop .inv .1, gathered-plots (s .args .n) (now (s .args .points)) (columnIn (s .args .n) (now (s .args .levels)) (s .args .c)) (b .loop .column) (s .pre .3) (length-part (s .args .n) (s .args .c) (now (s .args .levels)) (s .pre .0) (s .pre .1)) (rw e at (b .loop .inv .2)))
 
 pub gathered-level-spec : {M : Type 1} → statement M
 gathered-level-spec =
