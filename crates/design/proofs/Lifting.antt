@@ -5,7 +5,7 @@ use mathlib.Core.Logic.{_⊎_, inl, inr, ⊎-elim}
 use mathlib.Core.Bool.{Bool, true, false}
 use mathlib.Core.List.{List, [], _∷_, _++_, map, List·Memᴰ·head, List·Memᴰ·tail, List·Memᴰ·cases-cons, List·Memᴰ·not-nil, List·Memᴰ·append-cases, List·Memᴰ·eq-of-singleton, Memᴰ·append-left, Memᴰ·append-right, Memᴰ·map, Memᴰ·of-map}
 use Prim.Native.Nat.{ℕ, zero, suc, _+_, _≤_, _<_}
-use native.Mathlib.Nat.{not-suc-le-zero, le-of-suc-le-suc}
+use native.Mathlib.Nat.{not-suc-le-zero, le-of-suc-le-suc, le-trans}
 use native.Mathlib.Omega.{arith}
 use lib.ListN.{length, List·getD-append}
 use lib.Seq.{take-take}
@@ -15,14 +15,13 @@ use Rattle.rules.specs.Closing.{both, onlySupremum, Made, given, made, tooMany,
 use Rattle.rules.specs.Relation.{memberAt}
 use Rattle.rules.proofs.Bounds.{length-infimum′, length-supremum′}
 use Rattle.rules.proofs.Numbering.{length-number}
-use Rattle.rules.proofs.ClassCount.{classes-most}
 use Rattle.rules.proofs.Extremes.{number-equality}
 use Rattle.rules.proofs.Closing.{close-too-many}
 use Rattle.rules.proofs.WorkList.{member-in, Found, found-more, found-over}
 use Rattle.design.specs.State.{columnIn, Held, Placed, full, old, new, grownTo, Begun, makeOf, markOf, markedRow, Work}
 use Rattle.design.specs.Points.{Points, onPlots, Gathered}
 use Rattle.design.proofs.Common.{column-length}
-use Rattle.design.proofs.PointLaws.{plots-apart, classes-plots, number-plots, infimum-plots, supremum-plots, counts-plots, plots-few, plots-part, points-some}
+use Rattle.design.proofs.PointLaws.{plots-apart, classes-plots, number-plots, infimum-plots, supremum-plots, counts-plots, plots-few, plots-part, points-some, points-most}
 use Rattle.design.proofs.EvenPoints.{orthogonal-plots}
 use Rattle.design.proofs.Start.{After, after-placed, held-none}
 use Rattle.design.proofs.Work.{Stood, size-members, member-length}
@@ -326,7 +325,7 @@ module _ {n m : ℕ} {p : Column} (P : Points n m p) where
 pub gathered-none : {n m : ℕ} {p : Column} → Points n m p → 1 ≤ n → n ≤ 240 → (own counts : List ℕ) → length own ≡ 7680 → length counts ≡ 32 → Gathered n m p [] own counts 0
 unfolding membersOf columnsFrom
 gathered-none {n} {m} {p} P some small own counts room places = record {
-  held = held-none m own counts (points-some P some) (omega (arith, classes-most p, P .many, P .on)) room places;
+  held = held-none m own counts (points-some P some) (le-trans (points-most P) small) room places;
   distinct = none-left;
   numbered = λ F k. absurd (List·Memᴰ·not-nil k);
   only = λ F k. absurd (List·Memᴰ·not-nil k);

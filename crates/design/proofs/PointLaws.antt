@@ -113,6 +113,10 @@ module _ {n m : ℕ} {p : Column} (P : Points n m p) where
   pub points-some : 1 ≤ n → 1 ≤ m
   points-some h = let r = point-range 0 h in omega arith
 
+  -- there are as many points as plots, at most
+  pub points-most : m ≤ n
+  points-most = omega (arith, classes-most p, P .many, P .on)
+
   -- the points of few plots fit a column's memory
   pub ranged : n ≤ 240 → Ranged n p
   ranged h = (P .on, λ u hu. let r = point-range u hu in let c = classes-most p in (r .0, omega (arith, P .on, P .many)))

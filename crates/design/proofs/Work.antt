@@ -9,8 +9,8 @@ use native.Mathlib.Nat.{not-suc-le-zero, add-zero, mul-comm}
 use native.Mathlib.Numerals.{add-one}
 use native.Mathlib.Omega.{arith}
 use lib.Dec.{eqb, ltb}
-use lib.ListN.{length, getD, set, length-set, length-append, List·getD-append}
-use lib.Seq.{getD-append-add, getD-set-same, getD-set-other}
+use lib.ListN.{length, getD, set, take, length-set, length-append, List·getD-append}
+use lib.Seq.{getD-append-add, getD-set-same, getD-set-other, take-suc}
 use borrow.Author.Tests.{ltb-true, ltb-false, eq-eqb, ne-eqb}
 use Rattle.rules.specs.Factor.{Column, Finer, finer, number, classes, infimum, supremum, orthogonal}
 use Rattle.rules.specs.Family.{Family, _∈_, membersOf, insertAll}
@@ -55,6 +55,13 @@ module _ {n : ℕ} {store counts : List ℕ} {size : ℕ} (held : Held n store c
   -- the column at a member's place is a member
   pub column-in : (i : ℕ) → i < size → columnIn n store i ∈ membersOf n store size
   column-in i h = subst (λ (F : Column). F ∈ membersOf n store size) (member-column i h) (member-in (membersOf n store size) i (omega (arith, size-members)))
+
+  -- one member more
+  pub members-more : (i : ℕ) → i < size → take (i + 1) (membersOf n store size) ≡ take i (membersOf n store size) ++ columnIn n store i ∷ []
+  members-more i l =
+      ap (λ (k : ℕ). take k (membersOf n store size)) (add-one i)
+      ∙ take-suc (membersOf n store size) i [] (rw size-members l)
+      ∙ ap (λ (F : Column). take i (membersOf n store size) ++ F ∷ []) (member-column i l)
 
 -- ---- a column that is placed
 

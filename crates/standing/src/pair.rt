@@ -211,44 +211,6 @@ fn crossing_cells(
     crossing_listed(f, g, a, w, in_cells, &cell_f[..m], &cell_g[..m], above)
 }
 
-// Whether two columns are orthogonal, by their infimum and supremum: the sizes of each plot's classes of these make the product that those
-// of its classes of the two make.
-fn even_plots(f: &[u8], g: &[u8], below: &[u8], above: &[u8]) -> bool
-    requires { ⌜ (length (now f) ≤ 240) × (length (now g) ≡ length (now f)) × (now below ≡ infimum (now f) (now g)) × (now above ≡ supremum (now f) (now g)) ⌝ }
-    ensures { λ r. ⌜ r ≡ orthogonal (length (now (f .entry))) (now (f .entry)) (now (g .entry)) ⌝ }
-{
-    let in_f = label_sizes(f);
-    let in_g = label_sizes(g);
-    let in_i = label_sizes(below);
-    let in_k = label_sizes(above);
-    for u in 0..f.len() {
-        let left = product(in_i[below[u] as usize], in_k[above[u] as usize]);
-        let right = product(in_f[f[u] as usize], in_g[g[u] as usize]);
-        if left != right {
-            return false;
-        }
-    }
-    true
-}
-
-// The same for many cells, without a table of these.
-fn crossing_many(f: &[u8], g: &[u8], a: usize, w: usize, above: &mut [u8; PLOTS]) -> Crossing
-    requires { ⌜ (length (now f) ≤ 240) × (length (now g) ≡ length (now f)) × (a ≤ 256) × (w ≤ 256) × Below a (now f) × Below w (now g) ⌝ }
-    ensures supremum { λ r. ⌜ r .supremum ≡ classes (supremum (now (f .entry)) (now (g .entry))) ⌝ }
-    ensures orthogonal { λ r. ⌜ r .orthogonal ≡ orthogonal (length (now (f .entry))) (now (f .entry)) (now (g .entry)) ⌝ }
-    ensures above { λ _. ⌜ now (above .exit) ≡ overlay (now (above .entry)) (supremum (now (f .entry)) (now (g .entry))) ⌝ }
-{
-    let n = f.len();
-    let mut below = [0u8; PLOTS];
-    let bounds = bounds_many(f, g, a, w, &mut below, above);
-    let numbers: &[u8] = above;
-    let level = even_plots(f, g, &below[..n], &numbers[..n]);
-    Crossing {
-        supremum: bounds.supremum,
-        orthogonal: level,
-    }
-}
-
 // The same by the plots of each cell, and the labels `x` and `y` of the cells that have a plot.
 fn crossing_listed(
     f: &[u8],
@@ -275,6 +237,44 @@ fn crossing_listed(
     let k = number_joins(&table, f, x, one, above);
     Crossing {
         supremum: k,
+        orthogonal: level,
+    }
+}
+
+// Whether two columns are orthogonal, by their infimum and supremum: the sizes of each plot's classes of these make the product that those
+// of its classes of the two make.
+fn even_plots(f: &[u8], g: &[u8], below: &[u8], above: &[u8]) -> bool
+    requires { ⌜ (length (now f) ≤ 240) × (length (now g) ≡ length (now f)) × (now below ≡ infimum (now f) (now g)) × (now above ≡ supremum (now f) (now g)) ⌝ }
+    ensures { λ r. ⌜ r ≡ orthogonal (length (now (f .entry))) (now (f .entry)) (now (g .entry)) ⌝ }
+{
+    let in_f = label_sizes(f);
+    let in_g = label_sizes(g);
+    let in_i = label_sizes(below);
+    let in_k = label_sizes(above);
+    for u in 0..f.len() {
+        let left = product(in_i[below[u] as usize], in_k[above[u] as usize]);
+        let right = product(in_f[f[u] as usize], in_g[g[u] as usize]);
+        if left != right {
+            return false;
+        }
+    }
+    true
+}
+
+// `crossing_whole` for many cells, without a table of these.
+fn crossing_many(f: &[u8], g: &[u8], a: usize, w: usize, above: &mut [u8; PLOTS]) -> Crossing
+    requires { ⌜ (length (now f) ≤ 240) × (length (now g) ≡ length (now f)) × (a ≤ 256) × (w ≤ 256) × Below a (now f) × Below w (now g) ⌝ }
+    ensures supremum { λ r. ⌜ r .supremum ≡ classes (supremum (now (f .entry)) (now (g .entry))) ⌝ }
+    ensures orthogonal { λ r. ⌜ r .orthogonal ≡ orthogonal (length (now (f .entry))) (now (f .entry)) (now (g .entry)) ⌝ }
+    ensures above { λ _. ⌜ now (above .exit) ≡ overlay (now (above .entry)) (supremum (now (f .entry)) (now (g .entry))) ⌝ }
+{
+    let n = f.len();
+    let mut below = [0u8; PLOTS];
+    let bounds = bounds_many(f, g, a, w, &mut below, above);
+    let numbers: &[u8] = above;
+    let level = even_plots(f, g, &below[..n], &numbers[..n]);
+    Crossing {
+        supremum: bounds.supremum,
         orthogonal: level,
     }
 }

@@ -4,11 +4,9 @@ use mathlib.Core.Bool.{true}
 use Prim.Native.Nat.{_≤_, _<_, zero-le}
 use native.Mathlib.Omega.{arith}
 use borrow.Author.Needs.{needs}
-use lib.ListN.{take}
-use Rattle.rules.proofs.ClassCount.{classes-most}
 use Rattle.design.proofs.Start.{take-ones}
 use Rattle.design.proofs.Work.{work-begun}
-use Rattle.design.proofs.PointLaws.{points-some}
+use Rattle.design.proofs.PointLaws.{points-some, points-most}
 use Rattle.design.proofs.closed.close_columns.Statement.{statement}
 use Rattle.design.proofs.closed.close_columns.Tie as tie
 
@@ -18,9 +16,7 @@ start w = w .before .before .before .before .before .before .before .before .bef
 
 -- there are as many points as plots at most
 few-points : (w : tie.After-meet-members) → w .meet-members .result ≤ 240
-few-points w =
-    let P = w .meet-members .ensures .0 in
-    omega (arith, classes-most (take (start w .args .n) (w .meet-members .last .1 .1 .1 .1 .0)), P .many, P .on, start w .pre .0 .held .most)
+few-points w = omega (arith, points-most (w .meet-members .ensures .0), start w .pre .0 .held .most)
 
 few-classes-requires : tie.Need-few-classes-requires
 few-classes-requires c κs = search needs

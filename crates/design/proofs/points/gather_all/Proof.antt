@@ -4,30 +4,22 @@ use mathlib.Core.Path.{_≡_, refl, sym, ap, _∙_, subst}
 use mathlib.Core.Logic.{⊎-elim}
 use mathlib.Core.List.{List, [], _∷_, _++_}
 use Prim.Native.Nat.{ℕ, _+_, _-_, _≤_, _<_}
-use native.Mathlib.Numerals.{add-one}
 use native.Mathlib.Omega.{arith}
 use borrow.Author.Needs.{needs}
 use denote.Ref.{now}
 use lib.ListN.{length, getD, take}
-use lib.Seq.{take-suc, take-all, length-take-le}
+use lib.Seq.{take-all, length-take-le}
 use Rattle.rules.specs.Factor.{Column, classes, equality}
 use Rattle.rules.specs.Family.{Family, membersOf}
 use Rattle.rules.proofs.ClassCount.{classes-most, each-class-is}
 use Rattle.design.specs.State.{columnIn, Held, grownTo}
 use Rattle.design.specs.Points.{onPlots, Gathered}
 use Rattle.design.proofs.Start.{held-on, placed-on, after-placed}
-use Rattle.design.proofs.Work.{size-members, member-column, held-length, column-in}
-use Rattle.design.proofs.PointLaws.{ranged, plots-part, classes-plots}
+use Rattle.design.proofs.Work.{size-members, held-length, column-in, members-more}
+use Rattle.design.proofs.PointLaws.{points-most, ranged, plots-part, classes-plots}
 use Rattle.design.proofs.Lifting.{gathered-none, gathered-same, gathered-more}
 use Rattle.design.proofs.points.gather_all.Statement.{statement}
 use Rattle.design.proofs.points.gather_all.Tie as tie
-
--- one member more
-taken-more : {n : ℕ} {store counts : List ℕ} {size : ℕ} → Held n store counts size → (i : ℕ) → i < size → take (i + 1) (membersOf n store size) ≡ take i (membersOf n store size) ++ columnIn n store i ∷ []
-taken-more {n} {store} {counts} {size} h i l =
-    ap (λ (k : ℕ). take k (membersOf n store size)) (add-one i)
-    ∙ take-suc (membersOf n store size) i [] (rw (size-members h) l)
-    ∙ ap (λ (F : Column). take i (membersOf n store size) ++ F ∷ []) (member-column h i l)
 
 abbrev Inv-loop : tie.InvT-loop
 Inv-loop store counts size n points m own₀ own-counts₀ some₀ i₀ own own-counts some i =
@@ -42,7 +34,7 @@ start w = w .before .before .before .before .before .before .before
 
 -- there are as many points as plots at most
 few-points : (s : tie.Start Inv-loop μ-loop) → s .args .m ≤ 240
-few-points s = omega (arith, classes-most (take (s .args .n) (now (s .args .points))), s .pre .1 .many, s .pre .1 .on, s .pre .0 .most)
+few-points s = omega (arith, points-most (s .pre .1), s .pre .0 .most)
 
 -- the member as a column of points
 abbrev column : tie.After-gathered Inv-loop μ-loop → Column
@@ -126,11 +118,11 @@ loop-again c =
     let p = placed-on m (b .loop .own) (b .loop .some) (column w) (column w) (v .6 .result) (v .6 .last .0) (v .6 .last .1 .0) refl (length-is w) (v .6 .ensures) in
     let g = gathered-more (s .pre .1) (b .loop .inv .2) less (column w) (member w) (length-is w) (is-member w) (s .pre .3 (member w) (column-in h i l)) (v .6 .result) (v .6 .last .0) (v .6 .last .1 .0) p in
     let most = after-placed m (b .loop .own) (b .loop .own-counts) (b .loop .some) (b .loop .inv .2 .held) less (column w) (v .6 .result) (v .6 .last .0) (v .6 .last .1 .0) p .most in
-    (omega arith, rw (v .12 ∙ v .9 .ensures) (omega (arith, most)), rw (taken-more h i l, v .10, v .11, v .12 ∙ v .9 .ensures) g))
+    (omega arith, rw (v .12 ∙ v .9 .ensures) (omega (arith, most)), rw (members-more h i l, v .10, v .11, v .12 ∙ v .9 .ensures) g))
     (λ v.
     let F = columnIn (s .args .n) (now (s .args .store)) i in
     let e : F ≡ equality (s .args .n) = each-class-is (s .args .n) F (held-length h i l) (s .pre .3 F (column-in h i l)) .0 (sym (h .counted i l) ∙ v .0 .left) in
-    (omega arith, rw (v .3) (omega arith), rw (taken-more h i l, v .1, v .2, v .3) (gathered-same (b .loop .inv .2) F e)))
+    (omega arith, rw (v .3) (omega arith), rw (members-more h i l, v .1, v .2, v .3) (gathered-same (b .loop .inv .2) F e)))
     (c .if1 .came)
 
 same-length : tie.Need-same-length Inv-loop μ-loop

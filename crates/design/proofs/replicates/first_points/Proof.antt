@@ -12,7 +12,6 @@ use lib.ListN.{length, take, replicate, length-replicate}
 use Rattle.rules.specs.Factor.{Column}
 use Rattle.rules.specs.Family.{_∈_, columnsFrom, membersOf}
 use Rattle.rules.specs.Closing.{onlySupremum, treatmentGenerators, tooMany, close}
-use Rattle.rules.proofs.ClassCount.{classes-most}
 use Rattle.rules.proofs.Demand3.{column-length}
 use Rattle.design.specs.State.{Work, Closed}
 use Rattle.design.specs.Judging.{unlisted}
@@ -21,7 +20,7 @@ use Rattle.design.specs.Treatments.{AllPlaced}
 use Rattle.design.proofs.Choosing.{all-on, all-over, closed-on, closed-over}
 use Rattle.design.proofs.Start.{held-none, begun-none}
 use Rattle.design.proofs.Work.{work-begun, work-self}
-use Rattle.design.proofs.PointLaws.{points-some, ranged}
+use Rattle.design.proofs.PointLaws.{points-some, points-most, ranged}
 use Rattle.design.proofs.PointChoices.{generators-plots, columns-plots, generators-on}
 use Rattle.design.proofs.Lifting.{suprema-over, spread-work}
 use Rattle.design.proofs.replicates.first_points.Statement.{statement}
@@ -33,7 +32,7 @@ start a = a .before .before .before .before .before .before .before .before .bef
 
 -- there are as many points as plots at most
 few-points : (s : tie.Start) → s .args .m ≤ 240
-few-points s = omega (arith, classes-most (take (s .args .n) (now (s .args .points))), s .pre .9 .many, s .pre .9 .on, s .pre .1)
+few-points s = omega (arith, points-most (s .pre .9), s .pre .1)
 
 -- the points
 abbrev points : tie.After-place-choices → Column
