@@ -173,7 +173,8 @@ column-length n levels (suc m) c hn hl hc F k = go (column-length n levels m (su
     go below (inl e) = ap length e ∙ length-take-le n (drop (240 * c) levels) fits
     go below (inr k′) = below k′
 
-nonzero-all : (F : Column) → ((u : ℕ) → u < length F → getD F u 0 ≡ 0 → ⊥) → nonzero F ≡ true
+-- a column of levels that are not 0
+pub nonzero-all : (F : Column) → ((u : ℕ) → u < length F → getD F u 0 ≡ 0 → ⊥) → nonzero F ≡ true
 unfolding nonzero
 nonzero-all [] h = refl
 nonzero-all (x ∷ F) h = rw (ne-eqb x 0 (h 0 (suc-le-suc zero-le)), nonzero) (nonzero-all F (λ u hu. h (suc u) (suc-le-suc hu)))

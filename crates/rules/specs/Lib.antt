@@ -3,6 +3,9 @@ pub mod Lists
 pub mod Sheet
 pub mod Factor
 pub mod Family
+pub mod Places
+pub mod Asking
+pub mod Demand2
 pub mod Closing
 pub mod Structure
 pub mod Design
