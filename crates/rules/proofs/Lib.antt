@@ -43,3 +43,4 @@ pub mod Totals
 pub mod NameBytes
 pub mod NameLaws
 pub mod NamesAnswered
+pub mod Allocation

@@ -14,3 +14,4 @@ pub mod Trials
 pub mod Naming
 pub mod Table
 pub mod Sample
+pub mod Allocation
