@@ -44,3 +44,6 @@ pub mod NameBytes
 pub mod NameLaws
 pub mod NamesAnswered
 pub mod Allocation
+pub mod Listing
+pub mod StrataTotals
+pub mod Above

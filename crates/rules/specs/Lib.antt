@@ -15,3 +15,6 @@ pub mod Naming
 pub mod Table
 pub mod Sample
 pub mod Allocation
+pub mod Listing
+pub mod Above
+pub mod FurtherTrials

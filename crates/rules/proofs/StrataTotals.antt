@@ -1,0 +1,178 @@
+-- Laws of residuals: a stratum's is its degrees of freedom less those of its treatment members, each counted once, so that all add up to the number of plots.
+-- Assumes nothing.
+use mathlib.Core.Path.{_≡_, refl, sym, ap, ap₂, _∙_, subst}
+use mathlib.Core.Logic.{_↔_}
+use mathlib.Core.Bool.{Bool, true, false}
+use mathlib.Core.List.{List, [], _∷_, map}
+use Prim.Native.Nat.{ℕ, zero, suc, _+_, _-_, _≤_, _<_}
+use native.Mathlib.Nat.{not-suc-le-zero, suc-inj, suc-ne-zero, add-zero}
+use native.Mathlib.Omega.{arith}
+use lib.Dec.{eqb}
+use lib.Arith.{lt-of-le-ne}
+use lib.IntN.{ℤ, pos, _+ℤ_, _-ℤ_, +ℤ-assoc, +ℤ-comm, +ℤ-negℤ-cancel, -ℤ-+ℤ-cancel}
+use lib.ListN.{length, getD, length-map}
+use borrow.Author.Tests.{eqb-true, eqb-false, eq-eqb, ne-eqb}
+use Rattle.rules.specs.Factor.{Column}
+use Rattle.rules.specs.Family.{Family, _∈_, wellFormed}
+use Rattle.rules.specs.Design.{fullDesign}
+use Rattle.rules.specs.Lists.{passingFrom}
+use Rattle.rules.specs.Relation.{memberAt}
+use Rattle.rules.specs.Degrees.{degrees}
+use Rattle.rules.specs.Strata.{allHaveStratum, stratum, sumAt, residualsFrom, residuals}
+use Rattle.rules.specs.Listing.{Enumerates}
+use Rattle.rules.specs.Allocation.{IsStratum}
+use Rattle.rules.proofs.Numbering.{by-cases}
+use Rattle.rules.proofs.WellFormed.{member-at}
+use Rattle.rules.proofs.First.{member-suc}
+use Rattle.rules.proofs.DegreesLaws.{length-degrees, addUp}
+use Rattle.rules.proofs.Made.{full-tells}
+use Rattle.rules.proofs.Printing.{stratum-some, stratum-most}
+use Rattle.rules.proofs.Totals.{accepted-total, stratum-total}
+use Rattle.rules.proofs.Allocation.{stratum-at}
+use Rattle.rules.proofs.Listing.{enumerates-unique, enumerates-as, passing-enumerates}
+
+module _ (i s : ℕ) (ss : List ℕ) (d : ℤ) (ds : List ℤ) where
+  sum-here : eqb s i ≡ true → sumAt i (s ∷ ss) (d ∷ ds) ≡ d +ℤ sumAt i ss ds
+  unfolding sumAt
+  sum-here e = rw (e, sumAt)
+
+  sum-there : eqb s i ≡ false → sumAt i (s ∷ ss) (d ∷ ds) ≡ sumAt i ss ds
+  unfolding sumAt
+  sum-there e = rw (e, sumAt)
+
+-- ---- all strata together
+
+-- what the strata from place i on, m of them, take of the treatment members' numbers
+unfoldable sumsFrom : ℕ → ℕ → List ℕ → List ℤ → ℤ
+sumsFrom i zero ss ds = pos 0
+sumsFrom i (suc m) ss ds = sumAt i ss ds +ℤ sumsFrom (suc i) m ss ds
+
+swap : (x y z : ℤ) → x +ℤ (y +ℤ z) ≡ y +ℤ (x +ℤ z)
+swap x y z = sym (+ℤ-assoc x y z) ∙ ap (λ (w : ℤ). w +ℤ z) (+ℤ-comm x y) ∙ +ℤ-assoc y x z
+
+across : (a b c d : ℤ) → (a +ℤ b) +ℤ (c +ℤ d) ≡ (a +ℤ c) +ℤ (b +ℤ d)
+across a b c d = +ℤ-assoc a b (c +ℤ d) ∙ ap (λ (z : ℤ). a +ℤ z) (swap b c d) ∙ sym (+ℤ-assoc a c (b +ℤ d))
+
+residual-sums : (i : ℕ) (es : List ℤ) (ss : List ℕ) (ds : List ℤ) → addUp (residualsFrom i es ss ds) +ℤ sumsFrom i (length es) ss ds ≡ addUp es
+unfolding addUp residualsFrom sumsFrom
+residual-sums i [] ss ds = refl
+residual-sums i (e ∷ es) ss ds =
+    across (e -ℤ sumAt i ss ds) (addUp (residualsFrom (suc i) es ss ds)) (sumAt i ss ds) (sumsFrom (suc i) (length es) ss ds)
+    ∙ ap₂ _+ℤ_ (-ℤ-+ℤ-cancel e (sumAt i ss ds)) (residual-sums (suc i) es ss ds)
+
+sums-none : (i m : ℕ) (ds : List ℤ) → sumsFrom i m [] ds ≡ pos 0
+unfolding sumsFrom sumAt
+sums-none i zero ds = refl
+sums-none i (suc m) ds = ap (λ (z : ℤ). pos 0 +ℤ z) (sums-none (suc i) m ds)
+
+-- a member whose stratum has a place before i counts nowhere, one from i on counts once
+module _ (s : ℕ) (ss : List ℕ) (d : ℤ) (ds : List ℤ) where
+  sums-before : (i m : ℕ) → s < i → sumsFrom i m (s ∷ ss) (d ∷ ds) ≡ sumsFrom i m ss ds
+  unfolding sumsFrom
+  sums-before i zero h = refl
+  sums-before i (suc m) h = ap₂ _+ℤ_ (sum-there i s ss d ds (ne-eqb s i (λ q. omega arith))) (sums-before (suc i) m (omega arith))
+
+  sums-once : (i m : ℕ) → i ≤ s → s < i + m → sumsFrom i m (s ∷ ss) (d ∷ ds) ≡ d +ℤ sumsFrom i m ss ds
+  unfolding sumsFrom
+  sums-once i zero h l = let z : 1 ≤ 0 = omega arith in absurd (not-suc-le-zero z)
+  sums-once i (suc m) h l =
+      by-cases (eqb s i)
+      (λ e. let q = eqb-true s i e in
+      ap₂ _+ℤ_ (sum-here i s ss d ds e) (sums-before (suc i) m (omega arith)) ∙ +ℤ-assoc d (sumAt i ss ds) (sumsFrom (suc i) m ss ds))
+      (λ e. ap₂ _+ℤ_ (sum-there i s ss d ds e) (sums-once (suc i) m (further (eqb-false s i e)) (omega arith)) ∙ swap (sumAt i ss ds) d (sumsFrom (suc i) m ss ds))
+    where
+      further : (s ≡ i → ⊥) → suc i ≤ s
+      further n = lt-of-le-ne h (λ q. n (sym q))
+
+sums-all : (i m : ℕ) (ss : List ℕ) (ds : List ℤ) → length ss ≡ length ds → ((j : ℕ) → j < length ss → (i ≤ getD ss j 0) × (getD ss j 0 < i + m)) → sumsFrom i m ss ds ≡ addUp ds
+unfolding addUp
+sums-all i m [] [] l h = sums-none i m []
+sums-all i m [] (d ∷ ds) l h = absurd (suc-ne-zero _ (sym l))
+sums-all i m (s ∷ ss) [] l h = absurd (suc-ne-zero _ l)
+sums-all i m (s ∷ ss) (d ∷ ds) l h =
+    sums-once s ss d ds i m (h 0 (omega arith) .0) (h 0 (omega arith) .1) ∙ ap (λ (z : ℤ). d +ℤ z) (sums-all i m ss ds (suc-inj l) (λ j k. h (suc j) (omega arith)))
+
+at-map : (f : Column → ℕ) (R : Family) (j : ℕ) → j < length R → getD (map f R) j 0 ≡ f (memberAt R j)
+at-map f [] j h = absurd (not-suc-le-zero h)
+at-map f (T ∷ R) zero h = refl
+at-map f (T ∷ R) (suc j) h = at-map f R j (omega arith)
+
+-- where every treatment member has a stratum, residuals and treatment members' degrees of freedom add up to the strata's
+pub residuals-total : (n : ℕ) (P R : Family) → allHaveStratum n P R ≡ true → addUp (residuals n P R) +ℤ addUp (degrees n R) ≡ addUp (degrees n P)
+unfolding residuals
+residuals-total n P R has =
+    ap (λ (z : ℤ). addUp (residuals n P R) +ℤ z) (sym (sums-all 1 (length (degrees n P)) (map (stratum n P) R) (degrees n R) (length-map R (stratum n P) ∙ sym (length-degrees n R)) within))
+    ∙ residual-sums 1 (degrees n P) (map (stratum n P) R) (degrees n R)
+  where
+    within : (j : ℕ) → j < length (map (stratum n P) R) → (1 ≤ getD (map (stratum n P) R) j 0) × (getD (map (stratum n P) R) j 0 < 1 + length (degrees n P))
+    within j h =
+        let l : j < length R = omega (arith, length-map R (stratum n P)) in
+        let some = stratum-some n P R has (memberAt R j) (member-at R j l) in
+        rw (at-map (stratum n P) R j l) (some, omega (arith, stratum-most n P (memberAt R j) some, length-degrees n P))
+
+-- in an accepted design they add up to the number of plots
+pub accepted-residuals : (n c d k : ℕ) (levels : List ℕ) (p r : ℕ) → fullDesign n c d k levels p r .refusal ≡ 0
+    → addUp (residuals n (fullDesign n c d k levels p r .plot) (fullDesign n c d k levels p r .treatment)) +ℤ addUp (degrees n (fullDesign n c d k levels p r .treatment)) ≡ pos n
+accepted-residuals n c d k levels p r e =
+    residuals-total n (fullDesign n c d k levels p r .plot) (fullDesign n c d k levels p r .treatment) (full-tells n c d k levels p r .strata e)
+    ∙ accepted-total n c d k levels p r e
+
+-- ---- each stratum
+
+-- the numbers of those members whose stratum has place i, member by member
+sum-passing : (i a : ℕ) (t : ℕ → Bool) (f : ℕ → ℤ) (ss : List ℕ) (ds : List ℤ) → length ss ≡ length ds → ((j : ℕ) → j < length ss → t (a + j) ≡ eqb (getD ss j 0) i)
+    → ((j : ℕ) → j < length ss → f (a + j) ≡ getD ds j (pos 0)) → sumAt i ss ds ≡ addUp (map f (passingFrom t a (length ss)))
+unfolding sumAt addUp passingFrom
+sum-passing i a t f [] ds l ht hf = refl
+sum-passing i a t f (s ∷ ss) [] l ht hf = absurd (suc-ne-zero _ l)
+sum-passing i a t f (s ∷ ss) (d ∷ ds) l ht hf =
+    let rest = sum-passing i (suc a) t f ss ds (suc-inj l) (λ j h. ap t (on j) ∙ ht (suc j) (omega arith)) (λ j h. ap f (on j) ∙ hf (suc j) (omega arith)) in
+    by-cases (eqb s i)
+    (λ e. rw (first ∙ e, passingFrom) (sum-here i s ss d ds e ∙ ap₂ _+ℤ_ (sym own) rest))
+    (λ e. rw (first ∙ e, passingFrom) (sum-there i s ss d ds e ∙ rest))
+  where
+    first : t a ≡ eqb s i
+    first = ap t (sym (add-zero a)) ∙ ht 0 (omega arith)
+
+    own : f a ≡ d
+    own = ap f (sym (add-zero a)) ∙ hf 0 (omega arith)
+
+    on : (j : ℕ) → suc a + j ≡ a + suc j
+    on j = omega arith
+
+-- "A stratum's residual is its degrees of freedom less those of its treatment members": the stratum is the plot member at k, from 0, and its treatment members stand at the places js
+pub residual-is : (n : ℕ) (P R : Family) → wellFormed P ≡ true → ((F : Column) → F ∈ P → length F ≡ n) → (k : ℕ) → k < length P
+    → (js : List ℕ) → Enumerates (λ j. (j < length R) × IsStratum n P (memberAt R j) (memberAt P k)) js
+    → getD (residuals n P R) k (pos 0) ≡ getD (degrees n P) k (pos 0) -ℤ addUp (map (λ j. getD (degrees n R) j (pos 0)) js)
+residual-is n P R formed on k h js lists =
+    sym (+ℤ-negℤ-cancel (getD (residuals n P R) k (pos 0)) taken)
+    ∙ ap (λ (z : ℤ). z -ℤ taken) (stratum-total n P R k h)
+    ∙ ap (λ (z : ℤ). getD (degrees n P) k (pos 0) -ℤ z) (sum-passing (suc k) 0 test (λ j. getD (degrees n R) j (pos 0)) ss (degrees n R) long (λ j l. ap test (zero-add j)) (λ j l. ap (λ (x : ℕ). getD (degrees n R) x (pos 0)) (zero-add j))
+    ∙ ap (λ (l : List ℕ). addUp (map (λ j. getD (degrees n R) j (pos 0)) l)) (enumerates-unique _ _ js (enumerates-as _ says (passing-enumerates test 0 (length ss))) lists))
+  where
+    ss : List ℕ
+    ss = map (stratum n P) R
+
+    taken : ℤ
+    taken = sumAt (suc k) ss (degrees n R)
+
+    test : ℕ → Bool
+    test j = eqb (getD ss j 0) (suc k)
+
+    zero-add : (j : ℕ) → 0 + j ≡ j
+    zero-add j = omega arith
+
+    long : length ss ≡ length (degrees n R)
+    long = length-map R (stratum n P) ∙ sym (length-degrees n R)
+
+    there : (j : ℕ) → j < length R → (test j ≡ true) ↔ IsStratum n P (memberAt R j) (memberAt P k)
+    there j l = (
+      λ e. subst (λ (F : Column). IsStratum n P (memberAt R j) F) (member-suc P k) (stratum-at n P formed on (memberAt R j) (suc k) (omega arith) h .0 (sym (at-map (stratum n P) R j l) ∙ eqb-true (getD ss j 0) (suc k) e)),
+      λ w. eq-eqb (getD ss j 0) (suc k) (at-map (stratum n P) R j l ∙ stratum-at n P formed on (memberAt R j) (suc k) (omega arith) h .1 (subst (λ (F : Column). IsStratum n P (memberAt R j) F) (sym (member-suc P k)) w)),
+    )
+
+    says : (j : ℕ) → ((0 ≤ j) × (j < 0 + length ss) × (test j ≡ true)) ↔ ((j < length R) × IsStratum n P (memberAt R j) (memberAt P k))
+    says j = (
+      λ w. let l : j < length R = omega (arith, w .1, length-map R (stratum n P)) in (l, there j l .0 (w .2)),
+      λ w. (omega arith, omega (arith, w .0, length-map R (stratum n P)), there j (w .0) .1 (w .1)),
+    )
