@@ -47,3 +47,4 @@ pub mod Allocation
 pub mod Listing
 pub mod StrataTotals
 pub mod Above
+pub mod NamesMeant

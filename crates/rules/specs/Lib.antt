@@ -18,3 +18,4 @@ pub mod Allocation
 pub mod Listing
 pub mod Above
 pub mod FurtherTrials
+pub mod NamesMeant
