@@ -29,6 +29,11 @@ pub mod Sheet
 pub mod WellFormed
 pub mod StrictOrder
 pub mod Places
+pub mod Listing
+pub mod Allocation
+pub mod StrataTotals
+pub mod Above
+pub mod NamesMeant
 pub mod Bits
 pub mod Signed
 pub mod DegreesLaws
@@ -43,8 +48,3 @@ pub mod Totals
 pub mod NameBytes
 pub mod NameLaws
 pub mod NamesAnswered
-pub mod Allocation
-pub mod Listing
-pub mod StrataTotals
-pub mod Above
-pub mod NamesMeant

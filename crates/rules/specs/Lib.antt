@@ -3,6 +3,11 @@ pub mod Lists
 pub mod Sheet
 pub mod Factor
 pub mod Family
+pub mod Listing
+pub mod Allocation
+pub mod Above
+pub mod NamesMeant
+pub mod FurtherTrials
 pub mod Closing
 pub mod Structure
 pub mod Design
@@ -14,8 +19,3 @@ pub mod Trials
 pub mod Naming
 pub mod Table
 pub mod Sample
-pub mod Allocation
-pub mod Listing
-pub mod Above
-pub mod FurtherTrials
-pub mod NamesMeant
