@@ -5,7 +5,7 @@ use mathlib.Core.Logic.{_↔_}
 use mathlib.Core.Bool.{Bool, true, false, not, _&&_}
 use mathlib.Core.List.{List}
 use Prim.Native.Nat.{ℕ, zero, suc, _+_, _≤_, _<_}
-use native.Mathlib.Nat.{not-suc-le-zero, suc-ne-zero}
+use native.Mathlib.Nat.{not-suc-le-zero}
 use native.Mathlib.Omega.{arith}
 use lib.Count.{ones}
 use lib.Dec.{ltb}
@@ -28,9 +28,8 @@ use Rattle.rules.proofs.WellFormed.{accepted, member-at}
 use Rattle.rules.proofs.WorkList.{PlaceOf, place-of}
 use Rattle.rules.proofs.Relation.{direct-ones}
 use Rattle.rules.proofs.Words.{bit-word}
-use Rattle.rules.proofs.Buffer.{length-columns}
+use Rattle.rules.proofs.Taken.{places-found, taken-many, relation-taken}
 use Rattle.rules.proofs.Bits.{bit-none, bit-past}
-use Rattle.rules.proofs.Places.{at-places, length-places}
 use Rattle.rules.proofs.Lists.{length-tabulate, getD-tabulate}
 
 -- ---- the tests
@@ -166,25 +165,12 @@ module _ (t : ℕ → ℕ → Bool) (m : ℕ) where
           short : m ≤ i → length words ≤ i
           short h = omega (arith, length-tabulate (λ k. wordOf (t k) m) m)
 
--- numbers for at most 32 members are found at their places, and 0 past them
-places-at : (xs : List ℕ) → length xs ≤ 32 → (i : ℕ) → getD (forPlaces 0 xs) i 0 ≡ getD xs i 0
-places-at xs h i =
-    by-cases (ltb i 32)
-    (λ e. at-places 0 xs i (ltb-true i 32 e))
-    (λ e. let l = ltb-false i 32 e in
-    List·getD-eq-default (forPlaces 0 xs) 0 (let k : length (forPlaces 0 xs) ≤ i = omega (arith, length-places 0 xs) in k)
-    ∙ sym (List·getD-eq-default xs 0 (let k : length xs ≤ i = omega arith in k)))
-
 module _ (n : ℕ) (buffer : List ℕ) (size : ℕ) where
   abbrev pub membersTaken : Family
   membersTaken = membersOf n buffer size
 
   abbrev answer : RelationAnswer
   answer = relation n buffer size
-
-  members-many : length membersTaken ≡ size
-  unfolding membersOf
-  members-many = length-columns n buffer 0 size
 
   -- "after a refusal all are" 0, "the size too"
   pub relation-refused : (answer .refusal ≡ 0 → ⊥) → answer ≡ record { refusal = answer .refusal; size = 0; coarser = replicate 32 0; direct = replicate 32 0; counts = replicate 32 0 }
@@ -195,39 +181,35 @@ module _ (n : ℕ) (buffer : List ℕ) (size : ℕ) where
       (λ w. rw (w, relation))
 
   module _ (accepts : answer .refusal ≡ 0) where
-    taken : (answer ≡ relationOf n membersTaken) × (wellFormed membersTaken ≡ true)
-    unfolding relation relationRefused
-    taken =
-        by-cases (familyWithin n buffer)
-        (λ w. by-cases (wellFormed membersTaken) (λ f. (rw (w, relation, f), f)) (λ f. absurd (suc-ne-zero 14 (sym (rw (w, relation, f)) ∙ accepts))))
-        (λ w. absurd (suc-ne-zero 5 (sym (rw (w, relation)) ∙ accepts)))
+    is : answer ≡ relationOf n membersTaken
+    is = relation-taken n buffer size accepts .1
 
     few : length membersTaken ≤ 32
-    few = accepted membersTaken (taken .1) .few
+    few = accepted membersTaken (relation-taken n buffer size accepts .0 .formed) .few
 
     pub relation-size : answer .size ≡ size
     unfolding relationOf
-    relation-size = ap (λ (a : RelationAnswer). a .size) (taken .0) ∙ members-many
+    relation-size = ap (λ (a : RelationAnswer). a .size) is ∙ taken-many n buffer size
 
     -- "bit j − 1 of member i's word is set when member j is strictly coarser", i and j counted from 0; every other bit of the 32 words is 0
     pub relation-coarser : (i j : ℕ) → bitAt (getD (answer .coarser) i 0) j ≡ true ↔ ((i < size) × (j < size) × StrictlyCoarser n (memberAt membersTaken i) (memberAt membersTaken j))
     unfolding relationOf coarserWords
     relation-coarser i j = (
       λ e. let w = words-bit (coarserAt n membersTaken) (length membersTaken) i j .0 (sym (ap (λ (x : ℕ). bitAt x j) word) ∙ e) in
-          (omega (arith, w .0, members-many), omega (arith, w .1, members-many), coarserAt-test n membersTaken i j .0 (w .2)),
+          (omega (arith, w .0, taken-many n buffer size), omega (arith, w .1, taken-many n buffer size), coarserAt-test n membersTaken i j .0 (w .2)),
       λ w. ap (λ (x : ℕ). bitAt x j) word
-          ∙ words-bit (coarserAt n membersTaken) (length membersTaken) i j .1 (omega (arith, w .0, members-many), omega (arith, w .1, members-many), coarserAt-test n membersTaken i j .1 (w .2)),
+          ∙ words-bit (coarserAt n membersTaken) (length membersTaken) i j .1 (omega (arith, w .0, taken-many n buffer size), omega (arith, w .1, taken-many n buffer size), coarserAt-test n membersTaken i j .1 (w .2)),
     )
       where
         short : length (coarserWords n membersTaken) ≤ 32
         short = omega (arith, length-tabulate (λ k. wordOf (coarserAt n membersTaken k) (length membersTaken)) (length membersTaken), few)
 
         word : getD (answer .coarser) i 0 ≡ getD (coarserWords n membersTaken) i 0
-        word = ap (λ (a : RelationAnswer). getD (a .coarser) i 0) (taken .0) ∙ places-at (coarserWords n membersTaken) short i
+        word = ap (λ (a : RelationAnswer). getD (a .coarser) i 0) is ∙ places-found 0 (coarserWords n membersTaken) short i
 
     direct-word : (i : ℕ) → getD (answer .direct) i 0 ≡ getD (directWords n membersTaken) i 0
     unfolding relationOf directWords
-    direct-word i = ap (λ (a : RelationAnswer). getD (a .direct) i 0) (taken .0) ∙ places-at (directWords n membersTaken) short i
+    direct-word i = ap (λ (a : RelationAnswer). getD (a .direct) i 0) is ∙ places-found 0 (directWords n membersTaken) short i
       where
         short : length (directWords n membersTaken) ≤ 32
         short = omega (arith, length-tabulate (λ k. wordOf (directlyAbove n membersTaken k) (length membersTaken)) (length membersTaken), few)
@@ -237,16 +219,16 @@ module _ (n : ℕ) (buffer : List ℕ) (size : ℕ) where
     unfolding directWords
     relation-direct i j = (
       λ e. let w = words-bit (directlyAbove n membersTaken) (length membersTaken) i j .0 (sym (ap (λ (x : ℕ). bitAt x j) (direct-word i)) ∙ e) in
-          (omega (arith, w .0, members-many), omega (arith, w .1, members-many), direct-test n membersTaken i j .0 (w .2)),
+          (omega (arith, w .0, taken-many n buffer size), omega (arith, w .1, taken-many n buffer size), direct-test n membersTaken i j .0 (w .2)),
       λ w. ap (λ (x : ℕ). bitAt x j) (direct-word i)
-          ∙ words-bit (directlyAbove n membersTaken) (length membersTaken) i j .1 (omega (arith, w .0, members-many), omega (arith, w .1, members-many), direct-test n membersTaken i j .1 (w .2)),
+          ∙ words-bit (directlyAbove n membersTaken) (length membersTaken) i j .1 (omega (arith, w .0, taken-many n buffer size), omega (arith, w .1, taken-many n buffer size), direct-test n membersTaken i j .1 (w .2)),
     )
 
     -- "the number of neighbours directly above a member is reported too"
     pub relation-counts : (i : ℕ) → getD (answer .counts) i 0 ≡ ones (getD (answer .direct) i 0)
     unfolding relationOf directCounts directWords ones
     relation-counts i =
-        ap (λ (a : RelationAnswer). getD (a .counts) i 0) (taken .0) ∙ places-at (directCounts n membersTaken) short i ∙ counted ∙ sym (ap ones (direct-word i))
+        ap (λ (a : RelationAnswer). getD (a .counts) i 0) is ∙ places-found 0 (directCounts n membersTaken) short i ∙ counted ∙ sym (ap ones (direct-word i))
       where
         short : length (directCounts n membersTaken) ≤ 32
         short = omega (arith, length-tabulate (λ k. count (length membersTaken) (directlyAbove n membersTaken k)) (length membersTaken), few)

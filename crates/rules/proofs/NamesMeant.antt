@@ -4,15 +4,14 @@ use mathlib.Core.Path.{_≡_, refl, sym, ap, _∙_, subst}
 use mathlib.Core.Logic.{_↔_, _⊎_, inl, inr}
 use mathlib.Core.Bool.{Bool, true, false, not, _&&_}
 use mathlib.Core.List.{List, [], _∷_, List·Memᴰ·head, List·Memᴰ·tail, List·Memᴰ·cases-cons, List·Memᴰ·not-nil}
-use Prim.Native.Nat.{ℕ, zero, suc, _+_, _*_, _-_, _≤_, _<_}
+use Prim.Native.Nat.{ℕ, zero, suc, _+_, _-_, _≤_, _<_}
 use native.Mathlib.Nat.{not-suc-le-zero, suc-inj, suc-ne-zero}
 use native.Mathlib.Omega.{arith}
 use lib.Dec.{eqb, ltb, leb}
-use lib.ListN.{length, getD, take, drop, length-drop}
-use lib.Seq.{length-take-le}
+use lib.ListN.{length, getD}
 use borrow.Author.Tests.{eqb-true, eqb-false, eq-eqb, ne-eqb, ltb-true, ltb-false, le-ltb, leb-true}
 use Rattle.rules.specs.Factor.{Column, Same, Finer, Equivalent, every, finer, coarser, number, classes}
-use Rattle.rules.specs.Family.{Family, _∈_, alike, columnsFrom, membersOf, wellFormed}
+use Rattle.rules.specs.Family.{Family, _∈_, alike, membersOf, wellFormed}
 use Rattle.rules.specs.Design.{plotsWithin, allNonzero}
 use Rattle.rules.specs.Lists.{passingFrom}
 use Rattle.rules.specs.Relation.{memberAt}
@@ -33,6 +32,7 @@ use Rattle.rules.proofs.Tests.{every-at, every-all}
 use Rattle.rules.proofs.Sheet.{and-left, and-right, header-form}
 use Rattle.rules.proofs.WellFormed.{Accepted, accepted, member-at, numbered-at}
 use Rattle.rules.proofs.Demand3.{column-length}
+use Rattle.rules.proofs.Taken.{members-on}
 use Rattle.rules.proofs.Buffer.{length-columns}
 use Rattle.rules.proofs.Listing.{passing-enumerates, enumerates-as, enumerates-unique}
 
@@ -256,19 +256,6 @@ module _ (n : ℕ) (Cs : List Column) (on : (C : Column) → C ∈ Cs → length
       rw (ne-eqb (classes F) 1 a, ne-eqb (classes F) n b, past-columns none, nameOf) (rw (bool-false (alike (infimumAbove n F Cs) F) (λ e. i (infimum-fits .0 e)), nameByInfimum))
 
 -- ---- the name answered
-
--- the members of a lent buffer are on n plots
-pub members-on : (n : ℕ) (b : List ℕ) (m c : ℕ) → n ≤ 240 → 240 * (c + m) ≤ length b → (F : Column) → F ∈ columnsFrom n b c m → length F ≡ n
-unfolding columnsFrom
-members-on n b zero c few room F k = absurd (List·Memᴰ·not-nil k)
-members-on n b (suc m) c few room F k = go (members-on n b m (suc c) few (omega arith) F) (List·Memᴰ·cases-cons k)
-  where
-    fits : n ≤ length (drop (240 * c) b)
-    fits = rw length-drop (omega arith)
-
-    go : (F ∈ columnsFrom n b (suc c) m → length F ≡ n) → (F ≡ take n (drop (240 * c) b)) ⊎ (F ∈ columnsFrom n b (suc c) m) → length F ≡ n
-    go below (inl e) = ap length e ∙ length-take-le n (drop (240 * c) b) fits
-    go below (inr h) = below h
 
 module _ (kind : Kind) (text levels buffer : List ℕ) (n size place nameLength : ℕ) where
   abbrev Cs : List Column

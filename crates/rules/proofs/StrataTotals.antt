@@ -2,10 +2,10 @@
 -- Assumes nothing.
 use mathlib.Core.Path.{_≡_, refl, sym, ap, ap₂, _∙_, subst}
 use mathlib.Core.Logic.{_↔_}
-use mathlib.Core.Bool.{Bool, true, false}
+use mathlib.Core.Bool.{true, false}
 use mathlib.Core.List.{List, [], _∷_, map}
 use Prim.Native.Nat.{ℕ, zero, suc, _+_, _-_, _≤_, _<_}
-use native.Mathlib.Nat.{not-suc-le-zero, suc-inj, suc-ne-zero, add-zero}
+use native.Mathlib.Nat.{not-suc-le-zero, suc-inj, suc-ne-zero}
 use native.Mathlib.Omega.{arith}
 use lib.Dec.{eqb}
 use lib.Arith.{lt-of-le-ne}
@@ -15,7 +15,6 @@ use borrow.Author.Tests.{eqb-true, eqb-false, eq-eqb, ne-eqb}
 use Rattle.rules.specs.Factor.{Column}
 use Rattle.rules.specs.Family.{Family, _∈_, wellFormed}
 use Rattle.rules.specs.Design.{fullDesign}
-use Rattle.rules.specs.Lists.{passingFrom}
 use Rattle.rules.specs.Relation.{memberAt}
 use Rattle.rules.specs.Degrees.{degrees}
 use Rattle.rules.specs.Strata.{allHaveStratum, stratum, sumAt, residualsFrom, residuals}
@@ -29,7 +28,8 @@ use Rattle.rules.proofs.Made.{full-tells}
 use Rattle.rules.proofs.Printing.{stratum-some, stratum-most}
 use Rattle.rules.proofs.Totals.{accepted-total, stratum-total}
 use Rattle.rules.proofs.Allocation.{stratum-at}
-use Rattle.rules.proofs.Listing.{enumerates-unique, enumerates-as, passing-enumerates}
+use Rattle.rules.proofs.Listing.{enumerates-as}
+use Rattle.rules.proofs.ChosenSums.{sum-enumerated}
 
 module _ (i s : ℕ) (ss : List ℕ) (d : ℤ) (ds : List ℤ) where
   sum-here : eqb s i ≡ true → sumAt i (s ∷ ss) (d ∷ ds) ≡ d +ℤ sumAt i ss ds
@@ -92,7 +92,7 @@ sums-all i m (s ∷ ss) [] l h = absurd (suc-ne-zero _ l)
 sums-all i m (s ∷ ss) (d ∷ ds) l h =
     sums-once s ss d ds i m (h 0 (omega arith) .0) (h 0 (omega arith) .1) ∙ ap (λ (z : ℤ). d +ℤ z) (sums-all i m ss ds (suc-inj l) (λ j k. h (suc j) (omega arith)))
 
-at-map : (f : Column → ℕ) (R : Family) (j : ℕ) → j < length R → getD (map f R) j 0 ≡ f (memberAt R j)
+pub at-map : (f : Column → ℕ) (R : Family) (j : ℕ) → j < length R → getD (map f R) j 0 ≡ f (memberAt R j)
 at-map f [] j h = absurd (not-suc-le-zero h)
 at-map f (T ∷ R) zero h = refl
 at-map f (T ∷ R) (suc j) h = at-map f R j (omega arith)
@@ -119,36 +119,15 @@ accepted-residuals n c d k levels p r e =
 
 -- ---- each stratum
 
--- the numbers of those members whose stratum has place i, member by member
-sum-passing : (i a : ℕ) (t : ℕ → Bool) (f : ℕ → ℤ) (ss : List ℕ) (ds : List ℤ) → length ss ≡ length ds → ((j : ℕ) → j < length ss → t (a + j) ≡ eqb (getD ss j 0) i)
-    → ((j : ℕ) → j < length ss → f (a + j) ≡ getD ds j (pos 0)) → sumAt i ss ds ≡ addUp (map f (passingFrom t a (length ss)))
-unfolding sumAt addUp passingFrom
-sum-passing i a t f [] ds l ht hf = refl
-sum-passing i a t f (s ∷ ss) [] l ht hf = absurd (suc-ne-zero _ l)
-sum-passing i a t f (s ∷ ss) (d ∷ ds) l ht hf =
-    let rest = sum-passing i (suc a) t f ss ds (suc-inj l) (λ j h. ap t (on j) ∙ ht (suc j) (omega arith)) (λ j h. ap f (on j) ∙ hf (suc j) (omega arith)) in
-    by-cases (eqb s i)
-    (λ e. rw (first ∙ e, passingFrom) (sum-here i s ss d ds e ∙ ap₂ _+ℤ_ (sym own) rest))
-    (λ e. rw (first ∙ e, passingFrom) (sum-there i s ss d ds e ∙ rest))
-  where
-    first : t a ≡ eqb s i
-    first = ap t (sym (add-zero a)) ∙ ht 0 (omega arith)
-
-    own : f a ≡ d
-    own = ap f (sym (add-zero a)) ∙ hf 0 (omega arith)
-
-    on : (j : ℕ) → suc a + j ≡ a + suc j
-    on j = omega arith
-
 -- "A stratum's residual is its degrees of freedom less those of its treatment members": the stratum is the plot member at k, from 0, and its treatment members stand at the places js
 pub residual-is : (n : ℕ) (P R : Family) → wellFormed P ≡ true → ((F : Column) → F ∈ P → length F ≡ n) → (k : ℕ) → k < length P
     → (js : List ℕ) → Enumerates (λ j. (j < length R) × IsStratum n P (memberAt R j) (memberAt P k)) js
     → getD (residuals n P R) k (pos 0) ≡ getD (degrees n P) k (pos 0) -ℤ addUp (map (λ j. getD (degrees n R) j (pos 0)) js)
+unfolding sumAt
 residual-is n P R formed on k h js lists =
     sym (+ℤ-negℤ-cancel (getD (residuals n P R) k (pos 0)) taken)
     ∙ ap (λ (z : ℤ). z -ℤ taken) (stratum-total n P R k h)
-    ∙ ap (λ (z : ℤ). getD (degrees n P) k (pos 0) -ℤ z) (sum-passing (suc k) 0 test (λ j. getD (degrees n R) j (pos 0)) ss (degrees n R) long (λ j l. ap test (zero-add j)) (λ j l. ap (λ (x : ℕ). getD (degrees n R) x (pos 0)) (zero-add j))
-    ∙ ap (λ (l : List ℕ). addUp (map (λ j. getD (degrees n R) j (pos 0)) l)) (enumerates-unique _ _ js (enumerates-as _ says (passing-enumerates test 0 (length ss))) lists))
+    ∙ ap (λ (z : ℤ). getD (degrees n P) k (pos 0) -ℤ z) (sum-enumerated 0 (λ s. eqb s (suc k)) (sumAt (suc k)) none here there ss (degrees n R) long js (enumerates-as js says lists))
   where
     ss : List ℕ
     ss = map (stratum n P) R
@@ -156,23 +135,26 @@ residual-is n P R formed on k h js lists =
     taken : ℤ
     taken = sumAt (suc k) ss (degrees n R)
 
-    test : ℕ → Bool
-    test j = eqb (getD ss j 0) (suc k)
+    none : (ds : List ℤ) → sumAt (suc k) [] ds ≡ pos 0
+    none ds = refl
 
-    zero-add : (j : ℕ) → 0 + j ≡ j
-    zero-add j = omega arith
+    here : (s : ℕ) (l : List ℕ) (d : ℤ) (ds : List ℤ) → eqb s (suc k) ≡ true → sumAt (suc k) (s ∷ l) (d ∷ ds) ≡ d +ℤ sumAt (suc k) l ds
+    here s l d ds = sum-here (suc k) s l d ds
+
+    there : (s : ℕ) (l : List ℕ) (d : ℤ) (ds : List ℤ) → eqb s (suc k) ≡ false → sumAt (suc k) (s ∷ l) (d ∷ ds) ≡ sumAt (suc k) l ds
+    there s l d ds = sum-there (suc k) s l d ds
 
     long : length ss ≡ length (degrees n R)
     long = length-map R (stratum n P) ∙ sym (length-degrees n R)
 
-    there : (j : ℕ) → j < length R → (test j ≡ true) ↔ IsStratum n P (memberAt R j) (memberAt P k)
-    there j l = (
-      λ e. subst (λ (F : Column). IsStratum n P (memberAt R j) F) (member-suc P k) (stratum-at n P formed on (memberAt R j) (suc k) (omega arith) h .0 (sym (at-map (stratum n P) R j l) ∙ eqb-true (getD ss j 0) (suc k) e)),
-      λ w. eq-eqb (getD ss j 0) (suc k) (at-map (stratum n P) R j l ∙ stratum-at n P formed on (memberAt R j) (suc k) (omega arith) h .1 (subst (λ (F : Column). IsStratum n P (memberAt R j) F) (sym (member-suc P k)) w)),
-    )
-
-    says : (j : ℕ) → ((0 ≤ j) × (j < 0 + length ss) × (test j ≡ true)) ↔ ((j < length R) × IsStratum n P (memberAt R j) (memberAt P k))
+    says : (j : ℕ) → ((j < length R) × IsStratum n P (memberAt R j) (memberAt P k)) ↔ ((j < length ss) × (eqb (getD ss j 0) (suc k) ≡ true))
     says j = (
-      λ w. let l : j < length R = omega (arith, w .1, length-map R (stratum n P)) in (l, there j l .0 (w .2)),
-      λ w. (omega arith, omega (arith, w .0, length-map R (stratum n P)), there j (w .0) .1 (w .1)),
+      λ w. (
+        omega (arith, w .0, length-map R (stratum n P)),
+        eq-eqb (getD ss j 0) (suc k) (at-map (stratum n P) R j (w .0) ∙ stratum-at n P formed on (memberAt R j) (suc k) (omega arith) h .1 (subst (λ (F : Column). IsStratum n P (memberAt R j) F) (sym (member-suc P k)) (w .1))),
+      ),
+      λ w. let l : j < length R = omega (arith, w .0, length-map R (stratum n P)) in (
+        l,
+        subst (λ (F : Column). IsStratum n P (memberAt R j) F) (member-suc P k) (stratum-at n P formed on (memberAt R j) (suc k) (omega arith) h .0 (sym (at-map (stratum n P) R j l) ∙ eqb-true (getD ss j 0) (suc k) (w .1))),
+      ),
     )

@@ -13,7 +13,7 @@ use Rattle.rules.specs.Degrees.{DegreesAnswer, degreesOfFreedom}
 use Rattle.rules.specs.Strata.{StrataAnswer, strata}
 use Rattle.rules.specs.Sheet.{Outcome, read, refused, reading}
 use Rattle.rules.specs.Naming.{Kind, plot, treatment, NameAnswer, naming}
-use Rattle.rules.specs.Table.{tableText}
+use Rattle.rules.specs.Table.{signed, tableText}
 use Rattle.rules.specs.Trials.{Trial, treats, observed}
 
 pub data FurtherTrial : Type 0 where
@@ -26,6 +26,10 @@ pub data FurtherTrial : Type 0 where
   allotted : ℕ → Family → Family → StrataAnswer → FurtherTrial
   -- the kind, the text, plots, plot and treatment columns of the level table, the members in the buffer, the place asked about; the answer
   named : Kind → List ℕ → ℕ → List Column → List Column → Family → ℕ → NameAnswer → FurtherTrial
+  -- the lengths of level table, family buffer and name buffer; the number answered for the same text, columns, members and place 2
+  fitted : ℕ → ℕ → ℕ → ℕ → FurtherTrial
+  -- a signed number; its bytes
+  shown : ℤ → List ℕ → FurtherTrial
   -- the text, the cells of the level table; the answer of the reader
   heard : List ℕ → ℕ → Outcome → FurtherTrial
   -- a sheet; its whole output
@@ -258,6 +262,12 @@ furtherTrials =
     ∷ named plot twoAndTwo 8 (fours ∷ []) gainAndRow oneAndPairs 2 (record { refusal = 7; name = [] })
     ∷ named treatment twoAndTwo 8 (fours ∷ []) gainAndRow oneAndPairs 2 (record { refusal = 0; name = rowName })
     ∷ named plot twoAndTwo 8 hutAndBay gainAndRow (pairsOfEight ∷ oneOfEight ∷ []) 2 (record { refusal = 15; name = [] })
+    -- no plots; a level table, a family buffer and a name buffer that are long enough, and one number shorter each
+    ∷ named plot twoAndTwo 0 hutAndBay gainAndRow oneAndPairs 2 (record { refusal = 6; name = [] })
+    ∷ fitted 2880 7680 96 0
+    ∷ fitted 2879 7680 96 6
+    ∷ fitted 2880 7679 96 6
+    ∷ fitted 2880 7680 95 6
     -- a level table of 2,879 numbers; no text
     ∷ heard (112 ∷ 58 ∷ 65 ∷ 98 ∷ []) 2879 (refused 1)
     ∷ heard [] tableCells (refused 2)
@@ -310,26 +320,32 @@ furtherTrials =
     ∷ printed mixedSheet mixedTable
     -- a sheet that is accepted
     ∷ printed fullSheet fullTable
+    -- signed numbers: `0`, `-2`, `-10`
+    ∷ shown (pos 0) (48 ∷ [])
+    ∷ shown (negsuc 1) (45 ∷ 50 ∷ [])
+    ∷ shown (negsuc 9) (45 ∷ 49 ∷ 48 ∷ [])
     ∷ []
 
 -- ---- what the rules give them
 
--- a family buffer with the members in it, and a level table with the plot and treatment columns
-inBuffer : Family → List ℕ
+-- a family buffer of this length with the members in it, and a level table with the plot and treatment columns
+inBuffer : ℕ → Family → List ℕ
 unfolding written
-inBuffer S = written (replicate familyBytes 0) 0 S
+inBuffer bytes S = written (replicate bytes 0) 0 S
 
-inTable : List Column → List Column → List ℕ
+inTable : ℕ → List Column → List Column → List ℕ
 unfolding written
-inTable Fs Ts = written (written (replicate tableCells 0) 0 Fs) mostColumns Ts
+inTable cells Fs Ts = written (written (replicate cells 0) 0 Fs) mostColumns Ts
 
 unfoldable pub seen : FurtherTrial → FurtherTrial
-unfolding observed inBuffer inTable relation degreesOfFreedom strata naming reading tableText
+unfolding observed inBuffer inTable relation degreesOfFreedom strata naming reading tableText signed
 seen (planned t) = planned (observed t)
-seen (related n S m a) = related n S m (relation n (inBuffer S) m)
-seen (freed n S m a) = freed n S m (degreesOfFreedom n (inBuffer S) m)
-seen (allotted n P R a) = allotted n P R (strata n (inBuffer P) (length P) (inBuffer R) (length R))
-seen (named kind text n Fs Ts S i a) = named kind text n Fs Ts S i (naming kind text (inTable Fs Ts) (inBuffer S) n (length S) i nameBytes)
+seen (related n S m a) = related n S m (relation n (inBuffer familyBytes S) m)
+seen (freed n S m a) = freed n S m (degreesOfFreedom n (inBuffer familyBytes S) m)
+seen (allotted n P R a) = allotted n P R (strata n (inBuffer familyBytes P) (length P) (inBuffer familyBytes R) (length R))
+seen (named kind text n Fs Ts S i a) = named kind text n Fs Ts S i (naming kind text (inTable tableCells Fs Ts) (inBuffer familyBytes S) n (length S) i nameBytes)
+seen (fitted cells bytes room q) = fitted cells bytes room (naming plot twoAndTwo (inTable cells hutAndBay gainAndRow) (inBuffer bytes oneAndPairs) 8 2 2 room .refusal)
+seen (shown z w) = shown z (signed z)
 seen (heard text cells o) = heard text cells (reading text (replicate cells 0))
 seen (printed text out) = printed text (tableText text)
 
