@@ -107,6 +107,12 @@ twoAndTwo =
     -- p:Hut→p:Bay→t:Gain→t:Row
     112 ∷ 58 ∷ 72 ∷ 117 ∷ 116 ∷ 9 ∷ 112 ∷ 58 ∷ 66 ∷ 97 ∷ 121 ∷ 9 ∷ 116 ∷ 58 ∷ 71 ∷ 97 ∷ 105 ∷ 110 ∷ 9 ∷ 116 ∷ 58 ∷ 82 ∷ 111 ∷ 119 ∷ 10 ∷ []
 
+-- a first line with four plot columns
+abbrev fourPlots : List ℕ
+fourPlots =
+    -- p:Cot→p:Hut→p:Bay→p:Dam
+    112 ∷ 58 ∷ 67 ∷ 111 ∷ 116 ∷ 9 ∷ 112 ∷ 58 ∷ 72 ∷ 117 ∷ 116 ∷ 9 ∷ 112 ∷ 58 ∷ 66 ∷ 97 ∷ 121 ∷ 9 ∷ 112 ∷ 58 ∷ 68 ∷ 97 ∷ 109 ∷ 10 ∷ []
+
 -- classes of two sizes
 abbrev unevenSheet : List ℕ
 unevenSheet =
@@ -254,6 +260,8 @@ furtherTrials =
     -- names: the infimum of both plot columns, which is the second treatment column
     ∷ named plot twoAndTwo 8 hutAndBay gainAndRow oneAndPairs 2 (record { refusal = 0; name = infimumName })
     ∷ named treatment twoAndTwo 8 hutAndBay gainAndRow oneAndPairs 2 (record { refusal = 0; name = rowName })
+    -- the same with a column of one class before them and one equivalent to the first after them, which are not named
+    ∷ named plot fourPlots 8 (oneOfEight ∷ fours ∷ twos ∷ (2 ∷ 2 ∷ 2 ∷ 2 ∷ 1 ∷ 1 ∷ 1 ∷ 1 ∷ []) ∷ []) [] oneAndPairs 2 (record { refusal = 0; name = infimumName })
     -- no text; a first line that is not ended; no place 0 and no place 3; a missing level of its own kind; members out of order
     ∷ named plot [] 8 hutAndBay gainAndRow oneAndPairs 2 (record { refusal = 2; name = [] })
     ∷ named plot (112 ∷ 58 ∷ 72 ∷ 117 ∷ 116 ∷ []) 8 hutAndBay gainAndRow oneAndPairs 2 (record { refusal = 3; name = [] })
