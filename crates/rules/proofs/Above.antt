@@ -1,6 +1,6 @@
 -- Laws of the relation, said of factors: what each bit of its words means, and that each strictly coarser member is reached by direct neighbours.
 -- Assumes nothing.
-use mathlib.Core.Path.{_≡_, refl, sym, ap, _∙_, subst}
+use mathlib.Core.Path.{_≡_, sym, ap, ap₂, _∙_, subst}
 use mathlib.Core.Logic.{_↔_}
 use mathlib.Core.Bool.{Bool, true, false, not, _&&_}
 use mathlib.Core.List.{List}
@@ -10,7 +10,7 @@ use native.Mathlib.Omega.{arith}
 use lib.Count.{ones}
 use lib.Dec.{ltb}
 use lib.ListN.{length, getD, replicate, List·getD-eq-default}
-use borrow.Author.Tests.{ltb-true, ltb-false}
+use borrow.Author.Tests.{not-true, not-false, ltb-true, ltb-false}
 use Rattle.rules.specs.Factor.{Column, finer, coarser, every, count, classes}
 use Rattle.rules.specs.Family.{Family, _∈_, membersOf, wellFormed}
 use Rattle.rules.specs.Lists.{tabulate, bitAt, forPlaces, wordOf}
@@ -22,7 +22,7 @@ use Rattle.rules.proofs.Walks.{bool-false}
 use Rattle.rules.proofs.Classes.{finer-test}
 use Rattle.rules.proofs.Bounds.{finer-trans}
 use Rattle.rules.proofs.Tests.{every-at, every-all, every-false}
-use Rattle.rules.proofs.Sheet.{and-left, and-right, not-yes}
+use Rattle.rules.proofs.Sheet.{and-left, and-right}
 use Rattle.rules.proofs.Degrees.{coarser-fewer}
 use Rattle.rules.proofs.WellFormed.{accepted, member-at}
 use Rattle.rules.proofs.WorkList.{PlaceOf, place-of}
@@ -34,21 +34,14 @@ use Rattle.rules.proofs.Lists.{length-tabulate, getD-tabulate}
 
 -- ---- the tests
 
-and-both : (a b : Bool) → a ≡ true → b ≡ true → a && b ≡ true
-and-both a b e f = rw (e, f)
-
-not-false : (b : Bool) → not b ≡ false → b ≡ true
-not-false true e = refl
-not-false false e = sym e
-
 pub coarser-test : (n : ℕ) (F G : Column) → coarser n F G ≡ true ↔ StrictlyCoarser n F G
 unfolding coarser
 coarser-test n F G = (
   λ e. record {
     finer = finer-test n F G .0 (and-left (finer n F G) (not (finer n G F)) e);
-    not-back = λ h. clash {P = ⊥} (finer-test n G F .1 h) (not-yes (finer n G F) (and-right (finer n F G) (not (finer n G F)) e));
+    not-back = λ h. clash {P = ⊥} (finer-test n G F .1 h) (not-true (finer n G F) (and-right (finer n F G) (not (finer n G F)) e));
   },
-  λ w. and-both (finer n F G) (not (finer n G F)) (finer-test n F G .1 (w .finer)) (ap not (bool-false (finer n G F) (λ e. w .not-back (finer-test n G F .0 e)))),
+  λ w. ap₂ _&&_ (finer-test n F G .1 (w .finer)) (ap not (bool-false (finer n G F) (λ e. w .not-back (finer-test n G F .0 e)))),
 )
 
 module _ (n : ℕ) (S : Family) where
@@ -75,11 +68,11 @@ module _ (n : ℕ) (S : Family) where
               let k = place-of S H m in
               let x = coarserAt-test i (k .place) .1 (subst (λ (K : Column). StrictlyCoarser n (memberAt S i) K) (sym (k .is)) a) in
               let y = coarserAt-test (k .place) j .1 (subst (λ (K : Column). StrictlyCoarser n K (memberAt S j)) (sym (k .is)) b) in
-              clash (and-both (coarserAt n S i (k .place)) (coarserAt n S (k .place) j) x y)
-              (not-yes (between i j (k .place)) (every-at (length S) free (and-right (coarserAt n S i j) (every (length S) free) e) (k .place) (k .less)))
+              clash (ap₂ _&&_ x y)
+              (not-true (between i j (k .place)) (every-at (length S) free (and-right (coarserAt n S i j) (every (length S) free) e) (k .place) (k .less)))
 
       from : DirectlyAbove n S (memberAt S i) (memberAt S j) → coarserAt n S i j && every (length S) free ≡ true
-      from w = and-both (coarserAt n S i j) (every (length S) free) (coarserAt-test i j .1 (w .coarser)) (every-all (length S) free (λ k h. ap not (bool-false (between i j k) (λ e. no k h e))))
+      from w = ap₂ _&&_ (coarserAt-test i j .1 (w .coarser)) (every-all (length S) free (λ k h. ap not (bool-false (between i j k) (λ e. no k h e))))
         where
           no : (k : ℕ) → k < length S → between i j k ≡ true → ⊥
           no k h e = w .none-between (memberAt S k) (member-at S k h)

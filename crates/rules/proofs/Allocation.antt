@@ -1,14 +1,14 @@
 -- Laws of strata: the place answered is that of the one plot member that the rule describes, and 0 where there is none.
 -- Assumes nothing.
-use mathlib.Core.Path.{_≡_, refl, sym, ap, _∙_, subst}
+use mathlib.Core.Path.{_≡_, refl, sym, ap, ap₂, _∙_, subst}
 use mathlib.Core.Logic.{_↔_, _⊎_, inl, inr}
-use mathlib.Core.Bool.{Bool, true, false, not, _&&_, _||_}
+use mathlib.Core.Bool.{Bool, true, not, _&&_, _||_}
 use mathlib.Core.List.{[], _∷_, List·Memᴰ·head, List·Memᴰ·tail, List·Memᴰ·cases-cons, List·Memᴰ·not-nil}
 use Prim.Native.Nat.{ℕ, zero, suc, _-_, _≤_, _<_, zero-le, suc-le-suc}
 use native.Mathlib.Omega.{arith}
 use lib.Dec.{ltb}
 use lib.ListN.{length}
-use borrow.Author.Tests.{ltb-true, ltb-false}
+use borrow.Author.Tests.{not-true, not-false, ltb-true, ltb-false}
 use Rattle.rules.specs.Factor.{Column, Finer, finer, number}
 use Rattle.rules.specs.Family.{Family, _∈_, alike, before, wellFormed}
 use Rattle.rules.specs.Relation.{memberAt}
@@ -44,17 +44,6 @@ pass p (F ∷ S) h = rw (h F (List·Memᴰ·head refl), all) (pass p S (λ G m. 
 pub all-test : (p : Column → Bool) (S : Family) → all p S ≡ true ↔ ((F : Column) → F ∈ S → p F ≡ true)
 all-test p S = (passes p S, pass p S)
 
-and-both : (a b : Bool) → a ≡ true → b ≡ true → a && b ≡ true
-and-both a b e f = rw (e, f)
-
-not-of : {b : Bool} → not b ≡ false → b ≡ true
-not-of {b = true} e = refl
-not-of {b = false} e = sym e
-
-no-of : {b : Bool} → not b ≡ true → b ≡ true → ⊥
-no-of {b = true} e f = clash {P = ⊥} refl (sym e)
-no-of {b = false} e f = clash f refl
-
 module _ (n : ℕ) (P : Family) (T : Column) where
   -- the test says just what the rule says
   pub stratum-test : (F : Column) → F ∈ P → isStratum n P T F ≡ true ↔ IsStratum n P T F
@@ -72,7 +61,7 @@ module _ (n : ℕ) (P : Family) (T : Column) where
       }
 
       from : IsStratum n P T F → finer n F T && all p P ≡ true
-      from w = and-both (finer n F T) (all p P) (finer-test n F T .1 (w .below)) (all-test p P .1 (λ G g. or-not (finer n G T) (finer n G F) (λ h. each G g h)))
+      from w = ap₂ _&&_ (finer-test n F T .1 (w .below)) (all-test p P .1 (λ G g. or-not (finer n G T) (finer n G F) (λ h. each G g h)))
         where
           each : (G : Column) → G ∈ P → finer n G T ≡ true → finer n G F ≡ true
           each G g h =
@@ -91,8 +80,8 @@ module _ (n : ℕ) (P : Family) (T : Column) where
       to : stratum n P T ≡ 0 → (F : Column) → IsStratum n P T F → ⊥
       to e F w =
           let k = place-of P F (w .member) in
-          no-of (subst (λ (G : Column). not (isStratum n P T G) ≡ true) (member-suc P (k .place) ∙ k .is) (failing-zero test P .0 e (suc (k .place)) (suc-le-suc zero-le) (k .less)))
-          (stratum-test F (w .member) .1 w)
+          clash (stratum-test F (w .member) .1 w)
+          (not-true _ (subst (λ (G : Column). not (isStratum n P T G) ≡ true) (member-suc P (k .place) ∙ k .is) (failing-zero test P .0 e (suc (k .place)) (suc-le-suc zero-le) (k .less))))
 
       none : ((F : Column) → IsStratum n P T F → ⊥) → (F : Column) → F ∈ P → not (isStratum n P T F) ≡ true
       none h F f = ap not (bool-false (isStratum n P T F) (λ e. h F (stratum-test F f .0 e)))
@@ -102,7 +91,7 @@ module _ (n : ℕ) (P : Family) (T : Column) where
   unfolding stratum
   stratum-there i l e =
       let w = failing-first (λ F. not (isStratum n P T F)) P (subst (λ (k : ℕ). 1 ≤ k) (sym e) l) in
-      subst (λ (k : ℕ). IsStratum n P T (atPlace P k)) e (stratum-test (atPlace P (stratum n P T)) (member-at P (stratum n P T - 1) (omega (arith, w .least, w .most))) .0 (not-of (w .fails)))
+      subst (λ (k : ℕ). IsStratum n P T (atPlace P k)) e (stratum-test (atPlace P (stratum n P T)) (member-at P (stratum n P T - 1) (omega (arith, w .least, w .most))) .0 (not-false _ (w .fails)))
 
 -- a plot family that question 15 accepts
 module _ (n : ℕ) (P : Family) (formed : wellFormed P ≡ true) (on : (F : Column) → F ∈ P → length F ≡ n) (T : Column) where

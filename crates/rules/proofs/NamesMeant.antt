@@ -255,6 +255,10 @@ module _ (n : ℕ) (Cs : List Column) (on : (C : Column) → C ∈ Cs → length
   rule-name x (rule-place a b none i) =
       rw (ne-eqb (classes F) 1 a, ne-eqb (classes F) n b, past-columns none, nameOf) (rw (bool-false (alike (infimumAbove n F Cs) F) (λ e. i (infimum-fits .0 e)), nameByInfimum))
 
+  -- each name is given exactly where its rule is the first that fits
+  pub named-where : (x : Name) → (nameOf n Cs place F ≡ x) ↔ Rule n Cs place F x
+  named-where x = (λ e. subst (Rule n Cs place F) e name-rule, rule-name x)
+
 -- ---- the name answered
 
 module _ (kind : Kind) (text levels buffer : List ℕ) (n size place nameLength : ℕ) where

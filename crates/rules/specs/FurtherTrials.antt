@@ -130,11 +130,9 @@ unevenTable =
     -- refused→9→Hut→-
     114 ∷ 101 ∷ 102 ∷ 117 ∷ 115 ∷ 101 ∷ 100 ∷ 9 ∷ 57 ∷ 9 ∷ 72 ∷ 117 ∷ 116 ∷ 9 ∷ 45 ∷ 10 ∷ []
 
--- plot columns that are not orthogonal; treatment columns; one of each kind
-abbrev crossedSheet : List ℕ
-crossedSheet =
-    -- p:Hut→p:Bay
-    112 ∷ 58 ∷ 72 ∷ 117 ∷ 116 ∷ 9 ∷ 112 ∷ 58 ∷ 66 ∷ 97 ∷ 121 ∷ 10 ∷
+-- six plots, two columns that are not orthogonal: of the plots, of the treatments, one of each kind
+abbrev sixPlots : List ℕ
+sixPlots =
     -- 1→1
     49 ∷ 9 ∷ 49 ∷ 10 ∷
     -- 1→2
@@ -147,6 +145,11 @@ crossedSheet =
     51 ∷ 9 ∷ 50 ∷ 10 ∷
     -- 3→3
     51 ∷ 9 ∷ 51 ∷ 10 ∷ []
+
+abbrev crossedSheet : List ℕ
+crossedSheet =
+    -- p:Hut→p:Bay
+    (112 ∷ 58 ∷ 72 ∷ 117 ∷ 116 ∷ 9 ∷ 112 ∷ 58 ∷ 66 ∷ 97 ∷ 121 ∷ 10 ∷ []) ++ sixPlots
 
 abbrev crossedTable : List ℕ
 crossedTable =
@@ -156,19 +159,7 @@ crossedTable =
 abbrev treatedSheet : List ℕ
 treatedSheet =
     -- t:Gain→t:Row
-    116 ∷ 58 ∷ 71 ∷ 97 ∷ 105 ∷ 110 ∷ 9 ∷ 116 ∷ 58 ∷ 82 ∷ 111 ∷ 119 ∷ 10 ∷
-    -- 1→1
-    49 ∷ 9 ∷ 49 ∷ 10 ∷
-    -- 1→2
-    49 ∷ 9 ∷ 50 ∷ 10 ∷
-    -- 2→1
-    50 ∷ 9 ∷ 49 ∷ 10 ∷
-    -- 2→3
-    50 ∷ 9 ∷ 51 ∷ 10 ∷
-    -- 3→2
-    51 ∷ 9 ∷ 50 ∷ 10 ∷
-    -- 3→3
-    51 ∷ 9 ∷ 51 ∷ 10 ∷ []
+    (116 ∷ 58 ∷ 71 ∷ 97 ∷ 105 ∷ 110 ∷ 9 ∷ 116 ∷ 58 ∷ 82 ∷ 111 ∷ 119 ∷ 10 ∷ []) ++ sixPlots
 
 abbrev treatedTable : List ℕ
 treatedTable =
@@ -178,19 +169,7 @@ treatedTable =
 abbrev mixedSheet : List ℕ
 mixedSheet =
     -- p:Hut→t:Gain
-    112 ∷ 58 ∷ 72 ∷ 117 ∷ 116 ∷ 9 ∷ 116 ∷ 58 ∷ 71 ∷ 97 ∷ 105 ∷ 110 ∷ 10 ∷
-    -- 1→1
-    49 ∷ 9 ∷ 49 ∷ 10 ∷
-    -- 1→2
-    49 ∷ 9 ∷ 50 ∷ 10 ∷
-    -- 2→1
-    50 ∷ 9 ∷ 49 ∷ 10 ∷
-    -- 2→3
-    50 ∷ 9 ∷ 51 ∷ 10 ∷
-    -- 3→2
-    51 ∷ 9 ∷ 50 ∷ 10 ∷
-    -- 3→3
-    51 ∷ 9 ∷ 51 ∷ 10 ∷ []
+    (112 ∷ 58 ∷ 72 ∷ 117 ∷ 116 ∷ 9 ∷ 116 ∷ 58 ∷ 71 ∷ 97 ∷ 105 ∷ 110 ∷ 10 ∷ []) ++ sixPlots
 
 abbrev mixedTable : List ℕ
 mixedTable =
