@@ -12,7 +12,7 @@ use lib.ListN.{length, getD}
 use Rattle.rules.specs.Lists.{passingFrom}
 use Rattle.rules.specs.Listing.{Enumerates}
 use Rattle.rules.proofs.Numbering.{by-cases}
-use Rattle.rules.proofs.DegreesLaws.{addUp}
+unfoldable pub use Rattle.rules.proofs.DegreesLaws.{addUp}
 use Rattle.rules.proofs.Listing.{enumerates-unique, enumerates-as, passing-enumerates}
 
 -- g adds up the numbers that belong to those elements that pass the test p

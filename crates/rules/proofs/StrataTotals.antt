@@ -23,13 +23,13 @@ use Rattle.rules.specs.Allocation.{IsStratum}
 use Rattle.rules.proofs.Numbering.{by-cases}
 use Rattle.rules.proofs.WellFormed.{member-at}
 use Rattle.rules.proofs.First.{member-suc}
-use Rattle.rules.proofs.DegreesLaws.{length-degrees, addUp}
+use Rattle.rules.proofs.DegreesLaws.{length-degrees}
 use Rattle.rules.proofs.Made.{full-tells}
 use Rattle.rules.proofs.Printing.{stratum-some, stratum-most}
 use Rattle.rules.proofs.Totals.{accepted-total, stratum-total}
 use Rattle.rules.proofs.Allocation.{stratum-at}
 use Rattle.rules.proofs.Listing.{enumerates-as}
-use Rattle.rules.proofs.ChosenSums.{sum-enumerated}
+use Rattle.rules.proofs.ChosenSums.{addUp, sum-enumerated}
 
 module _ (i s : ℕ) (ss : List ℕ) (d : ℤ) (ds : List ℤ) where
   sum-here : eqb s i ≡ true → sumAt i (s ∷ ss) (d ∷ ds) ≡ d +ℤ sumAt i ss ds

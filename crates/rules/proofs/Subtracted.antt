@@ -23,9 +23,9 @@ use Rattle.rules.proofs.WellFormed.{accepted, member-at}
 use Rattle.rules.proofs.First.{atPlace}
 use Rattle.rules.proofs.Places.{at-places}
 use Rattle.rules.proofs.Degrees.{sum-yes, sum-no, degrees-equation}
-use Rattle.rules.proofs.DegreesLaws.{length-degrees, addUp}
+use Rattle.rules.proofs.DegreesLaws.{length-degrees}
 use Rattle.rules.proofs.Listing.{enumerates-as}
-use Rattle.rules.proofs.ChosenSums.{sum-enumerated}
+use Rattle.rules.proofs.ChosenSums.{addUp, sum-enumerated}
 use Rattle.rules.proofs.Taken.{places-found, Taken, taken-many, taken-on, degrees-taken, StrataTaken, strata-taken}
 use Rattle.rules.proofs.Above.{coarser-test}
 use Rattle.rules.proofs.Printing.{stratum-some}
