@@ -97,7 +97,7 @@ class Progress:
             self.seconds[name] = expected(name) if again else 0
         self.began, self.took, self.told = {}, {}, set()
         self.start = time.time()
-        self.terminal = sys.stderr.isatty()
+        self.terminal, self.drawn = sys.stderr.isatty(), ""
 
     def word(self, name):
         """What rt left of this run: '' before it begins, 'failed' as long as it is not proved, 'proved'."""
@@ -139,7 +139,8 @@ class Progress:
 
     def line(self, text):
         """On a terminal, a line that the next one takes the place of."""
-        if self.terminal:
+        if self.terminal and text != self.drawn:
+            self.drawn = text
             width = os.get_terminal_size(sys.stderr.fileno()).columns or 80
             put("\r\033[K" + (f"plan: {text}"[: width - 1] if text else ""), end="")
 
