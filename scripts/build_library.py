@@ -121,8 +121,8 @@ class Progress:
             if word and name not in self.began:
                 self.began[name] = now
             if word == "proved" and name not in self.took:
-                self.took[name] = 0 if self.unchanged(name) else now - self.began[name]
-            # One that is unchanged is passed over within a second.
+                self.took[name] = 0 if self.unchanged(name) else max(1, now - self.began[name])
+            # One that is unchanged is passed over within a second, and not told of.
             if name in self.began and self.took.get(name, now - self.began[name]) >= 1:
                 self.tell(name)
         if self.terminal:
@@ -147,8 +147,8 @@ class Progress:
     def to_go(self):
         now = time.time()
         ended = [name for name in self.took if self.took[name] > 0]
-        seen, thought = sum(self.took[name] for name in ended), sum(self.seconds[name] for name in ended)
-        pace = seen / thought if thought > 15 else 1
+        # How slow this machine is; the first half minute says little of it.
+        pace = (30 + sum(self.took[name] for name in ended)) / (30 + sum(self.seconds[name] for name in ended))
         left = 0
         for names in self.rounds:
             still = [name for name in names if name not in self.took]
@@ -222,7 +222,7 @@ def build():
 
 
 def locked_build():
-    """Builds, unless another call is at it: then its library is waited for."""
+    """Builds, unless another call has done so meanwhile, which is waited for."""
     TARGET.mkdir(exist_ok=True)
     with open(TARGET / "plan.lock", "w") as lock:
         try:
@@ -230,9 +230,8 @@ def locked_build():
         except BlockingIOError:
             say("another call builds the library: waiting for it")
             fcntl.flock(lock, fcntl.LOCK_EX)
-            if LIBRARY.exists() and LIBRARY.stat().st_mtime_ns >= newest_source():
-                return
-        build()
+        if not LIBRARY.exists() or LIBRARY.stat().st_mtime_ns < newest_source():
+            build()
 
 
 class Stopped(BaseException):

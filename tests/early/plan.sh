@@ -32,8 +32,9 @@ cat >"$tools/rt" <<'END'
 #!/bin/sh
 echo "$*" >>"$WORK/calls"
 mkdir -p target/log target/staticlib
-[ ! -e "$WORK/slow" ] || { sleep 60 & echo $! >"$WORK/sleeper"; wait; }
-[ "$1" = check ] && { echo failed >target/log/small.res; sleep 1.3; }
+[ ! -e "$WORK/slow" ] || { sleep 600 & echo $! >"$WORK/sleeper"; wait; }
+while [ -e "$WORK/hold" ]; do sleep 0.05; done
+[ "$1" != check ] || { echo failed >target/log/small.res; sleep 0.3; }
 [ ! -e "$WORK/fail" ] || { echo 'rt: small NOT PROVED (exit 1, 0 s)'; echo 'rt: FAILED: small'; exit 1; }
 case $1 in
 check) echo proved >target/log/small.res; echo 'rt: small proved (1 s)' ;;
@@ -75,6 +76,15 @@ ended() {
 # says TEXT: the one line on standard error
 says() {
   [[ $(wc -l <"$work/err") -eq 1 ]] && grep -qF -- "$1" "$work/err"
+}
+
+# until_so COMMAND..: waits for it, for half a minute at most
+until_so() {
+  for _ in {1..600}; do
+    ! "$@" || return 0
+    sleep 0.05
+  done
+  return 1
 }
 
 cd "$repo" || exit 1
@@ -147,44 +157,39 @@ interrupt() {
   PATH=$tools python3 -c 'import os, signal, sys; signal.signal(signal.SIGINT, signal.SIG_DFL); os.execv(sys.argv[1], sys.argv[1:])' \
     ./plan >"$work/out" 2>"$work/err" &
   local plan=$!
-  for _ in {1..100}; do
-    [[ ! -s $work/sleeper ]] || break
-    sleep 0.1
-  done
+  until_so test -s "$work/sleeper"
   kill "-$1" "$plan"
   wait "$plan"
   status=$?
 }
-# gone PROCESS: it has ended, or does so within a second
+# gone PROCESS: it has ended
 gone() {
   local state
-  for _ in {1..20}; do
-    state=$(sed 's/.*) \(.\).*/\1/' "/proc/$1/stat" 2>/dev/null)
-    [[ -n $state && $state != Z ]] || return 0
-    sleep 0.05
-  done
-  return 1
+  state=$(sed 's/.*) \(.\).*/\1/' "/proc/$1/stat" 2>/dev/null)
+  [[ -z $state || $state == Z ]]
 }
 
 touch "$work/slow"
 for signal in INT TERM; do
   interrupt $signal
   [[ $status -eq $((128 + $(kill -l $signal))) && $(tail -n 1 "$work/err") == 'plan: stopped; '* && -z $(find target -name '*.so') ]] &&
-    gone "$(cat "$work/sleeper")"
+    until_so gone "$(cat "$work/sleeper")"
   verdict "interrupted by $signal"
 done
 rm "$work/slow"
 
 : >"$work/calls"
+touch "$work/hold"
 PATH=$tools ./plan >"$work/other" 2>/dev/null &
-other=$!
-for _ in {1..100}; do
-  [[ ! -s $work/calls ]] || break
-  sleep 0.05
-done
-PATH=$tools ./plan >"$work/out" 2>"$work/err"
+first=$!
+until_so test -s "$work/calls"
+PATH=$tools ./plan >"$work/out" 2>"$work/err" &
+second=$!
+until_so test -s "$work/err"
+rm "$work/hold"
+wait "$first"
+wait "$second"
 status=$?
-wait "$other"
 ended 0 'plan examples/huts.sheet 42' 2 && cmp -s "$work/out" "$work/other" && says 'plan: another call builds the library: waiting for it'
 verdict 'two calls at once build once'
 
