@@ -176,19 +176,22 @@ def run(words, log, progress=None):
             progress.look()
         return child.returncode
     finally:
+        if progress:
+            progress.line("")
         if child.poll() is None:
             os.killpg(child.pid, signal.SIGTERM)
             child.wait()
 
 
-def unproved():
-    """What the log says of a proof that failed."""
-    lines = LOG.read_text(errors="replace").splitlines()
-    names = [line.split()[1] for line in lines if line.startswith("rt: ") and "NOT PROVED (" in line]
+def prove(words, log, progress):
+    """Has rt do something; where it fails, finds in the log at what."""
+    if run(words, log, progress) == 0:
+        return
+    lines = [line for line in LOG.read_text(errors="replace").splitlines() if line.startswith("rt: ")]
+    names = [line.split()[1] for line in lines if "NOT PROVED (" in line]
     if names:
-        return f"not proved: {', '.join(names)}"
-    said = [line for line in lines if line.startswith("rt: ")]
-    return said[-1] if said else "rt failed"
+        raise Failed(f"not proved: {', '.join(names)}")
+    raise Failed(lines[-1] if lines and " proved" not in lines[-1] else f"{' '.join(words)}")
 
 
 def build():
@@ -203,12 +206,9 @@ def build():
         say(f"the sources have changed: what stands on them is proved again (log: {shown(LOG)})")
     with open(LOG, "w") as log:
         # The crates below the library side by side; then the library itself, one by one.
-        if run(["rt", "check", *crates[NAME]], log, progress) != 0:
-            raise Failed(unproved())
+        prove(["rt", "check", *crates[NAME]], log, progress)
         progress.began[NAME] = time.time()
-        if run(["rt", "staticlib", NAME], log, progress) != 0:
-            raise Failed(unproved())
-        progress.line("")
+        prove(["rt", "staticlib", NAME], log, progress)
         fresh = TARGET / f".librachdoum.{os.getpid()}.so"
         try:
             words = ["cc", "-shared", "-o", fresh, "-Wl,--whole-archive", ARCHIVE, "-Wl,--no-whole-archive"]
@@ -244,7 +244,8 @@ def stop(number, _):
 
 def main():
     for number in (signal.SIGINT, signal.SIGTERM, signal.SIGHUP):
-        signal.signal(number, stop)
+        if signal.getsignal(number) != signal.SIG_IGN:
+            signal.signal(number, stop)
     try:
         locked_build()
     except Failed as failure:
@@ -257,8 +258,6 @@ def main():
         say("stopped; the next call goes on with what is not proved yet")
         return 128 + signalled.args[0]
     if len(sys.argv) > 1:
-        for number in (signal.SIGINT, signal.SIGTERM, signal.SIGHUP):
-            signal.signal(number, signal.SIG_DFL)
         os.execvp(sys.argv[1], sys.argv[1:])
     return 0
 

@@ -1,3 +1,4 @@
+# shellcheck shell=bash
 # Sourced by `plan` and `test`: sees that the machine has the commands that they call.
 
 # has COMMAND: it is there, and new enough

@@ -36,6 +36,7 @@ mkdir -p target/log target/staticlib
 while [ -e "$WORK/hold" ]; do sleep 0.05; done
 [ "$1" != check ] || { echo failed >target/log/small.res; sleep 0.3; }
 [ ! -e "$WORK/fail" ] || { echo 'rt: small NOT PROVED (exit 1, 0 s)'; echo 'rt: FAILED: small'; exit 1; }
+[ "$1" != "$(cat "$WORK/broken" 2>/dev/null)" ] || { echo 'error: a broken kit'; exit 2; }
 case $1 in
 check) echo proved >target/log/small.res; echo 'rt: small proved (1 s)' ;;
 staticlib) cp "$WORK/archive" target/staticlib/librachdoum.a ;;
@@ -141,6 +142,11 @@ run ./plan
 ended 2 '' 1 && [[ $(tail -n 1 "$work/err") == 'plan: the build failed: not proved: small (log: target/plan.log)' && ! -e $library ]]
 verdict 'a proof that fails'
 rm "$work/fail"
+echo staticlib >"$work/broken"
+run ./plan
+ended 2 '' 2 && [[ $(tail -n 1 "$work/err") == 'plan: the build failed: rt staticlib rachdoum (log: target/plan.log)' && ! -e $library ]]
+verdict 'an archive that fails'
+rm "$work/broken"
 cp "$work/archive" "$work/good"
 echo 'no archive' >"$work/archive"
 run ./plan
