@@ -30,18 +30,28 @@ package_of() {
   esac
 }
 
-# apt_install LOG PACKAGE..: for root, where there is apt-get; what it says goes to the log
+# packages_of COMMAND..: those of all, each once
+packages_of() {
+  local command
+  for command in "$@"; do
+    package_of "$command"
+  done | sort -u
+}
+
+# may_install: root may, where there is apt-get
+may_install() {
+  [[ $(id -u) == 0 ]] && command -v apt-get >/dev/null 2>&1
+}
+
+# apt_install PACKAGE..: the lists of packages may be old
 apt_install() {
-  local log=$1
-  shift
-  [[ $(id -u) == 0 ]] && command -v apt-get >/dev/null 2>&1 && mkdir -p "${log%/*}" || return 1
   export DEBIAN_FRONTEND=noninteractive
-  apt-get install -y "$@" >"$log" 2>&1 || { apt-get update && apt-get install -y "$@"; } >>"$log" 2>&1
+  apt-get install -y "$@" || { apt-get update && apt-get install -y "$@"; }
 }
 
 # needs CALLER COMMAND..: installs what is missing, or says in one line what to run and fails
 needs() {
-  local caller=$1 gone packages command here=${BASH_SOURCE[0]%/*}
+  local caller=$1 gone packages here=${BASH_SOURCE[0]%/*}
   local log=${here%/*}/target/needs.log
   shift
   mapfile -t gone < <(missing "$@")
@@ -54,15 +64,20 @@ needs() {
     echo "$caller: cargo is older than 1.78: run rustup update or, on Debian, apt-get install $(package_of cargo)" >&2
     return 1
   fi
-  mapfile -t packages < <(for command in "${gone[@]}"; do package_of "$command"; done | sort -u)
-  if apt_install "$log" "${packages[@]}"; then
-    hash -r
-    mapfile -t gone < <(missing "$@")
-    if [[ ${#gone[@]} -eq 0 ]]; then
-      echo "$caller: installed ${packages[*]} (log: $log)" >&2
-      return 0
-    fi
+  if ! may_install; then
+    mapfile -t packages < <(packages_of "${gone[@]}")
+    echo "$caller: missing: ${gone[*]}. Run as root: apt-get install ${packages[*]}" >&2
+    return 1
   fi
-  echo "$caller: missing: ${gone[*]}. Run$([[ $(id -u) == 0 ]] || echo ' as root'): apt-get install ${packages[*]}" >&2
+  mkdir -p "${log%/*}" && : >"$log" || return 1
+  # A machine without lists of packages knows of none.
+  apt-cache show gcc >/dev/null 2>&1 || apt-get update >>"$log" 2>&1
+  mapfile -t packages < <(packages_of "${gone[@]}")
+  echo "$caller: installing ${packages[*]} (log: $log)" >&2
+  apt_install "${packages[@]}" >>"$log" 2>&1
+  hash -r
+  mapfile -t gone < <(missing "$@")
+  [[ ${#gone[@]} -gt 0 ]] || return 0
+  echo "$caller: still missing: ${gone[*]}. Run: apt-get install ${packages[*]} (log: $log)" >&2
   return 1
 }

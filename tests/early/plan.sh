@@ -228,23 +228,31 @@ verdict 'a compiler is missing'
 run ./test
 ended 2 '' 0 && says 'test: missing: cargo rustc cc g++. Run as root: apt-get install cargo g++ gcc'
 verdict 'compilers are missing for the tests'
-stand_in apt-cache '[ "$*" = "show cargo-web" ]'
+stand_in apt-cache "[ ! -e $work/unlisted ]"
 stand_in apt-get "echo \"\$*\" >>$work/installed
-[ \$1 != update ] || rm -f $work/unlisted
-[ ! -e $work/unlisted ] || { echo 'E: no such package'; exit 100; }
+[ \$1 != update ] || rm -f $work/unlisted $work/old
+[ ! -e $work/unlisted -a ! -e $work/old ] || { echo 'E: no such package'; exit 100; }
 [ \$1 != install ] || ln -s $(command -v gcc) $tools/cc"
 run ./test
 ended 2 '' 0 && says 'test: missing: cargo rustc cc g++. Run as root: apt-get install cargo-web g++ gcc' && [[ ! -e $work/installed ]]
 verdict 'only root installs'
 stand_in id 'echo 0'
-touch "$work/unlisted"
-run ./plan
-ended 0 'plan examples/huts.sheet 42' 2 && [[ $(head -n 1 "$work/err") == 'plan: installed gcc (log: '*'/target/needs.log)' ]] &&
-  [[ $(tr '\n' ';' <"$work/installed") == 'install -y gcc;update;install -y gcc;' ]] && grep -q 'no such package' target/needs.log
-verdict 'root installs what is missing'
+
+# installs LISTS CALLS: root has the compiler installed, with lists of packages that are unlisted, old or new
+installs() {
+  rm -f "$library" "$tools/cc" "$work/installed"
+  touch "$work/$1"
+  run ./plan
+  ended 0 'plan examples/huts.sheet 42' 2 && [[ $(head -n 1 "$work/err") == 'plan: installing gcc (log: '*'/target/needs.log)' ]] &&
+    [[ $(tr '\n' ';' <"$work/installed") == "$2" ]]
+  verdict "root installs what is missing, lists $1"
+}
+installs unlisted 'update;install -y gcc;'
+installs old 'install -y gcc;update;install -y gcc;'
+installs new 'install -y gcc;'
 stand_in apt-get 'exit 100'
 run ./test
-ended 2 '' 0 && says 'test: missing: cargo rustc g++. Run: apt-get install cargo-web g++'
+ended 2 '' 0 && [[ $(tail -n 1 "$work/err") == 'test: still missing: cargo rustc g++. Run: apt-get install cargo-web g++ (log: ./target/needs.log)' ]]
 verdict 'an installation that fails'
 stand_in cargo 'echo cargo 1.77.2'
 run ./test
@@ -252,7 +260,7 @@ ended 2 '' 0 && says 'test: cargo is older than 1.78: run rustup update or, on D
 verdict 'a cargo that is too old'
 stand_in cargo 'echo "cargo 1.78.0 (54d8815d0 2024-03-26)"'
 run ./test
-ended 2 '' 0 && says 'test: missing: rustc g++. Run: apt-get install cargo-web g++'
+ended 2 '' 0 && [[ $(tail -n 1 "$work/err") == 'test: still missing: rustc g++. '* ]]
 verdict 'a cargo that is new enough'
 
 cd "$here" || exit 1
