@@ -145,14 +145,16 @@ class Progress:
             put("\r\033[K" + (f"plan: {text}"[: width - 1] if text else ""), end="")
 
     def to_go(self):
+        """About how long it takes yet, by the pace so far: of what is proved, and of what takes longer already than thought."""
         now = time.time()
-        ended = [name for name in self.took if self.took[name] > 0]
-        # How slow this machine is; the first half minute says little of it.
-        pace = (30 + sum(self.took[name] for name in ended)) / (30 + sum(self.seconds[name] for name in ended))
+        spent = {name: self.took.get(name, now - self.began[name]) for name in self.began}
+        told = [name for name in spent if spent[name] > (0 if name in self.took else self.seconds[name])]
+        # The first half minute says little of how slow this machine is.
+        pace = (30 + sum(spent[name] for name in told)) / (30 + sum(self.seconds[name] for name in told))
         left = 0
         for names in self.rounds:
             still = [name for name in names if name not in self.took]
-            left += max((max(1, pace * self.seconds[name] - now + self.began.get(name, now)) for name in still), default=0)
+            left += max((max(1, pace * self.seconds[name] - spent.get(name, 0)) for name in still), default=0)
         return f"about {round(left / 60)} min" if left >= 90 else f"about {max(10, round(left, -1)):.0f} s"
 
 
