@@ -1,4 +1,4 @@
-# Holds the degrees of freedom of the accepted examples to R's own analysis of variance.
+# Checks the degrees of freedom of the accepted examples against R's own analysis of variance.
 # Usage: Rscript examples/aov.R, with R from Debian's r-base-core. It is not part of the tests.
 #
 # For each sheet R fits aov() to random numbers: all treatment columns crossed, and Error() with the strata that the table names,

@@ -1,23 +1,24 @@
-/* Prints the table of a sheet and, after an empty line, where each treatment is tested.
+/* Prints the table of a sheet and, after an empty line, against what each treatment is tested. Exits with 1 after a refusal.
  *
  *     cc -Iinclude -o library examples/library.c target/staticlib/librachdoum.a
  *     ./library examples/huts.sheet */
 #include "rachdoum.h"
 
+#include <inttypes.h>
 #include <stdio.h>
 
 enum { PLOT, TREATMENT };
 
 /* One byte more than a sheet may have: a file that is too long is refused and not cut. */
-static uint8_t text[32769];
+static uint8_t text[RACHDOUM_TEXT + 1];
 static size_t text_len;
-static uint16_t levels[2880];
-static uint8_t families[2][7680];
+static rachdoum_level levels[RACHDOUM_LEVELS];
+static uint8_t families[2][RACHDOUM_FAMILY];
 static size_t sizes[2];
 static size_t plots;
 
 static void print_table(void) {
-  static uint8_t table[32768];
+  static uint8_t table[RACHDOUM_TABLE];
   uint64_t length;
   /* It has no refusal here, since the buffer is long enough: a sheet's refusal is a line of the text. */
   rachdoum_skeleton(text, text_len, table, sizeof table, &length);
@@ -25,37 +26,44 @@ static void print_table(void) {
 }
 
 static void print_name(int kind, size_t place) {
-  uint8_t name[96];
+  uint8_t name[RACHDOUM_NAME];
   uint64_t length;
-  rachdoum_name(text, text_len, levels, 2880, families[kind], sizeof families[kind], plots, sizes[kind], kind, place, name,
-                sizeof name, &length);
+  rachdoum_name(text, text_len, levels, RACHDOUM_LEVELS, families[kind], sizeof families[kind], plots, sizes[kind], kind, place,
+                name, sizeof name, &length);
   fwrite(name, 1, length, stdout);
 }
 
 /* Reads the sheet and makes both families. Answers the refusal, 0 for none. */
 static uint32_t design(void) {
   uint64_t read[3], made[4];
-  uint32_t refusal = rachdoum_read_sheet(text, text_len, levels, 2880, read);
-  if (refusal != 0)
+  uint32_t refusal = rachdoum_read_sheet(text, text_len, levels, RACHDOUM_LEVELS, read);
+  if (refusal != RACHDOUM_ACCEPTED)
     return refusal;
   plots = read[0];
-  refusal = rachdoum_full_design(levels, 2880, plots, read[1], read[2], 6, families[PLOT], sizeof families[PLOT],
-                                 families[TREATMENT], sizeof families[TREATMENT], made);
+  refusal = rachdoum_full_design(levels, RACHDOUM_LEVELS, plots, read[1], read[2], RACHDOUM_INTERACTION, families[PLOT],
+                                 sizeof families[PLOT], families[TREATMENT], sizeof families[TREATMENT], made);
   /* After some refusals a family is written too; the answer has its size. */
   sizes[PLOT] = made[2];
   sizes[TREATMENT] = made[3];
   return refusal;
 }
 
-static void print_strata(void) {
-  int64_t strata[64];
+/* A treatment is tested against the residual of its stratum. Where that has none the treatment cannot be tested. */
+static void print_tests(void) {
+  int64_t degrees[RACHDOUM_MEMBERS], strata[2 * RACHDOUM_MEMBERS];
   size_t place;
+  rachdoum_degrees(families[TREATMENT], sizeof families[TREATMENT], plots, sizes[TREATMENT], degrees);
   rachdoum_strata(families[PLOT], sizeof families[PLOT], sizes[PLOT], families[TREATMENT], sizeof families[TREATMENT],
                   sizes[TREATMENT], plots, strata);
-  for (place = 1; place <= sizes[TREATMENT]; place++) {
+  /* The first member is U, the mean, which nobody tests. */
+  for (place = 2; place <= sizes[TREATMENT]; place++) {
+    size_t stratum = (size_t)strata[place - 1];
+    int64_t residual = strata[RACHDOUM_MEMBERS + stratum - 1];
     print_name(TREATMENT, place);
-    printf(" is tested in ");
-    print_name(PLOT, (size_t)strata[place - 1]);
+    printf(" (%" PRId64 " df) %s ", degrees[place - 1], residual != 0 ? "is tested in" : "cannot be tested: no residual in");
+    print_name(PLOT, stratum);
+    if (residual != 0)
+      printf(" against %" PRId64 " df", residual);
     printf("\n");
   }
 }
@@ -74,12 +82,12 @@ int main(int count, char **arguments) {
   }
   fclose(file);
   print_table();
+  printf("\n");
   refusal = design();
-  if (refusal == 0) {
-    printf("\n%zu plot members, %zu treatment members\n", sizes[PLOT], sizes[TREATMENT]);
-    print_strata();
-  } else {
-    printf("\nQuestion %u fails (docs/REFUSALS.md).\n", (unsigned)refusal);
+  if (refusal != RACHDOUM_ACCEPTED) {
+    printf("Question %" PRIu32 " fails (docs/REFUSALS.md).\n", refusal);
+    return 1;
   }
+  print_tests();
   return 0;
 }

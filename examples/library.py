@@ -1,4 +1,4 @@
-"""Prints the table of a sheet and, after an empty line, the members of both families with their degrees of freedom.
+"""Prints the table of a sheet and, after an empty line, against what each treatment is tested. Exits with 1 after a refusal.
 
     cc -shared -o librachdoum.so -Wl,--whole-archive target/staticlib/librachdoum.a -Wl,--no-whole-archive
     python3 examples/library.py ./librachdoum.so examples/huts.sheet
@@ -6,6 +6,15 @@
 import ctypes
 import sys
 from ctypes import c_int64, c_size_t, c_uint8, c_uint16, c_uint32, c_uint64
+
+# As in include/rachdoum.h.
+INTERACTION = 6
+MEMBERS = 32
+LEVELS = 2880
+FAMILY = 7680
+NAME = 96
+TABLE = 32768
+level = c_uint16
 
 PLOT, TREATMENT = c_uint32(0), c_uint32(1)
 
@@ -24,50 +33,67 @@ def ask(function, *arguments):
 
 def table(library, text):
     """The printed text of a sheet. Its buffer is long enough, so the entry refuses nothing; a refused sheet gives a line."""
-    out, length = (c_uint8 * 32768)(), (c_uint64 * 1)()
+    out, length = (c_uint8 * TABLE)(), (c_uint64 * 1)()
     ask(library.rachdoum_skeleton, text, out, length)
     return bytes(out[: length[0]]).decode("ascii")
 
 
-def print_family(library, text, levels, family, plots, size, kind):
-    """Each member's name and degrees of freedom."""
-    degrees = (c_int64 * 32)()
-    ask(library.rachdoum_degrees, family, plots, size, degrees)
+def names(library, text, levels, family, plots, size, kind):
+    """The names of a family's members, in order."""
+    found = []
     for place in range(1, size + 1):
-        name, length = (c_uint8 * 96)(), (c_uint64 * 1)()
+        name, length = (c_uint8 * NAME)(), (c_uint64 * 1)()
         ask(library.rachdoum_name, text, levels, family, plots, size, kind, place, name, length)
-        print(" ", bytes(name[: length[0]]).decode("ascii"), degrees[place - 1])
+        found.append(bytes(name[: length[0]]).decode("ascii"))
+    return found
 
 
-def print_design(library, text):
-    """Reads the sheet, makes both families and prints them, or the question that fails."""
-    levels, read = (c_uint16 * 2880)(), (c_uint64 * 3)()
+def tests(library, text):
+    """The refusal, 0 for none, and for each treatment: its name, its degrees of freedom, its stratum, the residual there."""
+    levels, read = (level * LEVELS)(), (c_uint64 * 3)()
     refusal = ask(library.rachdoum_read_sheet, text, levels, read)
-    if refusal == 0:
-        first, second, made = (c_uint8 * 7680)(), (c_uint8 * 7680)(), (c_uint64 * 4)()
-        refusal = ask(library.rachdoum_full_design, levels, *read, 6, first, second, made)
     if refusal != 0:
-        print(f"Question {refusal} fails (docs/REFUSALS.md).")
-        return
-    plots = read[0]
-    print(made[2], "plot members and their degrees of freedom:")
-    print_family(library, text, levels, first, plots, made[2], PLOT)
-    print(made[3], "treatment members and theirs:")
-    print_family(library, text, levels, second, plots, made[3], TREATMENT)
+        return refusal, []
+    first, second, made = (c_uint8 * FAMILY)(), (c_uint8 * FAMILY)(), (c_uint64 * 4)()
+    refusal = ask(library.rachdoum_full_design, levels, *read, INTERACTION, first, second, made)
+    if refusal != 0:
+        return refusal, []
+    plots, plot_size, size = read[0], made[2], made[3]
+    degrees, strata = (c_int64 * MEMBERS)(), (c_int64 * (2 * MEMBERS))()
+    ask(library.rachdoum_degrees, second, plots, size, degrees)
+    ask(library.rachdoum_strata, first, plot_size, second, size, plots, strata)
+    groupings = names(library, text, levels, first, plots, plot_size, PLOT)
+    treatments = names(library, text, levels, second, plots, size, TREATMENT)
+    # The first member is U, the mean, which nobody tests.
+    return 0, [
+        (treatments[i], degrees[i], groupings[strata[i] - 1], strata[MEMBERS + strata[i] - 1]) for i in range(1, size)
+    ]
 
 
 def main():
     if len(sys.argv) != 3:
-        sys.exit("usage: library.py LIBRARY SHEET")
+        print("usage: library.py LIBRARY SHEET", file=sys.stderr)
+        return 2
     try:
         library = ctypes.CDLL(sys.argv[1])
         with open(sys.argv[2], "rb") as file:
             sheet = file.read()
     except OSError as error:
-        sys.exit(f"library.py: {error}")
+        print(f"library.py: {error}", file=sys.stderr)
+        return 2
     text = (c_uint8 * len(sheet))(*sheet)
     print(table(library, text))
-    print_design(library, text)
+    refusal, rows = tests(library, text)
+    if refusal != 0:
+        print(f"Question {refusal} fails (docs/REFUSALS.md).")
+        return 1
+    for name, df, stratum, residual in rows:
+        if residual != 0:
+            print(f"{name} ({df} df) is tested in {stratum} against {residual} df")
+        else:
+            print(f"{name} ({df} df) cannot be tested: no residual in {stratum}")
+    return 0
 
 
-main()
+if __name__ == "__main__":
+    sys.exit(main())

@@ -1,8 +1,14 @@
 /* The planner's entries, proved in Rattle, for C and for whatever calls C.
  *
- * Each function answers the number of the question that failed, 0 for none (docs/REFUSALS.md), and writes `answer` whole: 0 where
- * there is no number. A slice is a pointer and a length; the pointer is never null and, where the length is not 0, points to so much
- * memory. Slices that are written do not overlap others. Nothing else is assumed: counts and lengths may have any value.
+ * Each function answers the number of the question that failed, 0 for none, and writes `answer` whole: 0 where there is no number. There
+ * is one exception: `rachdoum_skeleton` answers 0 for a refused sheet too, whose refusal is the line that it prints.
+ *
+ * A slice is a pointer and a length; the pointer is never null and, where the length is not 0, points to so much memory. Slices that are
+ * written do not overlap others. Nothing else is assumed: counts and lengths may have any value.
+ *
+ * Threads: no function keeps anything between calls. Several threads may call them at once, each with memory of its own to write to.
+ * Stack: it is the only memory that they take. Counted from the source, `rachdoum_skeleton` takes about 68 kB, the designs take about
+ * 47 kB, the others less. No function calls itself.
  *
  * Build the archive with `rt staticlib rachdoum` and link target/staticlib/librachdoum.a. */
 #ifndef RACHDOUM_H
@@ -15,42 +21,80 @@
 extern "C" {
 #endif
 
-/* Reads a sheet into a level table of at least 2,880 numbers: questions 1 to 5. Column c, plot u (from 0) is number 240 * c + u; plot
- * columns take c = 0 to 5, treatment columns 6 to 11. Answer: plots, plot columns, treatment columns. A refusal writes no level. */
-uint32_t rachdoum_read_sheet(const uint8_t *text, size_t text_len, uint16_t *levels, size_t levels_len, uint64_t answer[3]);
+/* At most so many. */
+#define RACHDOUM_PLOTS 240
+#define RACHDOUM_COLUMNS 6 /* of one kind, plot or treatment */
+#define RACHDOUM_INTERACTION 6 /* the interaction level k */
+#define RACHDOUM_MEMBERS 32 /* of a family */
+#define RACHDOUM_TEXT 32768 /* bytes of a sheet */
 
-/* Closes and judges the plot columns of a level table: questions 6 to 10. Member i (from 1) stands in the family buffer of at least
- * 7,680 bytes from byte 240 * (i - 1) on. Answer: the first place at fault, the second, the size of the family written. */
-uint32_t rachdoum_plot_design(const uint16_t *levels, size_t levels_len, size_t plots, size_t columns, uint8_t *family,
+/* At least so long is what a caller lends. */
+#define RACHDOUM_LEVELS 2880 /* numbers of a level table: 240 for each of 12 columns */
+#define RACHDOUM_FAMILY 7680 /* bytes of a family buffer: 240 for each of 32 members */
+#define RACHDOUM_NAME 96 /* bytes of a name buffer */
+#define RACHDOUM_TABLE 32768 /* bytes for the printed table */
+
+/* A level: only a label. */
+typedef uint16_t rachdoum_level;
+
+/* What a function answers. docs/REFUSALS.md has each question with an example and a remedy. */
+enum rachdoum_refusal {
+  RACHDOUM_ACCEPTED = 0,
+  RACHDOUM_REFUSED_LEVEL_TABLE = 1, /* the lent level table is too short */
+  RACHDOUM_REFUSED_LENGTH_OF_TEXT = 2,
+  RACHDOUM_REFUSED_FORM_OF_FIRST_LINE = 3,
+  RACHDOUM_REFUSED_FORM_OF_LINE = 4, /* a later line */
+  RACHDOUM_REFUSED_NUMBER_OF_PLOTS = 5, /* lines of the sheet */
+  RACHDOUM_REFUSED_CALL = 6, /* a count, k or a place out of its limits, or a lent slice too short */
+  RACHDOUM_REFUSED_LEVEL_ZERO = 7, /* a level that is used is 0 */
+  RACHDOUM_REFUSED_TOO_MANY_PLOT_MEMBERS = 8,
+  RACHDOUM_REFUSED_CLASS_SIZES = 9, /* a plot member has classes of different sizes */
+  RACHDOUM_REFUSED_PLOTS_NOT_ORTHOGONAL = 10, /* two plot members */
+  RACHDOUM_REFUSED_TOO_MANY_TREATMENT_MEMBERS = 11, /* in the first treatment family */
+  RACHDOUM_REFUSED_TREATMENTS_NOT_ORTHOGONAL = 12, /* two treatment members */
+  RACHDOUM_REFUSED_PLOT_AND_TREATMENT_NOT_ORTHOGONAL = 13, /* a plot member and a treatment member */
+  RACHDOUM_REFUSED_TOO_MANY_FINAL_MEMBERS = 14, /* in the final treatment family */
+  RACHDOUM_REFUSED_FORM_OF_FAMILY = 15, /* a family handed in is none that a design leaves */
+  RACHDOUM_REFUSED_NO_STRATUM = 16 /* a treatment member has no stratum */
+};
+
+/* Reads a sheet into a level table: questions 1 to 5. Column c, plot u (from 0) is number 240 * c + u; plot columns take c = 0 to 5,
+ * treatment columns 6 to 11. Answer: plots, plot columns, treatment columns. A refusal writes no level. */
+uint32_t rachdoum_read_sheet(const uint8_t *text, size_t text_len, rachdoum_level *levels, size_t levels_len, uint64_t answer[3]);
+
+/* Closes and judges the plot columns of a level table: questions 6 to 10. Member i (from 1) stands in the family buffer from byte
+ * 240 * (i - 1) on. Answer: the first place at fault, the second, the size of the family written. */
+uint32_t rachdoum_plot_design(const rachdoum_level *levels, size_t levels_len, size_t plots, size_t columns, uint8_t *family,
                               size_t family_len, uint64_t answer[3]);
 
 /* The full design with interaction level k: questions 6 to 14. Answer: the first place at fault, the second, the sizes of the plot
  * family and of the treatment family written. */
-uint32_t rachdoum_full_design(const uint16_t *levels, size_t levels_len, size_t plots, size_t plot_columns,
+uint32_t rachdoum_full_design(const rachdoum_level *levels, size_t levels_len, size_t plots, size_t plot_columns,
                               size_t treatment_columns, size_t k, uint8_t *plot_family, size_t plot_family_len,
                               uint8_t *treatment_family, size_t treatment_family_len, uint64_t answer[4]);
 
 /* Who is strictly coarser than whom in a family: questions 6 and 15. Answer: the size; 32 words, bit j - 1 of member i's word for
  * member j; 32 words that keep the neighbours directly above; 32 numbers of these. */
-uint32_t rachdoum_relation(const uint8_t *family, size_t family_len, size_t plots, size_t size, uint32_t answer[97]);
+uint32_t rachdoum_relation(const uint8_t *family, size_t family_len, size_t plots, size_t size,
+                           uint32_t answer[1 + 3 * RACHDOUM_MEMBERS]);
 
 /* Degrees of freedom of each member: questions 6 and 15. */
-uint32_t rachdoum_degrees(const uint8_t *family, size_t family_len, size_t plots, size_t size, int64_t answer[32]);
+uint32_t rachdoum_degrees(const uint8_t *family, size_t family_len, size_t plots, size_t size, int64_t answer[RACHDOUM_MEMBERS]);
 
-/* Strata: questions 6, 15 and 16. Answer: for each treatment member the place of its stratum; for each plot member its residual
- * degrees of freedom. */
+/* Strata: questions 6, 15 and 16. Answer: for each treatment member the place of its stratum; for each plot member, from number 32 on,
+ * its residual degrees of freedom. */
 uint32_t rachdoum_strata(const uint8_t *plot_family, size_t plot_family_len, size_t plot_size, const uint8_t *treatment_family,
-                         size_t treatment_family_len, size_t treatment_size, size_t plots, int64_t answer[64]);
+                         size_t treatment_family_len, size_t treatment_size, size_t plots, int64_t answer[2 * RACHDOUM_MEMBERS]);
 
 /* The name of the member at a place (from 1) of a family: questions 2, 3, 6, 7 and 15. `kind` is 0 for a plot family, any other number
- * for a treatment family; the sheet's first line gives the column names, the level table the columns. The name buffer has at least 96
- * bytes; those past the name are not touched. Answer: the name's length. */
-uint32_t rachdoum_name(const uint8_t *text, size_t text_len, const uint16_t *levels, size_t levels_len, const uint8_t *family,
+ * for a treatment family; the sheet's first line gives the column names, the level table the columns. Bytes of the name buffer past the
+ * name are not touched. Answer: the name's length. */
+uint32_t rachdoum_name(const uint8_t *text, size_t text_len, const rachdoum_level *levels, size_t levels_len, const uint8_t *family,
                        size_t family_len, size_t plots, size_t size, uint32_t kind, size_t place, uint8_t *name, size_t name_len,
                        uint64_t answer[1]);
 
-/* What is printed for a sheet's text: the skeleton table with k = 6, or the line of the sheet's refusal. 6: `out` has fewer than 32,768
- * bytes; bytes past the text are not touched. Answer: the length of the text. */
+/* What is printed for a sheet's text: the skeleton table with k = 6, or the line of the sheet's refusal. 6: `out` is too short; bytes
+ * past the text are not touched. Answer: the length of the text. */
 uint32_t rachdoum_skeleton(const uint8_t *text, size_t text_len, uint8_t *out, size_t out_len, uint64_t answer[1]);
 
 #ifdef __cplusplus

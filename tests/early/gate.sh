@@ -25,6 +25,7 @@ stand_in() {
 
 mkdir -p "$work/bin" "$work/gate/tests/early"
 cp "$here/test" "$work/gate/test"
+cp -R "$here/scripts" "$work/gate/scripts"
 
 stand_in 0 '"rt: ok" "7 passed, 0 failed"'
 verdict 'all passed' 0 '7 passed, 0 failed'

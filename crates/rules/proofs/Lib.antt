@@ -32,6 +32,15 @@ pub mod DesignAsks
 pub mod Demand2
 pub mod StrictOrder
 pub mod Places
+pub mod Listing
+pub mod ChosenSums
+pub mod Taken
+pub mod Allocation
+pub mod StrataTotals
+pub mod Above
+pub mod Subtracted
+pub mod TableMeant
+pub mod NamesMeant
 pub mod Bits
 pub mod Signed
 pub mod DegreesLaws

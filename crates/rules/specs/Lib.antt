@@ -1,6 +1,11 @@
 pub mod Limits
 pub mod Lists
 pub mod Sheet
+pub mod Listing
+pub mod Allocation
+pub mod Above
+pub mod NamesMeant
+pub mod FurtherTrials
 pub mod Factor
 pub mod Family
 pub mod Places

@@ -1,0 +1,342 @@
+-- More small trials that are proved about the rules, in one list as those of Trials. Each outcome was worked out by hand.
+-- The claim stands at the end of the file. Assumes nothing.
+use mathlib.Core.Path.{_≡_, refl}
+use mathlib.Core.List.{List, [], _∷_, _++_, map}
+use Prim.Native.Nat.{ℕ, _-_}
+use lib.IntN.{ℤ, pos, negsuc}
+use lib.ListN.{length, replicate}
+use Rattle.rules.specs.Limits.{mostColumns, tableCells, familyBytes, nameBytes}
+use Rattle.rules.specs.Factor.{Column}
+use Rattle.rules.specs.Family.{Family, written}
+use Rattle.rules.specs.Relation.{RelationAnswer, relation}
+use Rattle.rules.specs.Degrees.{DegreesAnswer, degreesOfFreedom}
+use Rattle.rules.specs.Strata.{StrataAnswer, strata}
+use Rattle.rules.specs.Sheet.{Outcome, read, refused, reading}
+use Rattle.rules.specs.Naming.{Kind, plot, treatment, NameAnswer, naming}
+use Rattle.rules.specs.Table.{signed, tableText}
+use Rattle.rules.specs.Trials.{Trial, treats, observed}
+
+pub data FurtherTrial : Type 0 where
+  -- a trial as in Trials
+  planned : Trial → FurtherTrial
+  -- plots, the members in the buffer, the size asked about; the answer
+  related : ℕ → Family → ℕ → RelationAnswer → FurtherTrial
+  freed : ℕ → Family → ℕ → DegreesAnswer → FurtherTrial
+  -- plots, the members in both buffers; the answer
+  allotted : ℕ → Family → Family → StrataAnswer → FurtherTrial
+  -- the kind, the text, plots, plot and treatment columns of the level table, the members in the buffer, the place asked about; the answer
+  named : Kind → List ℕ → ℕ → List Column → List Column → Family → ℕ → NameAnswer → FurtherTrial
+  -- the lengths of level table, family buffer and name buffer; the number answered for the same text, columns, members and place 2
+  fitted : ℕ → ℕ → ℕ → ℕ → FurtherTrial
+  -- a signed number; its bytes
+  shown : ℤ → List ℕ → FurtherTrial
+  -- the text, the cells of the level table; the answer of the reader
+  heard : List ℕ → ℕ → Outcome → FurtherTrial
+  -- a sheet; its whole output
+  printed : List ℕ → List ℕ → FurtherTrial
+
+-- ---- families
+
+-- numbers for 32 members: these, then 0
+filled : List ℕ → List ℕ
+filled xs = xs ++ replicate (32 - length xs) 0
+
+filledSigned : List ℤ → List ℤ
+filledSigned xs = xs ++ replicate (32 - length xs) (pos 0)
+
+-- four plots: U, three columns of two classes, E
+abbrev one : Column
+one = 1 ∷ 1 ∷ 1 ∷ 1 ∷ []
+
+abbrev halves : Column
+halves = 1 ∷ 1 ∷ 2 ∷ 2 ∷ []
+
+abbrev turns : Column
+turns = 1 ∷ 2 ∷ 1 ∷ 2 ∷ []
+
+abbrev ends : Column
+ends = 1 ∷ 2 ∷ 2 ∷ 1 ∷ []
+
+abbrev each : Column
+each = 1 ∷ 2 ∷ 3 ∷ 4 ∷ []
+
+abbrev square : Family
+square = one ∷ halves ∷ turns ∷ each ∷ []
+
+-- eight plots: two columns that cross, their infimum, U
+abbrev fours : Column
+fours = 1 ∷ 1 ∷ 1 ∷ 1 ∷ 2 ∷ 2 ∷ 2 ∷ 2 ∷ []
+
+abbrev twos : Column
+twos = 1 ∷ 1 ∷ 2 ∷ 2 ∷ 1 ∷ 1 ∷ 2 ∷ 2 ∷ []
+
+abbrev pairsOfEight : Column
+pairsOfEight = 1 ∷ 1 ∷ 2 ∷ 2 ∷ 3 ∷ 3 ∷ 4 ∷ 4 ∷ []
+
+abbrev alternate : Column
+alternate = 1 ∷ 2 ∷ 1 ∷ 2 ∷ 1 ∷ 2 ∷ 1 ∷ 2 ∷ []
+
+abbrev oneOfEight : Column
+oneOfEight = 1 ∷ 1 ∷ 1 ∷ 1 ∷ 1 ∷ 1 ∷ 1 ∷ 1 ∷ []
+
+abbrev hutAndBay : List Column
+hutAndBay = fours ∷ twos ∷ []
+
+abbrev gainAndRow : List Column
+gainAndRow = alternate ∷ pairsOfEight ∷ []
+
+abbrev oneAndPairs : Family
+oneAndPairs = oneOfEight ∷ pairsOfEight ∷ []
+
+-- ---- texts (→ is a tab)
+
+-- names
+abbrev infimumName : List ℕ
+infimumName =
+    -- I(Hut,Bay)
+    73 ∷ 40 ∷ 72 ∷ 117 ∷ 116 ∷ 44 ∷ 66 ∷ 97 ∷ 121 ∷ 41 ∷ []
+
+abbrev rowName : List ℕ
+rowName =
+    -- Row
+    82 ∷ 111 ∷ 119 ∷ []
+
+-- a first line with two columns of each kind
+abbrev twoAndTwo : List ℕ
+twoAndTwo =
+    -- p:Hut→p:Bay→t:Gain→t:Row
+    112 ∷ 58 ∷ 72 ∷ 117 ∷ 116 ∷ 9 ∷ 112 ∷ 58 ∷ 66 ∷ 97 ∷ 121 ∷ 9 ∷ 116 ∷ 58 ∷ 71 ∷ 97 ∷ 105 ∷ 110 ∷ 9 ∷ 116 ∷ 58 ∷ 82 ∷ 111 ∷ 119 ∷ 10 ∷ []
+
+-- a first line with four plot columns
+abbrev fourPlots : List ℕ
+fourPlots =
+    -- p:Cot→p:Hut→p:Bay→p:Dam
+    112 ∷ 58 ∷ 67 ∷ 111 ∷ 116 ∷ 9 ∷ 112 ∷ 58 ∷ 72 ∷ 117 ∷ 116 ∷ 9 ∷ 112 ∷ 58 ∷ 66 ∷ 97 ∷ 121 ∷ 9 ∷ 112 ∷ 58 ∷ 68 ∷ 97 ∷ 109 ∷ 10 ∷ []
+
+-- classes of two sizes
+abbrev unevenSheet : List ℕ
+unevenSheet =
+    -- p:Hut
+    112 ∷ 58 ∷ 72 ∷ 117 ∷ 116 ∷ 10 ∷
+    -- 1
+    49 ∷ 10 ∷
+    -- 1
+    49 ∷ 10 ∷
+    -- 2
+    50 ∷ 10 ∷ []
+
+abbrev unevenTable : List ℕ
+unevenTable =
+    -- refused→9→Hut→-
+    114 ∷ 101 ∷ 102 ∷ 117 ∷ 115 ∷ 101 ∷ 100 ∷ 9 ∷ 57 ∷ 9 ∷ 72 ∷ 117 ∷ 116 ∷ 9 ∷ 45 ∷ 10 ∷ []
+
+-- six plots, two columns that are not orthogonal: of the plots, of the treatments, one of each kind
+abbrev sixPlots : List ℕ
+sixPlots =
+    -- 1→1
+    49 ∷ 9 ∷ 49 ∷ 10 ∷
+    -- 1→2
+    49 ∷ 9 ∷ 50 ∷ 10 ∷
+    -- 2→1
+    50 ∷ 9 ∷ 49 ∷ 10 ∷
+    -- 2→3
+    50 ∷ 9 ∷ 51 ∷ 10 ∷
+    -- 3→2
+    51 ∷ 9 ∷ 50 ∷ 10 ∷
+    -- 3→3
+    51 ∷ 9 ∷ 51 ∷ 10 ∷ []
+
+abbrev crossedSheet : List ℕ
+crossedSheet =
+    -- p:Hut→p:Bay
+    (112 ∷ 58 ∷ 72 ∷ 117 ∷ 116 ∷ 9 ∷ 112 ∷ 58 ∷ 66 ∷ 97 ∷ 121 ∷ 10 ∷ []) ++ sixPlots
+
+abbrev crossedTable : List ℕ
+crossedTable =
+    -- refused→10→Hut→Bay
+    114 ∷ 101 ∷ 102 ∷ 117 ∷ 115 ∷ 101 ∷ 100 ∷ 9 ∷ 49 ∷ 48 ∷ 9 ∷ 72 ∷ 117 ∷ 116 ∷ 9 ∷ 66 ∷ 97 ∷ 121 ∷ 10 ∷ []
+
+abbrev treatedSheet : List ℕ
+treatedSheet =
+    -- t:Gain→t:Row
+    (116 ∷ 58 ∷ 71 ∷ 97 ∷ 105 ∷ 110 ∷ 9 ∷ 116 ∷ 58 ∷ 82 ∷ 111 ∷ 119 ∷ 10 ∷ []) ++ sixPlots
+
+abbrev treatedTable : List ℕ
+treatedTable =
+    -- refused→12→Gain→Row
+    114 ∷ 101 ∷ 102 ∷ 117 ∷ 115 ∷ 101 ∷ 100 ∷ 9 ∷ 49 ∷ 50 ∷ 9 ∷ 71 ∷ 97 ∷ 105 ∷ 110 ∷ 9 ∷ 82 ∷ 111 ∷ 119 ∷ 10 ∷ []
+
+abbrev mixedSheet : List ℕ
+mixedSheet =
+    -- p:Hut→t:Gain
+    (112 ∷ 58 ∷ 72 ∷ 117 ∷ 116 ∷ 9 ∷ 116 ∷ 58 ∷ 71 ∷ 97 ∷ 105 ∷ 110 ∷ 10 ∷ []) ++ sixPlots
+
+abbrev mixedTable : List ℕ
+mixedTable =
+    -- refused→13→Hut→Gain
+    114 ∷ 101 ∷ 102 ∷ 117 ∷ 115 ∷ 101 ∷ 100 ∷ 9 ∷ 49 ∷ 51 ∷ 9 ∷ 72 ∷ 117 ∷ 116 ∷ 9 ∷ 71 ∷ 97 ∷ 105 ∷ 110 ∷ 10 ∷ []
+
+-- a plot column that is the supremum of a plot and a treatment member, and strata that the treatment members use up
+abbrev fullSheet : List ℕ
+fullSheet =
+    -- t:Gain→p:Hut→t:Row
+    116 ∷ 58 ∷ 71 ∷ 97 ∷ 105 ∷ 110 ∷ 9 ∷ 112 ∷ 58 ∷ 72 ∷ 117 ∷ 116 ∷ 9 ∷ 116 ∷ 58 ∷ 82 ∷ 111 ∷ 119 ∷ 10 ∷
+    -- 1→1→1
+    49 ∷ 9 ∷ 49 ∷ 9 ∷ 49 ∷ 10 ∷
+    -- 1→2→2
+    49 ∷ 9 ∷ 50 ∷ 9 ∷ 50 ∷ 10 ∷
+    -- 2→1→2
+    50 ∷ 9 ∷ 49 ∷ 9 ∷ 50 ∷ 10 ∷
+    -- 2→2→1
+    50 ∷ 9 ∷ 50 ∷ 9 ∷ 49 ∷ 10 ∷ []
+
+abbrev fullTable : List ℕ
+fullTable =
+    -- stratum→source→df
+    115 ∷ 116 ∷ 114 ∷ 97 ∷ 116 ∷ 117 ∷ 109 ∷ 9 ∷ 115 ∷ 111 ∷ 117 ∷ 114 ∷ 99 ∷ 101 ∷ 9 ∷ 100 ∷ 102 ∷ 10 ∷
+    -- U→U→1
+    85 ∷ 9 ∷ 85 ∷ 9 ∷ 49 ∷ 10 ∷
+    -- U→=total→1
+    85 ∷ 9 ∷ 61 ∷ 116 ∷ 111 ∷ 116 ∷ 97 ∷ 108 ∷ 9 ∷ 49 ∷ 10 ∷
+    -- Hut→#3→1
+    72 ∷ 117 ∷ 116 ∷ 9 ∷ 35 ∷ 51 ∷ 9 ∷ 49 ∷ 10 ∷
+    -- Hut→=total→1
+    72 ∷ 117 ∷ 116 ∷ 9 ∷ 61 ∷ 116 ∷ 111 ∷ 116 ∷ 97 ∷ 108 ∷ 9 ∷ 49 ∷ 10 ∷
+    -- E→Gain→1
+    69 ∷ 9 ∷ 71 ∷ 97 ∷ 105 ∷ 110 ∷ 9 ∷ 49 ∷ 10 ∷
+    -- E→Row→1
+    69 ∷ 9 ∷ 82 ∷ 111 ∷ 119 ∷ 9 ∷ 49 ∷ 10 ∷
+    -- E→E→0
+    69 ∷ 9 ∷ 69 ∷ 9 ∷ 48 ∷ 10 ∷
+    -- E→=total→2
+    69 ∷ 9 ∷ 61 ∷ 116 ∷ 111 ∷ 116 ∷ 97 ∷ 108 ∷ 9 ∷ 50 ∷ 10 ∷
+    -- =all→=total→4
+    61 ∷ 97 ∷ 108 ∷ 108 ∷ 9 ∷ 61 ∷ 116 ∷ 111 ∷ 116 ∷ 97 ∷ 108 ∷ 9 ∷ 52 ∷ 10 ∷ []
+
+-- ---- the trials
+
+unfoldable pub furtherTrials : List FurtherTrial
+unfolding filled filledSigned
+furtherTrials =
+    -- plot 1,1,1,1,2,2,2,2, treatments 1,1,2,2,1,1,2,2 and 1,2,1,2,1,2,1,2: both and their infimum stand in the stratum E, whose residual is 6 − 3
+    planned (treats 8 (fours ∷ []) (twos ∷ alternate ∷ []) (1 ∷ 2 ∷ 2 ∷ 4 ∷ []) (1 ∷ 3 ∷ 3 ∷ 3 ∷ []) (pos 0 ∷ pos 1 ∷ pos 3 ∷ []))
+    -- the relation: U stands directly above both columns, these directly above E
+    ∷ related 4 square 4 (record { refusal = 0; size = 4; coarser = filled (0 ∷ 1 ∷ 1 ∷ 7 ∷ []); direct = filled (0 ∷ 1 ∷ 1 ∷ 6 ∷ []); counts = filled (0 ∷ 1 ∷ 1 ∷ 2 ∷ []) })
+    -- no plots; no members
+    ∷ related 0 square 4 (record { refusal = 6; size = 0; coarser = filled []; direct = filled []; counts = filled [] })
+    ∷ related 4 square 0 (record { refusal = 15; size = 0; coarser = filled []; direct = filled []; counts = filled [] })
+    -- degrees of freedom: 4 less 1, 1 and 1; 4 less 2, 2 and 2, where the family is not closed
+    ∷ freed 4 square 4 (record { refusal = 0; degrees = filledSigned (pos 1 ∷ pos 1 ∷ pos 1 ∷ pos 1 ∷ []) })
+    ∷ freed 4 (halves ∷ turns ∷ ends ∷ each ∷ []) 4 (record { refusal = 0; degrees = filledSigned (pos 2 ∷ pos 2 ∷ pos 2 ∷ negsuc 1 ∷ []) })
+    ∷ freed 0 square 4 (record { refusal = 6; degrees = filledSigned [] })
+    ∷ freed 4 square 0 (record { refusal = 15; degrees = filledSigned [] })
+    -- strata: beside U and E both treatment columns are in E; beside U alone a column has none
+    ∷ allotted 4 (one ∷ each ∷ []) (one ∷ halves ∷ turns ∷ []) (record { refusal = 0; places = filled (1 ∷ 2 ∷ 2 ∷ []); residuals = filledSigned (pos 0 ∷ pos 1 ∷ []) })
+    ∷ allotted 0 square square (record { refusal = 6; places = filled []; residuals = filledSigned [] })
+    ∷ allotted 4 square (halves ∷ one ∷ []) (record { refusal = 15; places = filled []; residuals = filledSigned [] })
+    ∷ allotted 4 (halves ∷ one ∷ []) square (record { refusal = 15; places = filled []; residuals = filledSigned [] })
+    ∷ allotted 4 (one ∷ []) (one ∷ halves ∷ []) (record { refusal = 16; places = filled []; residuals = filledSigned [] })
+    -- names: the infimum of both plot columns, which is the second treatment column
+    ∷ named plot twoAndTwo 8 hutAndBay gainAndRow oneAndPairs 2 (record { refusal = 0; name = infimumName })
+    ∷ named treatment twoAndTwo 8 hutAndBay gainAndRow oneAndPairs 2 (record { refusal = 0; name = rowName })
+    -- the same with a column of one class before them and one equivalent to the first after them, which are not named
+    ∷ named plot fourPlots 8 (oneOfEight ∷ fours ∷ twos ∷ (2 ∷ 2 ∷ 2 ∷ 2 ∷ 1 ∷ 1 ∷ 1 ∷ 1 ∷ []) ∷ []) [] oneAndPairs 2 (record { refusal = 0; name = infimumName })
+    -- no text; a first line that is not ended; no place 0 and no place 3; a missing level of its own kind; members out of order
+    ∷ named plot [] 8 hutAndBay gainAndRow oneAndPairs 2 (record { refusal = 2; name = [] })
+    ∷ named plot (112 ∷ 58 ∷ 72 ∷ 117 ∷ 116 ∷ []) 8 hutAndBay gainAndRow oneAndPairs 2 (record { refusal = 3; name = [] })
+    ∷ named plot twoAndTwo 8 hutAndBay gainAndRow oneAndPairs 0 (record { refusal = 6; name = [] })
+    ∷ named plot twoAndTwo 8 hutAndBay gainAndRow oneAndPairs 3 (record { refusal = 6; name = [] })
+    ∷ named plot twoAndTwo 8 (fours ∷ []) gainAndRow oneAndPairs 2 (record { refusal = 7; name = [] })
+    ∷ named treatment twoAndTwo 8 (fours ∷ []) gainAndRow oneAndPairs 2 (record { refusal = 0; name = rowName })
+    ∷ named plot twoAndTwo 8 hutAndBay gainAndRow (pairsOfEight ∷ oneOfEight ∷ []) 2 (record { refusal = 15; name = [] })
+    -- no plots; a level table, a family buffer and a name buffer that are long enough, and one number shorter each
+    ∷ named plot twoAndTwo 0 hutAndBay gainAndRow oneAndPairs 2 (record { refusal = 6; name = [] })
+    ∷ fitted 2880 7680 96 0
+    ∷ fitted 2879 7680 96 6
+    ∷ fitted 2880 7679 96 6
+    ∷ fitted 2880 7680 95 6
+    -- a level table of 2,879 numbers; no text
+    ∷ heard (112 ∷ 58 ∷ 65 ∷ 98 ∷ []) 2879 (refused 1)
+    ∷ heard [] tableCells (refused 2)
+    -- first lines that are refused: an empty one, `p:Ab` without byte 10, `p`, `p:`, `p:A`, `q:Ab`, `p;Ab`, `p:0b`, `p:A/`, `p:A:`, `p:A@`, `p:A[`, `p:A``, `p:A{`, `p:Abcdefghijklm`, `p:Ab→t:Ab`, `p:Ab→`
+    ∷ heard (10 ∷ []) tableCells (refused 3)
+    ∷ heard (112 ∷ 58 ∷ 65 ∷ 98 ∷ []) tableCells (refused 3)
+    ∷ heard (112 ∷ 10 ∷ []) tableCells (refused 3)
+    ∷ heard (112 ∷ 58 ∷ 10 ∷ []) tableCells (refused 3)
+    ∷ heard (112 ∷ 58 ∷ 65 ∷ 10 ∷ []) tableCells (refused 3)
+    ∷ heard (113 ∷ 58 ∷ 65 ∷ 98 ∷ 10 ∷ []) tableCells (refused 3)
+    ∷ heard (112 ∷ 59 ∷ 65 ∷ 98 ∷ 10 ∷ []) tableCells (refused 3)
+    ∷ heard (112 ∷ 58 ∷ 48 ∷ 98 ∷ 10 ∷ []) tableCells (refused 3)
+    ∷ heard (112 ∷ 58 ∷ 65 ∷ 47 ∷ 10 ∷ []) tableCells (refused 3)
+    ∷ heard (112 ∷ 58 ∷ 65 ∷ 58 ∷ 10 ∷ []) tableCells (refused 3)
+    ∷ heard (112 ∷ 58 ∷ 65 ∷ 64 ∷ 10 ∷ []) tableCells (refused 3)
+    ∷ heard (112 ∷ 58 ∷ 65 ∷ 91 ∷ 10 ∷ []) tableCells (refused 3)
+    ∷ heard (112 ∷ 58 ∷ 65 ∷ 96 ∷ 10 ∷ []) tableCells (refused 3)
+    ∷ heard (112 ∷ 58 ∷ 65 ∷ 123 ∷ 10 ∷ []) tableCells (refused 3)
+    ∷ heard (112 ∷ 58 ∷ 65 ∷ 98 ∷ 99 ∷ 100 ∷ 101 ∷ 102 ∷ 103 ∷ 104 ∷ 105 ∷ 106 ∷ 107 ∷ 108 ∷ 109 ∷ 10 ∷ []) tableCells (refused 3)
+    ∷ heard (112 ∷ 58 ∷ 65 ∷ 98 ∷ 9 ∷ 116 ∷ 58 ∷ 65 ∷ 98 ∷ 10 ∷ []) tableCells (refused 3)
+    ∷ heard (112 ∷ 58 ∷ 65 ∷ 98 ∷ 9 ∷ 10 ∷ []) tableCells (refused 3)
+    -- first lines that are not, on sheets without plots: `p:AZ`, `t:Zaz09`, `p:zA`, `t:Abcdefghijkl`, `p:Ab→t:Ac→p:Abc`
+    ∷ heard (112 ∷ 58 ∷ 65 ∷ 90 ∷ 10 ∷ []) tableCells (refused 5)
+    ∷ heard (116 ∷ 58 ∷ 90 ∷ 97 ∷ 122 ∷ 48 ∷ 57 ∷ 10 ∷ []) tableCells (refused 5)
+    ∷ heard (112 ∷ 58 ∷ 122 ∷ 65 ∷ 10 ∷ []) tableCells (refused 5)
+    ∷ heard (116 ∷ 58 ∷ 65 ∷ 98 ∷ 99 ∷ 100 ∷ 101 ∷ 102 ∷ 103 ∷ 104 ∷ 105 ∷ 106 ∷ 107 ∷ 108 ∷ 10 ∷ []) tableCells (refused 5)
+    ∷ heard (112 ∷ 58 ∷ 65 ∷ 98 ∷ 9 ∷ 116 ∷ 58 ∷ 65 ∷ 99 ∷ 9 ∷ 112 ∷ 58 ∷ 65 ∷ 98 ∷ 99 ∷ 10 ∷ []) tableCells (refused 5)
+    -- six columns of each kind; seven of one
+    ∷ heard (112 ∷ 58 ∷ 65 ∷ 48 ∷ 9 ∷ 112 ∷ 58 ∷ 65 ∷ 49 ∷ 9 ∷ 112 ∷ 58 ∷ 65 ∷ 50 ∷ 9 ∷ 112 ∷ 58 ∷ 65 ∷ 51 ∷ 9 ∷ 112 ∷ 58 ∷ 65 ∷ 52 ∷ 9 ∷ 112 ∷ 58 ∷ 65 ∷ 53 ∷ 9 ∷ 116 ∷ 58 ∷ 66 ∷ 48 ∷ 9 ∷ 116 ∷ 58 ∷ 66 ∷ 49 ∷ 9 ∷ 116 ∷ 58 ∷ 66 ∷ 50 ∷ 9 ∷ 116 ∷ 58 ∷ 66 ∷ 51 ∷ 9 ∷ 116 ∷ 58 ∷ 66 ∷ 52 ∷ 9 ∷ 116 ∷ 58 ∷ 66 ∷ 53 ∷ 10 ∷ []) tableCells (refused 5)
+    ∷ heard (112 ∷ 58 ∷ 65 ∷ 48 ∷ 9 ∷ 112 ∷ 58 ∷ 65 ∷ 49 ∷ 9 ∷ 112 ∷ 58 ∷ 65 ∷ 50 ∷ 9 ∷ 112 ∷ 58 ∷ 65 ∷ 51 ∷ 9 ∷ 112 ∷ 58 ∷ 65 ∷ 52 ∷ 9 ∷ 112 ∷ 58 ∷ 65 ∷ 53 ∷ 9 ∷ 112 ∷ 58 ∷ 65 ∷ 54 ∷ 10 ∷ []) tableCells (refused 3)
+    ∷ heard (116 ∷ 58 ∷ 66 ∷ 48 ∷ 9 ∷ 116 ∷ 58 ∷ 66 ∷ 49 ∷ 9 ∷ 116 ∷ 58 ∷ 66 ∷ 50 ∷ 9 ∷ 116 ∷ 58 ∷ 66 ∷ 51 ∷ 9 ∷ 116 ∷ 58 ∷ 66 ∷ 52 ∷ 9 ∷ 116 ∷ 58 ∷ 66 ∷ 53 ∷ 9 ∷ 116 ∷ 58 ∷ 66 ∷ 54 ∷ 10 ∷ []) tableCells (refused 3)
+    -- later lines that are refused: `1` without byte 10, an empty one, `0`, `01`, `1→1`, `/1`, `1:`, `65536`
+    ∷ heard (112 ∷ 58 ∷ 65 ∷ 98 ∷ 10 ∷ 49 ∷ []) tableCells (refused 4)
+    ∷ heard (112 ∷ 58 ∷ 65 ∷ 98 ∷ 10 ∷ 10 ∷ []) tableCells (refused 4)
+    ∷ heard (112 ∷ 58 ∷ 65 ∷ 98 ∷ 10 ∷ 48 ∷ 10 ∷ []) tableCells (refused 4)
+    ∷ heard (112 ∷ 58 ∷ 65 ∷ 98 ∷ 10 ∷ 48 ∷ 49 ∷ 10 ∷ []) tableCells (refused 4)
+    ∷ heard (112 ∷ 58 ∷ 65 ∷ 98 ∷ 10 ∷ 49 ∷ 9 ∷ 49 ∷ 10 ∷ []) tableCells (refused 4)
+    ∷ heard (112 ∷ 58 ∷ 65 ∷ 98 ∷ 10 ∷ 47 ∷ 49 ∷ 10 ∷ []) tableCells (refused 4)
+    ∷ heard (112 ∷ 58 ∷ 65 ∷ 98 ∷ 10 ∷ 49 ∷ 58 ∷ 10 ∷ []) tableCells (refused 4)
+    ∷ heard (112 ∷ 58 ∷ 65 ∷ 98 ∷ 10 ∷ 54 ∷ 53 ∷ 53 ∷ 51 ∷ 54 ∷ 10 ∷ []) tableCells (refused 4)
+    -- later lines that are not: `1`, `10`, `9`, `65535`
+    ∷ heard (112 ∷ 58 ∷ 65 ∷ 98 ∷ 10 ∷ 49 ∷ 10 ∷ 49 ∷ 48 ∷ 10 ∷ 57 ∷ 10 ∷ 54 ∷ 53 ∷ 53 ∷ 51 ∷ 53 ∷ 10 ∷ []) tableCells (read 4 1 0)
+    -- two treatment columns, one plot column
+    ∷ heard (116 ∷ 58 ∷ 65 ∷ 98 ∷ 9 ∷ 112 ∷ 58 ∷ 65 ∷ 99 ∷ 9 ∷ 116 ∷ 58 ∷ 65 ∷ 100 ∷ 10 ∷ 49 ∷ 9 ∷ 49 ∷ 9 ∷ 49 ∷ 10 ∷ []) tableCells (read 1 1 2)
+    -- sheets that are refused, with the names of the places
+    ∷ printed (112 ∷ []) (114 ∷ 101 ∷ 102 ∷ 117 ∷ 115 ∷ 101 ∷ 100 ∷ 9 ∷ 51 ∷ 9 ∷ 45 ∷ 9 ∷ 45 ∷ 10 ∷ [])
+    ∷ printed unevenSheet unevenTable
+    ∷ printed crossedSheet crossedTable
+    ∷ printed treatedSheet treatedTable
+    ∷ printed mixedSheet mixedTable
+    -- a sheet that is accepted
+    ∷ printed fullSheet fullTable
+    -- signed numbers: `0`, `-2`, `-10`
+    ∷ shown (pos 0) (48 ∷ [])
+    ∷ shown (negsuc 1) (45 ∷ 50 ∷ [])
+    ∷ shown (negsuc 9) (45 ∷ 49 ∷ 48 ∷ [])
+    ∷ []
+
+-- ---- what the rules give them
+
+-- a family buffer of this length with the members in it, and a level table with the plot and treatment columns
+inBuffer : ℕ → Family → List ℕ
+unfolding written
+inBuffer bytes S = written (replicate bytes 0) 0 S
+
+inTable : ℕ → List Column → List Column → List ℕ
+unfolding written
+inTable cells Fs Ts = written (written (replicate cells 0) 0 Fs) mostColumns Ts
+
+unfoldable pub seen : FurtherTrial → FurtherTrial
+unfolding observed inBuffer inTable relation degreesOfFreedom strata naming reading tableText signed
+seen (planned t) = planned (observed t)
+seen (related n S m a) = related n S m (relation n (inBuffer familyBytes S) m)
+seen (freed n S m a) = freed n S m (degreesOfFreedom n (inBuffer familyBytes S) m)
+seen (allotted n P R a) = allotted n P R (strata n (inBuffer familyBytes P) (length P) (inBuffer familyBytes R) (length R))
+seen (named kind text n Fs Ts S i a) = named kind text n Fs Ts S i (naming kind text (inTable tableCells Fs Ts) (inBuffer familyBytes S) n (length S) i nameBytes)
+seen (fitted cells bytes room q) = fitted cells bytes room (naming plot twoAndTwo (inTable cells hutAndBay gainAndRow) (inBuffer bytes oneAndPairs) 8 2 2 room .refusal)
+seen (shown z w) = shown z (signed z)
+seen (heard text cells o) = heard text cells (reading text (replicate cells 0))
+seen (printed text out) = printed text (tableText text)
+
+-- each trial has the outcome stated
+pub further-trials-hold : map seen furtherTrials ≡ furtherTrials
+unfolding seen furtherTrials
+further-trials-hold = refl

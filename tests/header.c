@@ -1,0 +1,165 @@
+/* The header against the library: memory of the stated length is enough and one less is refused, each refusal has the number that its
+ * name stands for, and threads with small stacks may call at once. Called from the root of the repository. */
+#include "../include/rachdoum.h"
+
+#include <pthread.h>
+#include <stdio.h>
+#include <string.h>
+
+static const char sheet[] = "p:Hut\tt:Gain\n1\t1\n1\t2\n2\t1\n2\t2\n";
+enum { SHEET = sizeof sheet - 1, PLOTS = 4 };
+
+/* One more than is ever asked for. */
+static uint8_t text[RACHDOUM_TEXT + 1];
+static rachdoum_level levels[RACHDOUM_LEVELS];
+static uint8_t plot_family[RACHDOUM_FAMILY], treatment_family[RACHDOUM_FAMILY];
+static uint8_t name[RACHDOUM_NAME], table[RACHDOUM_TABLE];
+static uint64_t read_counts[3], made[4], length[1];
+static int64_t degrees[RACHDOUM_MEMBERS], strata[2 * RACHDOUM_MEMBERS];
+static uint32_t relation[1 + 3 * RACHDOUM_MEMBERS];
+static int bad;
+
+static void answers(const char *what, uint32_t found, enum rachdoum_refusal wanted) {
+  if (found != (uint32_t)wanted) {
+    printf("header: %s: %u, not %u\n", what, (unsigned)found, (unsigned)wanted);
+    bad = 1;
+  }
+}
+
+static uint32_t read_text(size_t text_len, size_t levels_len) {
+  return rachdoum_read_sheet(text, text_len, levels, levels_len, read_counts);
+}
+
+static uint32_t full(size_t levels_len, size_t plots, size_t columns, size_t k, size_t family_len) {
+  return rachdoum_full_design(levels, levels_len, plots, columns, read_counts[2], k, plot_family, family_len, treatment_family,
+                              RACHDOUM_FAMILY, made);
+}
+
+static uint32_t plot(size_t plots, size_t columns) {
+  return rachdoum_plot_design(levels, RACHDOUM_LEVELS, plots, columns, plot_family, RACHDOUM_FAMILY, made);
+}
+
+static uint32_t name_at(size_t place, size_t name_len) {
+  return rachdoum_name(text, SHEET, levels, RACHDOUM_LEVELS, plot_family, RACHDOUM_FAMILY, PLOTS, made[2], 0, place, name, name_len,
+                       length);
+}
+
+static void lengths(void) {
+  memcpy(text, sheet, SHEET);
+  answers("a level table", read_text(SHEET, RACHDOUM_LEVELS), RACHDOUM_ACCEPTED);
+  answers("a level table, one less", read_text(SHEET, RACHDOUM_LEVELS - 1), RACHDOUM_REFUSED_LEVEL_TABLE);
+  answers("no text", read_text(0, RACHDOUM_LEVELS), RACHDOUM_REFUSED_LENGTH_OF_TEXT);
+  answers("the longest text", read_text(RACHDOUM_TEXT, RACHDOUM_LEVELS), RACHDOUM_REFUSED_FORM_OF_LINE);
+  answers("a longer text", read_text(RACHDOUM_TEXT + 1, RACHDOUM_LEVELS), RACHDOUM_REFUSED_LENGTH_OF_TEXT);
+  read_text(SHEET, RACHDOUM_LEVELS);
+  answers("levels, one less", full(RACHDOUM_LEVELS - 1, PLOTS, 1, 1, RACHDOUM_FAMILY), RACHDOUM_REFUSED_CALL);
+  answers("a family, one less", full(RACHDOUM_LEVELS, PLOTS, 1, 1, RACHDOUM_FAMILY - 1), RACHDOUM_REFUSED_CALL);
+  answers("k too high", full(RACHDOUM_LEVELS, PLOTS, 1, RACHDOUM_INTERACTION + 1, RACHDOUM_FAMILY), RACHDOUM_REFUSED_CALL);
+  answers("too many plots", full(RACHDOUM_LEVELS, RACHDOUM_PLOTS + 1, 1, 1, RACHDOUM_FAMILY), RACHDOUM_REFUSED_CALL);
+  answers("too many columns", plot(PLOTS, RACHDOUM_COLUMNS + 1), RACHDOUM_REFUSED_CALL);
+  answers("a column without levels", plot(PLOTS, RACHDOUM_COLUMNS), RACHDOUM_REFUSED_LEVEL_ZERO);
+  answers("the highest k", full(RACHDOUM_LEVELS, PLOTS, 1, RACHDOUM_INTERACTION, RACHDOUM_FAMILY), RACHDOUM_ACCEPTED);
+  answers("a name", name_at(1, RACHDOUM_NAME), RACHDOUM_ACCEPTED);
+  answers("a name, one less", name_at(1, RACHDOUM_NAME - 1), RACHDOUM_REFUSED_CALL);
+  answers("a place too far", name_at(made[2] + 1, RACHDOUM_NAME), RACHDOUM_REFUSED_CALL);
+  answers("a table", rachdoum_skeleton(text, SHEET, table, RACHDOUM_TABLE, length), RACHDOUM_ACCEPTED);
+  answers("a table, one less", rachdoum_skeleton(text, SHEET, table, RACHDOUM_TABLE - 1, length), RACHDOUM_REFUSED_CALL);
+  /* The exception: a refused sheet, here an empty one. */
+  answers("the table of no text", rachdoum_skeleton(text, 0, table, RACHDOUM_TABLE, length), RACHDOUM_ACCEPTED);
+  answers("its line", memcmp(table, "refused\t2\t", 10) != 0, RACHDOUM_ACCEPTED);
+}
+
+/* A column for each bit of the plot's number: 2, 4, .. members. */
+static void crossed(size_t columns) {
+  size_t c, u;
+  for (c = 0; c < columns; c++)
+    for (u = 0; u < RACHDOUM_PLOTS; u++)
+      levels[RACHDOUM_PLOTS * c + u] = (rachdoum_level)(1 + ((u >> c) & 1));
+}
+
+static void families(void) {
+  crossed(RACHDOUM_COLUMNS);
+  answers("the largest family", plot(32, 5), RACHDOUM_ACCEPTED);
+  answers("its size", made[2] != RACHDOUM_MEMBERS, RACHDOUM_ACCEPTED);
+  answers("its degrees", rachdoum_degrees(plot_family, RACHDOUM_FAMILY, 32, RACHDOUM_MEMBERS, degrees), RACHDOUM_ACCEPTED);
+  answers("its relation", rachdoum_relation(plot_family, RACHDOUM_FAMILY, 32, RACHDOUM_MEMBERS, relation), RACHDOUM_ACCEPTED);
+  answers("one member more", rachdoum_degrees(plot_family, RACHDOUM_FAMILY, 32, RACHDOUM_MEMBERS + 1, degrees),
+          RACHDOUM_REFUSED_FORM_OF_FAMILY);
+  /* Its first member, U, as the whole plot family: no treatment but U has a stratum. */
+  answers("no stratum",
+          rachdoum_strata(plot_family, RACHDOUM_FAMILY, 1, plot_family, RACHDOUM_FAMILY, RACHDOUM_MEMBERS, 32, strata),
+          RACHDOUM_REFUSED_NO_STRATUM);
+}
+
+static uint32_t refusal_of(const char *path) {
+  FILE *file = fopen(path, "rb");
+  size_t text_len = file != NULL ? fread(text, 1, sizeof text, file) : 0;
+  uint32_t refusal = read_text(text_len, RACHDOUM_LEVELS);
+  if (file != NULL)
+    fclose(file);
+  return refusal != 0 ? refusal : full(RACHDOUM_LEVELS, read_counts[0], read_counts[1], RACHDOUM_INTERACTION, RACHDOUM_FAMILY);
+}
+
+static void names(void) {
+  answers("3", refusal_of("examples/refused-03.sheet"), RACHDOUM_REFUSED_FORM_OF_FIRST_LINE);
+  answers("4", refusal_of("examples/refused-04.sheet"), RACHDOUM_REFUSED_FORM_OF_LINE);
+  answers("5", refusal_of("examples/refused-05.sheet"), RACHDOUM_REFUSED_NUMBER_OF_PLOTS);
+  answers("8", refusal_of("examples/refused-08.sheet"), RACHDOUM_REFUSED_TOO_MANY_PLOT_MEMBERS);
+  answers("9", refusal_of("examples/refused-09.sheet"), RACHDOUM_REFUSED_CLASS_SIZES);
+  answers("10", refusal_of("examples/refused-10.sheet"), RACHDOUM_REFUSED_PLOTS_NOT_ORTHOGONAL);
+  answers("11", refusal_of("examples/refused-11.sheet"), RACHDOUM_REFUSED_TOO_MANY_TREATMENT_MEMBERS);
+  answers("12", refusal_of("examples/refused-12.sheet"), RACHDOUM_REFUSED_TREATMENTS_NOT_ORTHOGONAL);
+  answers("13", refusal_of("examples/refused-13.sheet"), RACHDOUM_REFUSED_PLOT_AND_TREATMENT_NOT_ORTHOGONAL);
+  answers("14", refusal_of("examples/refused-14.sheet"), RACHDOUM_REFUSED_TOO_MANY_FINAL_MEMBERS);
+}
+
+enum { THREADS = 8, STACK = 128 * 1024 };
+
+struct caller {
+  pthread_t thread;
+  const char *path;
+  uint8_t text[RACHDOUM_TEXT], first[RACHDOUM_TABLE], table[RACHDOUM_TABLE];
+  size_t text_len;
+  int differs;
+};
+
+static void *call(void *given) {
+  struct caller *own = given;
+  uint64_t first_length, again;
+  int i;
+  rachdoum_skeleton(own->text, own->text_len, own->first, RACHDOUM_TABLE, &first_length);
+  for (i = 0; i < 500; i++) {
+    rachdoum_skeleton(own->text, own->text_len, own->table, RACHDOUM_TABLE, &again);
+    own->differs |= again != first_length || memcmp(own->first, own->table, again) != 0;
+  }
+  return NULL;
+}
+
+static void threads(void) {
+  static struct caller callers[THREADS];
+  static const char *const paths[] = {"examples/example-4-extension.sheet", "examples/refused-14.sheet", "examples/huts.sheet"};
+  pthread_attr_t small;
+  int i;
+  pthread_attr_init(&small);
+  pthread_attr_setstacksize(&small, STACK);
+  for (i = 0; i < THREADS; i++) {
+    FILE *file = fopen(paths[i % 3], "rb");
+    if (file != NULL) {
+      callers[i].text_len = fread(callers[i].text, 1, RACHDOUM_TEXT, file);
+      fclose(file);
+    }
+    answers("a thread begins", pthread_create(&callers[i].thread, &small, call, &callers[i]) != 0, RACHDOUM_ACCEPTED);
+  }
+  for (i = 0; i < THREADS; i++) {
+    pthread_join(callers[i].thread, NULL);
+    answers("a thread's tables", callers[i].differs != 0, RACHDOUM_ACCEPTED);
+  }
+}
+
+int main(void) {
+  lengths();
+  families();
+  names();
+  threads();
+  return bad;
+}

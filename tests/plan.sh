@@ -1,0 +1,48 @@
+#!/usr/bin/env bash
+# `./plan` as a user meets it: README shows the example's sheet and what is printed for it; the tables of all examples and the exit statuses.
+set -u
+cd "$(dirname "$0")/.." || exit 1
+work=$(mktemp -d) || exit 1
+trap 'rm -rf "$work"' EXIT
+bad=0
+
+# complain WHAT
+complain() {
+  echo "plan: $1"
+  bad=1
+}
+
+# The code blocks of README, one file each.
+awk -v work="$work" '/^```/ { inside = !inside; number += inside; next } inside { print >(work "/block-" number) }' README.md
+
+# shown FILE NAME: README has a block with this text
+shown() {
+  local block
+  for block in "$work"/block-*; do
+    ! cmp -s "$block" "$1" || return 0
+  done
+  complain "README does not show $2"
+}
+
+./plan >"$work/table" 2>"$work/err" || { cat "$work/err"; complain 'it fails without a file'; }
+shown examples/huts.sheet 'the sheet'
+shown "$work/table" 'what ./plan prints'
+shown examples/huts.table 'what skeleton prints'
+
+count=0
+for sheet in examples/*.sheet; do
+  count=$((count + 1))
+  table=${sheet%.sheet}.table
+  ./plan --tsv "$sheet" >"$work/out" 2>"$work/err"
+  status=$?
+  if grep -q '^refused' "$table"; then
+    [[ $status -eq 1 && -s $work/err ]] || complain "$sheet: status $status, or no message"
+  else
+    [[ $status -eq 0 ]] && cmp -s "$work/out" "$table" || complain "$sheet: status $status, or not its table"
+  fi
+done
+./plan "$work/missing" >"$work/out" 2>"$work/err"
+[[ $? -eq 2 && ! -s $work/out && -s $work/err ]] || complain 'a missing file'
+
+[[ $bad -eq 0 && $count -gt 0 ]] && echo "plan: README's screen and $count sheets as expected"
+exit $bad
