@@ -4,20 +4,21 @@ use mathlib.Core.Path.{_≡_, refl, sym, ap, ap₂, _∙_, subst}
 use mathlib.Core.Logic.{_↔_, _⊎_, inl, inr}
 use mathlib.Core.Bool.{Bool, true, false, _&&_}
 use mathlib.Core.List.{List, [], _∷_, _++_, List·Memᴰ·head, List·Memᴰ·tail, List·Memᴰ·cases-cons, List·Memᴰ·not-nil}
-use Prim.Native.Nat.{ℕ, zero, suc, _+_, _*_, _≤_, _<_, zero-le}
+use Prim.Native.Nat.{ℕ, zero, suc, _+_, _*_, _≤_, _<_, zero-le, suc-le-suc}
 use native.Mathlib.Nat.{le-trans, suc-ne-zero, not-suc-le-zero, le-of-suc-le-suc, le-refl}
 use native.Mathlib.Omega.{arith}
 use lib.Dec.{eqb, ltb, leb, lit≤}
 use lib.ListN.{length, getD, take, drop, length-drop}
 use lib.Seq.{length-take-le, getD-take, getD-drop}
-use borrow.Author.Tests.{ltb-true, leb-true, lt-ltb, le-leb, lt-leb, eqb-true, eqb-false, ltb-false, eq-eqb, ne-eqb}
-use Rattle.rules.specs.Factor.{Column, uniform, Orthogonal, orthogonal}
+use borrow.Author.Tests.{ltb-true, leb-true, lt-ltb, le-leb, lt-leb, leb-false, eqb-true, eqb-false, ltb-false, eq-eqb, ne-eqb}
+use Rattle.rules.specs.Factor.{Column, equality, uniform, Orthogonal, orthogonal}
 use Rattle.rules.specs.Family.{Family, _∈_, AtMost, Lists, columnsFrom, membersOf}
-use Rattle.rules.specs.Closing.{Closing, tooMany, family, plotFamily, firstTreatmentFamily, finalTreatmentFamily, InPlotFamily, InFirstTreatmentFamily, SupremumOfEach}
-use Rattle.rules.specs.Design.{Answer, Places, firstFailing, pairAt, firstPair, firstCross, nonzero, allNonzero, plotsWithin, withinLimits, fullWithinLimits, plotDesign, fullDesign, plotSize, treatmentSize, plotBuffer, treatmentBuffer}
+use Rattle.rules.specs.Closing.{Closing, tooMany, family, plotFamily, firstTreatmentFamily, finalTreatmentFamily, InPlotFamily, InFirstTreatmentFamily, SupremumOfEach, by-equality}
+use Rattle.rules.specs.Design.{Answer, Places, firstFailing, pairAt, firstPair, firstCross, nonzero, allNonzero, plotsWithin, withinLimits, fullWithinLimits, plotDesign, fullDesign, plotBuffer, treatmentBuffer}
+use Rattle.rules.specs.Strata.{allHaveStratum}
 use Rattle.rules.specs.Places.{atPlace, FirstPlace, FirstPlaces, FirstCross}
 use Rattle.rules.specs.Asking.{Verdict, Asked, firstNo, atPlaces, fewEnough, membersIn, asks6, asks7, asks8, asks9, asks10, asks11, asks12, asks13, asks14, plotColumns, treatmentColumns, plotMembers, firstMembers, fullQuestions, verdictOf, writtenFrom, fullAnswer}
-use Rattle.rules.specs.Demand2.{readBack, Condition, condition, FirstBroken, AllHold, Within, PlotLimits, NoneMissing, condition6, condition7, condition8, condition9, condition10, condition11, condition12, condition13, condition14, fullConditions, plotConditions, FirstUneven, FirstApart, FirstApartAcross, WithPlaces, Carries, Demand2}
+use Rattle.rules.specs.Demand2.{readBack, Condition, condition, FirstBroken, AllHold, Within, PlotLimits, NoneMissing, condition6, condition7, condition8, condition9, condition10, condition11, condition12, condition13, condition14, fullConditions, plotConditions, FirstUneven, FirstApart, FirstApartAcross, Carries, Demand2}
 use Rattle.rules.proofs.Numbering.{by-cases}
 use Rattle.rules.proofs.Members.{clash}
 use Rattle.rules.proofs.Tests.{uniform-test, orthogonal-test, orthogonal-sym, orthogonal-self}
@@ -25,10 +26,12 @@ use Rattle.rules.proofs.Closing.{pigeonhole, ascending-distinct}
 use Rattle.rules.proofs.Families.{plot-family-lists, plot-too-many, first-family-lists, first-too-many, final-ascending, final-only, final-all}
 use Rattle.rules.proofs.Verdict.{failing-none, failing-pass, pairs-none, pairs-pass, pairwise-cases}
 use Rattle.rules.proofs.First.{failing-first, pair-first, cross-first}
-use Rattle.rules.proofs.Demand3.{column-length, nonzero-all}
-use Rattle.rules.proofs.Made.{WellMade, plot-made, first-made, full-tells, plot-back, treatment-back}
+use Rattle.rules.proofs.Demand3.{Fits, column-length, nonzero-all}
+use Rattle.rules.proofs.WellMade.{WellMade, plot-made, first-made, final-made}
+use Rattle.rules.proofs.Treatments.{plot-family-strata}
+use Rattle.rules.proofs.Buffer.{written-members}
 use Rattle.rules.proofs.Sheet.{and-left, and-right}
-use Rattle.rules.proofs.FirstNo.{plain-pass, places-pass, places-fail, Settles, none-left, and-then, all-settled, NumberedFrom1, broken-none, replyTo, Without, Apart, verdict-places, plain-places, PlainOr, other-places}
+use Rattle.rules.proofs.FirstNo.{EachMost, number-most, plain-pass, places-pass, places-fail, Settles, none-left, and-then, all-settled, NumberedFrom1, broken-none, replyTo, without, apart, verdict-places, plain-places, PlainOr, other-places}
 use Rattle.rules.proofs.DesignAsks.{six-no, plot-design-asks, full-design-asks}
 
 -- ---- 6
@@ -367,7 +370,7 @@ module _ (n : ℕ) where
 
 -- a list of questions in which 9, 10, 12 and 13 are asked of P and S, and the others carry no places
 record Asks (n : ℕ) (P S : Family) (qs : List Asked) : Type 0 where
-  apart : Apart qs
+  different : apart qs ≡ true
   plain-or : PlainOr qs
   has-9 : replyTo 9 qs ≡ atPlaces (firstFailing (uniform n) 1 P) 0
   has-10 : replyTo 10 qs ≡ atPlaces (firstPair (orthogonal n) 1 P .first) (firstPair (orthogonal n) 1 P .second)
@@ -387,7 +390,7 @@ asks-carries n P S qs h = record {
     p = firstNo qs .places
 
     at : (q : ℕ) → (0 ≡ q → ⊥) → firstNo qs .refusal ≡ q → {i j : ℕ} → replyTo q qs ≡ atPlaces i j → (p ≡ record { first = i; second = j }) × (1 ≤ i)
-    at q z e {i} {j} r = places-fail i j p (sym r ∙ verdict-places qs (h .apart) q z e)
+    at q z e {i} {j} r = places-fail i j p (sym r ∙ verdict-places qs (h .different) q z e)
 
     nine : (p ≡ record { first = firstFailing (uniform n) 1 P; second = 0 }) × (1 ≤ firstFailing (uniform n) 1 P) → FirstUneven n P (p .first) × (p .second ≡ 0)
     nine w = (subst (λ (r : Places). FirstUneven n P (r .first)) (sym (w .0)) (first-uneven n P _ (failing-first (uniform n) P (w .1))), ap (λ (r : Places). r .second) (w .0))
@@ -523,9 +526,9 @@ module _ (n c d k : ℕ) (levels plots treatments : List ℕ) where
 
   -- the places, counted in the families of the questions
   verdict-carries : Carries n (plotMembers n Fs) (firstMembers n k Ts) verdict
-  unfolding Apart Without PlainOr replyTo
+  unfolding apart without PlainOr replyTo
   verdict-carries = asks-carries n (plotMembers n Fs) (firstMembers n k Ts) (fullQuestions within n k Fs Ts) record {
-    apart = ((λ z. omega arith, (λ z. omega arith, (λ z. omega arith, (λ z. omega arith, (λ z. omega arith, (λ z. omega arith, (λ z. omega arith, (λ z. omega arith, tt)))))))), ((λ z. omega arith, (λ z. omega arith, (λ z. omega arith, (λ z. omega arith, (λ z. omega arith, (λ z. omega arith, (λ z. omega arith, tt))))))), ((λ z. omega arith, (λ z. omega arith, (λ z. omega arith, (λ z. omega arith, (λ z. omega arith, (λ z. omega arith, tt)))))), ((λ z. omega arith, (λ z. omega arith, (λ z. omega arith, (λ z. omega arith, (λ z. omega arith, tt))))), ((λ z. omega arith, (λ z. omega arith, (λ z. omega arith, (λ z. omega arith, tt)))), ((λ z. omega arith, (λ z. omega arith, (λ z. omega arith, tt))), ((λ z. omega arith, (λ z. omega arith, tt)), ((λ z. omega arith, tt), (tt, tt)))))))));
+    different = refl;
     plain-or = (inl (plain-places within), (inl (plain-places (allNonzero (Fs ++ Ts))), (inl (plain-places (fewEnough (plotFamily n Fs))), (inr (inl refl), (inr (inr (inl refl)), (inl (plain-places (fewEnough (firstTreatmentFamily n k Ts))), (inr (inr (inr (inl refl))), (inr (inr (inr (inr refl))), (inl (plain-places (leb (length (finalTreatmentFamily (plotMembers n Fs) (firstMembers n k Ts))) 32)), tt)))))))));
     has-9 = refl;
     has-10 = refl;
@@ -562,8 +565,91 @@ module _ (n c d k : ℕ) (levels plots treatments : List ℕ) where
     no-treatment-family = λ l h. none-after _ (firstMembers n k Ts) (verdict .refusal) l h;
   }
 
+  -- ---- the families written are well made
+
+  plot-made-in : (verdict .refusal ≡ 0) ⊎ (9 ≤ verdict .refusal) → WellMade n (answer .plot)
+  plot-made-in h =
+      let r = reached-8 h in
+      subst (WellMade n) (sym (is-written 9 (verdict .refusal) (plotMembers n Fs) h)) (mP n k Fs Ts (onF (r .limits)) (onT (r .limits)) (r .few8))
+
+  treatment-made-in : (verdict .refusal ≡ 0) ⊎ (12 ≤ verdict .refusal) → WellMade n (answer .treatment)
+  treatment-made-in h = go h
+    where
+      made-P : WellMade n (plotMembers n Fs)
+      made-P = let r = reached-8 (from-9 h) in mP n k Fs Ts (onF (r .limits)) (onT (r .limits)) (r .few8)
+
+      made-S : WellMade n (firstMembers n k Ts)
+      made-S = let r = reached-8 (from-9 h) in mS n k Fs Ts (onF (r .limits)) (onT (r .limits)) (r .few8) (S-few h)
+
+      go : (verdict .refusal ≡ 0) ⊎ (12 ≤ verdict .refusal) → WellMade n (answer .treatment)
+      go (inl e) = subst (λ (q : ℕ). WellMade n (treatmentAfter q (finalTreatmentFamily (plotMembers n Fs) (firstMembers n k Ts)) (firstMembers n k Ts))) (sym e)
+          (final-made n (plotMembers n Fs) (firstMembers n k Ts) made-P made-S (R-lists e .few))
+      go (inr l) = subst (WellMade n) (sym (first-after _ (firstMembers n k Ts) (verdict .refusal) l)) made-S
+
+  -- written or not, they are on the plots and at most 32
+  written-or-not : {q m : ℕ} → 1 ≤ m → ((q ≡ 0) ⊎ (m ≤ q)) ⊎ ((1 ≤ q) × (q < m))
+  written-or-not {q} {m} s =
+      by-cases (eqb q 0)
+      (λ e. inl (inl (eqb-true q 0 e)))
+      (λ e. by-cases (leb m q) (λ f. inl (inr (leb-true m q f))) (λ f. inr (positive q (eqb-false q 0 e), leb-false m q f)))
+    where
+      positive : (q : ℕ) → (q ≡ 0 → ⊥) → 1 ≤ q
+      positive zero h = absurd (h refl)
+      positive (suc q) h = suc-le-suc zero-le
+
+  fits-if : {m : ℕ} {F : Family} → 1 ≤ m → ((verdict .refusal ≡ 0) ⊎ (m ≤ verdict .refusal) → WellMade n F) → (1 ≤ verdict .refusal → verdict .refusal < m → F ≡ []) → Fits n F
+  fits-if {m} {F} s made none = go (written-or-not s)
+    where
+      go : ((verdict .refusal ≡ 0) ⊎ (m ≤ verdict .refusal)) ⊎ ((1 ≤ verdict .refusal) × (verdict .refusal < m)) → Fits n F
+      go (inl h) = record { few = made h .few; each = made h .on }
+      go (inr h) = subst (Fits n) (sym (none (h .0) (h .1))) (record { few = zero-le; each = λ G m. absurd (List·Memᴰ·not-nil m) })
+
+  plot-fits : Fits n (answer .plot)
+  plot-fits = fits-if {m = 9} (lit≤ tt) plot-made-in (λ l h. not-written 9 (verdict .refusal) (plotMembers n Fs) l h)
+
+  treatment-fits : Fits n (answer .treatment)
+  treatment-fits = fits-if {m = 12} (lit≤ tt) treatment-made-in (λ l h. none-after _ (firstMembers n k Ts) (verdict .refusal) l (omega arith))
+
+  -- every number of the list is at most 14
+  most-14 : verdict .refusal ≤ 14
+  unfolding EachMost
+  most-14 = number-most 14 (fullConditions n c d k levels plots treatments) (lit≤ tt, (lit≤ tt, (lit≤ tt, (lit≤ tt, (lit≤ tt, (lit≤ tt, (lit≤ tt, (lit≤ tt, (lit≤ tt, tt))))))))) (verdict .refusal) verdict-broken
+
   abbrev full : Answer
   full = fullDesign n c d k levels (length plots) (length treatments)
+
+  full-is : full ≡ answer
+  full-is = full-design-asks n c d k levels (length plots) (length treatments)
+
+  -- what the full design answers and writes
+  pub full-demanded : Demand2 n c d k levels plots treatments (fullDesign n c d k levels (length plots) (length treatments))
+  full-demanded = subst (Demand2 n c d k levels plots treatments) (sym full-is) answer-demanded
+
+  pub record FullFamilies (a : Answer) : Type 0 where
+    pub plot-made : (a .refusal ≡ 0) ⊎ (9 ≤ a .refusal) → WellMade n (a .plot)
+    pub treatment-made : (a .refusal ≡ 0) ⊎ (12 ≤ a .refusal) → WellMade n (a .treatment)
+    pub plot-fits : Fits n (a .plot)
+    pub treatment-fits : Fits n (a .treatment)
+    pub has-equality : a .refusal ≡ 0 → equality n ∈ a .plot
+    pub strata : a .refusal ≡ 0 → allHaveStratum n (a .plot) (a .treatment) ≡ true
+    pub most : a .refusal ≤ 14
+
+  pub full-families : FullFamilies (fullDesign n c d k levels (length plots) (length treatments))
+  full-families = subst FullFamilies (sym full-is) record {
+    plot-made = plot-made-in;
+    treatment-made = treatment-made-in;
+    plot-fits = plot-fits;
+    treatment-fits = treatment-fits;
+    has-equality = λ e. answer-demanded .plot-family (inl e) .all (equality n) by-equality;
+    strata = λ e. has-strata e;
+    most = most-14;
+  }
+    where
+      has-strata : verdict .refusal ≡ 0 → allHaveStratum n (answer .plot) (answer .treatment) ≡ true
+      has-strata e =
+          let r = reached-8 (inl e) in
+          subst (λ (A : Family). allHaveStratum n A (answer .treatment) ≡ true) (sym (is-written 9 (verdict .refusal) (plotMembers n Fs) (inl e)))
+          (plot-family-strata n Fs (onF (r .limits)) (plotMembers n Fs) (plot-is n k Fs Ts (onF (r .limits)) (onT (r .limits)) (r .few8)) (answer .treatment))
 
   -- the families written are the families read back
   pub read-back : readBack n (plotBuffer plots (fullDesign n c d k levels (length plots) (length treatments))) (treatmentBuffer treatments (fullDesign n c d k levels (length plots) (length treatments))) (fullDesign n c d k levels (length plots) (length treatments))
@@ -572,14 +658,14 @@ module _ (n c d k : ℕ) (levels plots treatments : List ℕ) where
   read-back = by-cases within (λ e. inside (within-to n c d k levels plots treatments e)) (λ e. subst (λ (a : Answer). readBack n (plotBuffer plots a) (treatmentBuffer treatments a) a ≡ a) (sym (six-no n c d k levels (length plots) (length treatments) e)) refl)
     where
       inside : Within n c d k levels plots treatments → readBack n (plotBuffer plots full) (treatmentBuffer treatments full) full ≡ full
-      inside l = ap₂ (λ (A B : Family). record { refusal = full .refusal; places = full .places; plot = A; treatment = B })
-          (plot-back n (l .plots-most) full (full-tells n c d k levels (length plots) (length treatments)) plots (l .plot-family))
-          (treatment-back n (l .plots-most) full (full-tells n c d k levels (length plots) (length treatments)) treatments (l .treatment-family))
+      inside l = let f = full-families in ap₂ (λ (A B : Family). record { refusal = full .refusal; places = full .places; plot = A; treatment = B })
+          (written-members n (l .plots-most) (full .plot) plots 0 (f .plot-fits .each) (omega (arith, f .plot-fits .few, l .plot-family)))
+          (written-members n (l .plots-most) (full .treatment) treatments 0 (f .treatment-fits .each) (omega (arith, f .treatment-fits .few, l .treatment-family)))
 
   -- demand 2, of the numbers answered and the families left in the buffers
   pub demand-2 : Demand2 n c d k levels plots treatments
       (readBack n (plotBuffer plots (fullDesign n c d k levels (length plots) (length treatments))) (treatmentBuffer treatments (fullDesign n c d k levels (length plots) (length treatments))) (fullDesign n c d k levels (length plots) (length treatments)))
-  demand-2 = subst (Demand2 n c d k levels plots treatments) (sym (read-back ∙ full-design-asks n c d k levels (length plots) (length treatments))) answer-demanded
+  demand-2 = subst (Demand2 n c d k levels plots treatments) (sym read-back) full-demanded
 
 -- ---- the plot design
 

@@ -22,9 +22,6 @@ plain-fail b e = ap withoutPlaces e
 carries-fail : (p : Places) (i : ℕ) → p .first ≡ suc i → atBoth p ≡ fail p
 carries-fail p i e = ap (λ (x : ℕ). atPlaces x (p .second)) e ∙ ap (λ (x : ℕ). fail (record { first = x; second = p .second })) (sym e)
 
-place-fail : (x i : ℕ) → x ≡ suc i → atPlaces x 0 ≡ fail (record { first = suc i; second = 0 })
-place-fail x i e = ap (λ (y : ℕ). atPlaces y 0) e
-
 -- ---- the full design
 
 -- each step of the chain of questions, by what it looks at

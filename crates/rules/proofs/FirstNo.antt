@@ -2,15 +2,16 @@
 -- Assumes nothing.
 use mathlib.Core.Path.{_≡_, refl, sym, ap, _∙_, subst}
 use mathlib.Core.Logic.{_↔_, _⊎_, inl, inr}
-use mathlib.Core.Bool.{Bool, true, false}
-use mathlib.Core.List.{List, [], _∷_, _++_}
+use mathlib.Core.Bool.{Bool, true, false, not, _&&_}
+use mathlib.Core.List.{List, [], _∷_}
 use Prim.Native.Nat.{ℕ, zero, suc, _≤_}
 use native.Mathlib.Omega.{arith}
 use lib.Dec.{eqb}
-use borrow.Author.Tests.{eq-eqb, ne-eqb}
+use borrow.Author.Tests.{eq-eqb, ne-eqb, eqb-false, not-true}
 use Rattle.rules.specs.Design.{Places, none}
 use Rattle.rules.specs.Asking.{Verdict, nothingRefused, Reply, pass, fail, Asked, firstNo, withoutPlaces, atPlaces}
 use Rattle.rules.specs.Demand2.{Condition, FirstBroken, AllHold, WithPlaces}
+use Rattle.rules.proofs.Sheet.{and-left, and-right}
 
 -- ---- replies
 
@@ -61,51 +62,22 @@ module _ (a : Asked) (rest : List Asked) where
   unfolding firstNo
   first-fail p e = rw (e, firstNo)
 
-  -- nothing refused: this question passes, and so do the rest
-  pub first-accepts : 1 ≤ a .number → firstNo (a ∷ rest) .refusal ≡ 0 → (a .reply ≡ pass) × (firstNo rest .refusal ≡ 0)
-  first-accepts h e = go (replied (a .reply))
-    where
-      go : Replied (a .reply) → (a .reply ≡ pass) × (firstNo rest .refusal ≡ 0)
-      go (passed f) = (f, sym (ap (λ (v : Verdict). v .refusal) (first-pass f)) ∙ e)
-      go (failed p f) = let z : a .number ≡ 0 = sym (ap (λ (v : Verdict). v .refusal) (first-fail p f)) ∙ e in absurd (omega (arith, h, z))
-
--- every question of the list passes
-unfoldable pub AllPass : List Asked → Type 0
-AllPass [] = Unit {0}
-AllPass (a ∷ rest) = (a .reply ≡ pass) × AllPass rest
-
--- every number is from 1
-unfoldable pub Numbered : List Asked → Type 0
-Numbered [] = Unit {0}
-Numbered (a ∷ rest) = (1 ≤ a .number) × Numbered rest
-
--- nothing is refused exactly where all pass
-pub accepts-all : (qs : List Asked) → Numbered qs → firstNo qs .refusal ≡ 0 ↔ AllPass qs
-unfolding AllPass Numbered firstNo
-accepts-all [] h = (λ e. tt, λ e. refl)
-accepts-all (a ∷ rest) h = (
-  λ e. let w : (a .reply ≡ pass) × (firstNo rest .refusal ≡ 0) = first-accepts a rest (h .0) e in (w .0, accepts-all rest (h .1) .0 (w .1)),
-  λ w. ap (λ (v : Verdict). v .refusal) (first-pass a rest (w .0)) ∙ accepts-all rest (h .1) .1 (w .1),
-)
-
-pub all-accepted : (qs : List Asked) → AllPass qs → firstNo qs ≡ nothingRefused
-unfolding AllPass firstNo
-all-accepted [] h = refl
-all-accepted (a ∷ rest) h = first-pass a rest (h .0) ∙ all-accepted rest (h .1)
-
 -- no question of the list has the number b, so it is not the answer
-unfoldable pub Without : ℕ → List Asked → Type 0
-Without b [] = Unit {0}
-Without b (a ∷ rest) = (a .number ≡ b → ⊥) × Without b rest
+unfoldable pub without : ℕ → List Asked → Bool
+without b [] = true
+without b (a ∷ rest) = not (eqb (a .number) b) && without b rest
 
-pub never : (b : ℕ) (qs : List Asked) → Without b qs → (0 ≡ b → ⊥) → firstNo qs .refusal ≡ b → ⊥
-unfolding Without firstNo
+pub never : (b : ℕ) (qs : List Asked) → without b qs ≡ true → (0 ≡ b → ⊥) → firstNo qs .refusal ≡ b → ⊥
+unfolding without firstNo
 never b [] w z e = z e
-never b (a ∷ rest) w z e = go (never b rest (w .1) z) (replied (a .reply))
+never b (a ∷ rest) w z e = go (never b rest (and-right (not (eqb (a .number) b)) (without b rest) w) z) (replied (a .reply))
   where
+    here : a .number ≡ b → ⊥
+    here = eqb-false (a .number) b (not-true (eqb (a .number) b) (and-left (not (eqb (a .number) b)) (without b rest) w))
+
     go : (firstNo rest .refusal ≡ b → ⊥) → Replied (a .reply) → ⊥
     go below (passed f) = below (sym (ap (λ (v : Verdict). v .refusal) (first-pass a rest f)) ∙ e)
-    go below (failed p f) = w .0 (sym (ap (λ (v : Verdict). v .refusal) (first-fail a rest p f)) ∙ e)
+    go below (failed p f) = here (sym (ap (λ (v : Verdict). v .refusal) (first-fail a rest p f)) ∙ e)
 
 -- ---- the places
 
@@ -115,16 +87,16 @@ replyTo q [] = pass
 replyTo q (a ∷ rest) = elim (eqb (a .number) q) [ true ↦ a .reply | false ↦ replyTo q rest ]
 
 -- no two questions have the same number
-unfoldable pub Apart : List Asked → Type 0
-unfolding Without
-Apart [] = Unit {0}
-Apart (a ∷ rest) = Without (a .number) rest × Apart rest
+unfoldable pub apart : List Asked → Bool
+unfolding without
+apart [] = true
+apart (a ∷ rest) = without (a .number) rest && apart rest
 
 -- the places of a verdict are those of the question whose number it gives
-pub verdict-places : (qs : List Asked) → Apart qs → (q : ℕ) → (0 ≡ q → ⊥) → firstNo qs .refusal ≡ q → replyTo q qs ≡ fail (firstNo qs .places)
-unfolding Apart replyTo firstNo
+pub verdict-places : (qs : List Asked) → apart qs ≡ true → (q : ℕ) → (0 ≡ q → ⊥) → firstNo qs .refusal ≡ q → replyTo q qs ≡ fail (firstNo qs .places)
+unfolding apart replyTo firstNo
 verdict-places [] h q z e = absurd (z e)
-verdict-places (a ∷ rest) h q z e = go (verdict-places rest (h .1) q z) (replied (a .reply))
+verdict-places (a ∷ rest) h q z e = go (verdict-places rest (and-right (without (a .number) rest) (apart rest) h) q z) (replied (a .reply))
   where
     here : a .number ≡ q → replyTo q (a ∷ rest) ≡ a .reply
     here f = rw (eq-eqb (a .number) q f, replyTo)
@@ -135,7 +107,7 @@ verdict-places (a ∷ rest) h q z e = go (verdict-places rest (h .1) q z) (repli
     go : (firstNo rest .refusal ≡ q → replyTo q rest ≡ fail (firstNo rest .places)) → Replied (a .reply) → replyTo q (a ∷ rest) ≡ fail (firstNo (a ∷ rest) .places)
     go below (passed f) =
         let r : firstNo rest .refusal ≡ q = sym (ap (λ (v : Verdict). v .refusal) (first-pass a rest f)) ∙ e in
-        later (λ g. never q rest (subst (λ (x : ℕ). Without x rest) g (h .0)) z r)
+        later (λ g. never q rest (subst (λ (x : ℕ). without x rest ≡ true) g (and-left (without (a .number) rest) (apart rest) h)) z r)
         ∙ below r ∙ ap (λ (v : Verdict). fail (v .places)) (sym (first-pass a rest f))
     go below (failed p f) =
         here (sym (ap (λ (v : Verdict). v .refusal) (first-fail a rest p f)) ∙ e)
@@ -223,3 +195,14 @@ broken-none (C ∷ Cs) q h (inr e) = (
   λ z. let l : 1 ≤ C .number = h .0 in let f : q ≡ C .number = e .1 in absurd (omega (arith, l, f, z)),
   λ w. absurd (e .0 (w .0)),
 )
+
+-- no number of the list is above m, so the answer is not
+unfoldable pub EachMost : ℕ → List Condition → Type 0
+EachMost m [] = Unit {0}
+EachMost m (C ∷ Cs) = (C .number ≤ m) × EachMost m Cs
+
+pub number-most : (m : ℕ) (Cs : List Condition) → EachMost m Cs → (q : ℕ) → FirstBroken Cs q → q ≤ m
+unfolding FirstBroken EachMost
+number-most m [] h q e = omega arith
+number-most m (C ∷ Cs) h q (inl e) = number-most m Cs (h .1) q (e .1)
+number-most m (C ∷ Cs) h q (inr e) = let l : C .number ≤ m = h .0 in let f : q ≡ C .number = e .1 in omega (arith, l, f)

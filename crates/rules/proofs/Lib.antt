@@ -27,6 +27,7 @@ pub mod Relation
 pub mod Degrees
 pub mod Sheet
 pub mod WellFormed
+pub mod WellMade
 pub mod FirstNo
 pub mod DesignAsks
 pub mod Demand2
