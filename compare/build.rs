@@ -4,6 +4,9 @@
 use std::path::PathBuf;
 
 fn main() {
+    if std::env::var_os("CARGO_FEATURE_LIBRARY").is_none() {
+        return;
+    }
     println!("cargo:rerun-if-env-changed=RACHDOUM_LIB");
     let package = PathBuf::from(std::env::var_os("CARGO_MANIFEST_DIR").expect("cargo names the package's folder"));
     let given = std::env::var_os("RACHDOUM_LIB").map(PathBuf::from);

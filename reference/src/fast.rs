@@ -5,17 +5,18 @@
 //! once: that gives the cells of their infimum, and joining classes along the cells gives their supremum. Nothing is
 //! allocated.
 
+pub mod degrees;
+pub mod full_design;
+pub mod name;
+pub mod plot_design;
+pub mod read_sheet;
+pub mod relation;
+pub mod skeleton;
+pub mod strata;
+
 mod closing;
 mod column;
 mod design;
-mod names;
 mod order;
 mod sheet;
-mod table;
 mod work;
-
-pub use design::{full_design, plot_design};
-pub use names::name;
-pub use order::{degrees, relation, strata};
-pub use sheet::read_sheet;
-pub use table::skeleton;

@@ -2,16 +2,16 @@
 //!
 //! The comment above a function quotes the rule that it answers; numbers are those of the questions asked in turn.
 
+pub mod degrees;
+pub mod full_design;
+pub mod name;
+pub mod plot_design;
+pub mod read_sheet;
+pub mod relation;
+pub mod skeleton;
+pub mod strata;
+
 mod design;
 mod factor;
 mod family;
-mod names;
-mod order;
 mod sheet;
-mod table;
-
-pub use design::{full_design, plot_design};
-pub use names::name;
-pub use order::{degrees, relation, strata};
-pub use sheet::read_sheet;
-pub use table::skeleton;
