@@ -4,10 +4,11 @@ use crate::cells::Cells;
 use crate::entries::Entry;
 use crate::memory::GUARD;
 use reference::Level;
+use std::slice::from_mut;
 
 /// A call. Each entry takes the parts that it has a use for; the others are empty or 0. A part that is added here gets its word in
 /// [`Call::counts`], [`Call::texts`] or [`Call::tables`]: by these lists calls are written, read and made smaller.
-#[derive(Clone, Debug, PartialEq, Eq)]
+#[derive(Clone, Debug, Default, PartialEq, Eq)]
 pub struct Call {
     pub entry: &'static Entry,
     pub plots: usize,
@@ -28,16 +29,12 @@ pub struct Call {
 
 impl Call {
     pub fn new(entry: &'static Entry) -> Call {
-        Call {
-            entry, plots: 0, columns: [0; 2], k: 0, kind: 0, place: 0, sizes: [0; 2], lent: [0; 2], text: Vec::new(),
-            levels: Vec::new(), families: [Vec::new(), Vec::new()],
-        }
+        Call { entry, ..Call::default() }
     }
 
     /// The counts, each with its word; the lengths of what is lent come last.
-    pub fn counts(&mut self) -> [(&'static str, &mut [usize]); 7] {
-        use std::slice::from_mut;
-        [
+    pub fn counts(&mut self) -> Vec<(&'static str, &mut [usize])> {
+        vec![
             ("plots", from_mut(&mut self.plots)),
             ("columns", &mut self.columns),
             ("k", from_mut(&mut self.k)),
@@ -49,14 +46,14 @@ impl Call {
     }
 
     /// The texts, each with its word.
-    pub fn texts(&mut self) -> [(&'static str, &mut Vec<u8>); 1] {
-        [("text", &mut self.text)]
+    pub fn texts(&mut self) -> Vec<(&'static str, &mut Vec<u8>)> {
+        vec![("text", &mut self.text)]
     }
 
     /// The tables of numbers, each with its word.
-    pub fn tables(&mut self) -> [(&'static str, &mut dyn Cells); 3] {
+    pub fn tables(&mut self) -> Vec<(&'static str, &mut dyn Cells)> {
         let [first, second] = &mut self.families;
-        [("levels", &mut self.levels), ("family 1", first), ("family 2", second)]
+        vec![("levels", &mut self.levels), ("family 1", first), ("family 2", second)]
     }
 }
 

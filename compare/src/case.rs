@@ -55,7 +55,7 @@ fn write_text(word: &str, text: &[u8]) -> String {
 
 /// Reads a kept case.
 pub fn read(text: &str) -> Result<Case, String> {
-    let mut case = Case { call: Call::new(entries::ALL[0]), refusal: None, answer: Vec::new() };
+    let mut case = Case { call: Call::default(), refusal: None, answer: Vec::new() };
     let mut table = String::new();
     for (i, line) in text.lines().enumerate().filter(|(_, line)| !line.is_empty() && !line.starts_with('#')) {
         read_line(&mut case, &mut table, line).map_err(|what| format!("line {}: {what}", i + 1))?;

@@ -27,5 +27,5 @@ pub fn check(call: &Call, library: &Entries, literal: bool) -> Checked {
 
 /// Whether the literal version is worth its time: where that grows with the plots and there are many, only in one call of four.
 pub fn affordable(call: &Call, index: u64) -> bool {
-    (call.entry.plots)(call) <= 64 || index % 4 == 0
+    (call.entry.plots)(call) <= 64 || index.is_multiple_of(4)
 }

@@ -86,6 +86,12 @@ impl Entry {
     }
 }
 
+impl Default for &'static Entry {
+    fn default() -> &'static Entry {
+        ALL[0]
+    }
+}
+
 impl PartialEq for Entry {
     fn eq(&self, other: &Entry) -> bool {
         self.title == other.title

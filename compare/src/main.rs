@@ -202,7 +202,8 @@ fn all_reached(tallies: &[Tally]) -> bool {
         let answers = missing(entry.title, entry.refusals, &tally.refusals);
         !missing(&format!("the text of {}", entry.title), told, &tally.printed) && !answers
     };
-    tallies.iter().map(reached).fold(true, |all, reached| all && reached)
+    let reached: Vec<bool> = tallies.iter().map(reached).collect();
+    !reached.contains(&false)
 }
 
 /// One case alone, written out.

@@ -20,7 +20,7 @@ impl Random {
         Random(mix(start ^ index.wrapping_add(1).wrapping_mul(0xD1B5_4A32_D192_ED03)) | 1)
     }
 
-    pub fn next(&mut self) -> u64 {
+    pub fn word(&mut self) -> u64 {
         self.0 ^= self.0 >> 12;
         self.0 ^= self.0 << 25;
         self.0 ^= self.0 >> 27;
@@ -29,7 +29,7 @@ impl Random {
 
     /// A number below the bound.
     pub fn below(&mut self, bound: usize) -> usize {
-        ((self.next() >> 32) as usize) % bound.max(1)
+        ((self.word() >> 32) as usize) % bound.max(1)
     }
 
     /// True once in so many times.

@@ -41,7 +41,7 @@ pub fn damage_text(random: &mut Random, text: &mut Vec<u8>) {
     let at = random.below(end);
     match random.below(12) {
         0 => text[at] = random.pick(b"\t\n01:ptA \r\0"),
-        1 => text[at] = random.next() as u8,
+        1 => text[at] = random.word() as u8,
         2 => { text.remove(at); }
         3 => text.insert(at, random.pick(b"\t\n0159:ptAz\xff")),
         4 => text.truncate(at),

@@ -87,8 +87,7 @@ pub fn counts(_: &Call) -> Vec<Step> {
 
 /// Lines of a text, a field of every line, all lines that share a field.
 pub fn lines(call: &Call) -> Vec<Step> {
-    let texts = call.clone().texts().map(|(_, text)| text.clone());
-    texts.iter().enumerate().flat_map(|(which, text)| lines_of(which, text)).collect()
+    call.clone().texts().iter().enumerate().flat_map(|(which, (_, text))| lines_of(which, text)).collect()
 }
 
 fn lines_of(which: usize, text: &[u8]) -> Vec<Step> {
@@ -106,8 +105,8 @@ fn lines_of(which: usize, text: &[u8]) -> Vec<Step> {
 
 /// Bytes of a short text.
 pub fn bytes(call: &Call) -> Vec<Step> {
-    let lengths = call.clone().texts().map(|(_, text)| text.len());
-    let short = lengths.into_iter().enumerate().filter(|(_, length)| *length < 400);
+    let mut call = call.clone();
+    let short = call.texts().into_iter().map(|(_, text)| text.len()).enumerate().filter(|(_, length)| *length < 400);
     let parts = |(which, length)| pieces(length).into_iter().map(move |(from, count)| drop_bytes(which, from, count));
     short.flat_map(parts).collect()
 }
@@ -165,7 +164,7 @@ pub fn lent(_: &Call) -> Vec<Step> {
 
 /// Another length of a table, rows of it set to 0, cells past the plots set to 0.
 pub fn tables(call: &Call) -> Vec<Step> {
-    let rows = call.clone().tables().map(|(_, table)| table.length().div_ceil(PLOTS));
+    let rows: Vec<usize> = call.clone().tables().iter().map(|(_, table)| table.length().div_ceil(PLOTS)).collect();
     let cut = |which: usize, length: usize| {
         step(move |call| {
             call.tables()[which].1.cut(length);

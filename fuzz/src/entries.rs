@@ -9,26 +9,24 @@ use crate::memory::Guarded;
 use reference::{Entries, Level, COLUMNS, FAMILY, INTERACTIONS, LEVELS, MEMBERS, PLOTS};
 use std::collections::BTreeMap;
 
-mod degrees;
-mod full_design;
-mod name;
-mod plot_design;
-mod read_sheet;
-mod relation;
-mod skeleton;
-mod strata;
+/// The modules of the entries, and their calls in the order in which they are made.
+macro_rules! entries {
+    ($($name:ident,)*) => {
+        $(mod $name;)*
+        const ALL: &[fn(&mut Run)] = &[$($name::call),*];
+    };
+}
 
-/// The calls of each entry, in the order in which they are made.
-const ALL: &[fn(&mut Run)] = &[
-    skeleton::call,
-    read_sheet::call,
-    plot_design::call,
-    full_design::call,
-    strata::call,
-    relation::call,
-    degrees::call,
-    name::call,
-];
+entries! {
+    skeleton,
+    read_sheet,
+    plot_design,
+    full_design,
+    strata,
+    relation,
+    degrees,
+    name,
+}
 
 /// Longest text and longest buffer for a table that are lent.
 pub const MOST: usize = 1 << 16;

@@ -5,14 +5,7 @@
 //! once: that gives the cells of their infimum, and joining classes along the cells gives their supremum. Nothing is
 //! allocated.
 
-pub mod degrees;
-pub mod full_design;
-pub mod name;
-pub mod plot_design;
-pub mod read_sheet;
-pub mod relation;
-pub mod skeleton;
-pub mod strata;
+entries!(modules);
 
 mod closing;
 mod column;

@@ -9,9 +9,6 @@
 #![forbid(unsafe_code)]
 #![allow(clippy::type_complexity, clippy::needless_range_loop)]
 
-pub mod fast;
-pub mod literal;
-
 /// A level of a column, from 1 to the highest number of this type; 0 is a level that is missing.
 pub type Level = u16;
 /// Most plots of a trial.
@@ -35,9 +32,41 @@ pub const TABLE: usize = 32_768;
 /// The last question's number: refusals are numbered from 1 to this.
 pub const QUESTIONS: usize = 16;
 
-/// Gathers the entries: each line is an entry's name, which is that of its module and its function in [`literal`] and in
-/// [`fast`], and its shape.
+/// The list of entries, handed to another macro: an entry's name and its shape. The name is that of its module and of its function,
+/// both in [`literal`] and in [`fast`].
 macro_rules! entries {
+    ($taken:ident) => {
+        $taken! {
+            /// Text, level table; refusal and plots, plot columns, treatment columns (questions 1 to 5).
+            read_sheet: fn(&[u8], &mut [Level]) -> (u32, [u64; 3]),
+            /// Level table, plots, plot columns, family; refusal and first place, second place, size (6 to 10).
+            plot_design: fn(&[Level], usize, usize, &mut [u8]) -> (u32, [u64; 3]),
+            /// Level table, plots, plot columns, treatment columns, k, plot family, treatment family; refusal and first place,
+            /// second place, plot size, treatment size (6 to 14).
+            full_design: fn(&[Level], usize, usize, usize, usize, &mut [u8], &mut [u8]) -> (u32, [u64; 4]),
+            /// Family, plots, size; refusal and the size, 32 words, 32 words of direct neighbours, 32 counts (6, 15).
+            relation: fn(&[u8], usize, usize) -> (u32, [u32; 97]),
+            /// Family, plots, size; refusal and 32 degrees of freedom (6, 15).
+            degrees: fn(&[u8], usize, usize) -> (u32, [i64; 32]),
+            /// Plot family, its size, treatment family, its size, plots; refusal and 32 places of strata by treatment member, then
+            /// 32 residuals by plot member (6, 15, 16).
+            strata: fn(&[u8], usize, &[u8], usize, usize) -> (u32, [i64; 64]),
+            /// Text, level table, family, plots, size, kind (0 plot, else treatment), place, name; refusal and the name's length
+            /// (2, 3, 6, 7, 15).
+            name: fn(&[u8], &[Level], &[u8], usize, usize, u32, usize, &mut [u8]) -> (u32, [u64; 1]),
+            /// Text, buffer for the table; 6 if that buffer is too short, else 0, and the printed text's length.
+            skeleton: fn(&[u8], &mut [u8]) -> (u32, u64),
+        }
+    };
+}
+
+/// A module for each entry of the list.
+macro_rules! modules {
+    ($($(#[$said:meta])* $name:ident: $shape:ty,)*) => { $(pub mod $name;)* };
+}
+
+/// What gathers the functions of these modules.
+macro_rules! gathered {
     ($($(#[$said:meta])* $name:ident: $shape:ty,)*) => {
         /// The public entries of one implementation.
         #[derive(Clone, Copy)]
@@ -55,24 +84,7 @@ macro_rules! entries {
     };
 }
 
-entries! {
-    /// Text, level table; refusal and plots, plot columns, treatment columns (questions 1 to 5).
-    read_sheet: fn(&[u8], &mut [Level]) -> (u32, [u64; 3]),
-    /// Level table, plots, plot columns, family; refusal and first place, second place, size (6 to 10).
-    plot_design: fn(&[Level], usize, usize, &mut [u8]) -> (u32, [u64; 3]),
-    /// Level table, plots, plot columns, treatment columns, k, plot family, treatment family; refusal and first place,
-    /// second place, plot size, treatment size (6 to 14).
-    full_design: fn(&[Level], usize, usize, usize, usize, &mut [u8], &mut [u8]) -> (u32, [u64; 4]),
-    /// Family, plots, size; refusal and the size, 32 words, 32 words of direct neighbours, 32 counts (6, 15).
-    relation: fn(&[u8], usize, usize) -> (u32, [u32; 97]),
-    /// Family, plots, size; refusal and 32 degrees of freedom (6, 15).
-    degrees: fn(&[u8], usize, usize) -> (u32, [i64; 32]),
-    /// Plot family, its size, treatment family, its size, plots; refusal and 32 places of strata by treatment member, then
-    /// 32 residuals by plot member (6, 15, 16).
-    strata: fn(&[u8], usize, &[u8], usize, usize) -> (u32, [i64; 64]),
-    /// Text, level table, family, plots, size, kind (0 plot, else treatment), place, name; refusal and the name's length
-    /// (2, 3, 6, 7, 15).
-    name: fn(&[u8], &[Level], &[u8], usize, usize, u32, usize, &mut [u8]) -> (u32, [u64; 1]),
-    /// Text, buffer for the table; 6 if that buffer is too short, else 0, and the printed text's length.
-    skeleton: fn(&[u8], &mut [u8]) -> (u32, u64),
-}
+pub mod fast;
+pub mod literal;
+
+entries!(gathered);

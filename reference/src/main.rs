@@ -27,10 +27,10 @@ fn input() -> io::Result<Vec<u8>> {
 }
 
 fn main() -> io::Result<()> {
-    let mut arguments: Vec<String> = std::env::args().skip(1).collect();
+    let arguments: Vec<String> = std::env::args().skip(1).collect();
     let fast = arguments.first().is_some_and(|argument| argument == "--fast");
     let entries = if fast { FAST } else { LITERAL };
-    let named = arguments.drain(usize::from(fast)..).next().unwrap_or(PROGRAMS[0].0.to_string());
+    let named = arguments.get(usize::from(fast)).map_or(PROGRAMS[0].0, String::as_str);
     let program = PROGRAMS.iter().find(|program| program.0 == named);
     let (_, run) = program.ok_or(io::Error::other(format!("no program {named}")))?;
     io::stdout().write_all(&run(&entries, &input()?))
