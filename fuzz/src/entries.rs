@@ -72,22 +72,11 @@ struct Run<'a> {
 }
 
 impl Run<'_> {
-    /// Takes down what an entry answered; of each number its bits.
-    fn say<T: Copy + AsBits>(&mut self, entry: &'static str, refusal: u32, answer: &[T]) {
-        self.said.push((entry, refusal, answer.iter().map(|number| number.bits()).collect()));
+    /// Takes down what an entry answered: its refusal, and its numbers or their bits.
+    fn say(&mut self, entry: &'static str, refusal: u32, answer: impl IntoIterator<Item = i64>) {
+        self.said.push((entry, refusal, answer.into_iter().collect()));
     }
 }
-
-/// A number of an answer as a signed one: what is compared are its bits.
-trait AsBits {
-    fn bits(&self) -> i64;
-}
-
-macro_rules! as_bits {
-    ($($number:ty),*) => { $(impl AsBits for $number { fn bits(&self) -> i64 { *self as i64 } })* };
-}
-
-as_bits!(u32, u64, i64);
 
 /// The families that entries are asked about, as they were exchanged.
 fn families(lent: &mut Lent, exchanged: bool) -> [&mut [u8]; 2] {

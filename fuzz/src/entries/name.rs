@@ -14,6 +14,6 @@ pub fn call(run: &mut Run) {
         let (number, answer) =
             (run.entries.name)(text.bytes(), levels.levels(), family, run.plots, size, kind as u32, place, name);
         run.left.push(name.to_vec());
-        run.say("name", number, &answer);
+        run.say("name", number, answer.map(|number| number as i64));
     }
 }

@@ -9,5 +9,5 @@ pub fn call(run: &mut Run) {
     let family = run.lent.families[0].bytes();
     let (number, answer) = (run.entries.plot_design)(run.lent.levels.levels(), run.plots, run.columns[0], family);
     run.left.push(family.to_vec());
-    run.say("plot_design", number, &answer);
+    run.say("plot_design", number, answer.map(|number| number as i64));
 }

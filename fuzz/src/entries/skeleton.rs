@@ -23,5 +23,5 @@ fn print(run: &mut Run, length: usize) {
         oracle::plant(out, written as usize);
     }
     run.left.push(out.to_vec());
-    run.say("skeleton", number, &[written]);
+    run.say("skeleton", number, [written as i64]);
 }

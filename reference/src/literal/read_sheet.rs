@@ -6,6 +6,7 @@ use crate::{Level, COLUMNS, LEVELS, PLOTS};
 /// "each a decimal level 1 to 65535 without leading zeros"
 fn level(field: &[u8]) -> Option<Level> {
     let digits = !field.is_empty() && field.iter().all(|byte| byte.is_ascii_digit());
+    // Ten digits are enough for every level, and their number has room in 64 bits.
     if !digits || field[0] == b'0' || field.len() > 10 {
         return None;
     }
