@@ -4,7 +4,7 @@ use super::design::{factors, no_level_missing, plot_cells, treatment_cells};
 use super::factor::Factor;
 use super::family::read;
 use super::sheet::{has_length, headings, of_kind, Kind};
-use crate::{FAMILY, LEVELS, NAME, PLOTS};
+use crate::{Level, FAMILY, LEVELS, NAME, PLOTS};
 
 /// The columns of one kind: names and factors, in column order.
 pub struct Columns<'a> {
@@ -44,7 +44,7 @@ fn infimum_name(columns: &Columns, member: &Factor) -> Option<Vec<u8>> {
 }
 
 /// The columns of the kind that the caller states, as the first line counts them; None when a level is missing (7).
-pub fn columns_of_kind<'a>(names: Vec<&'a [u8]>, levels: &[u16], plots: usize, kind: Kind) -> Option<Columns<'a>> {
+pub fn columns_of_kind<'a>(names: Vec<&'a [u8]>, levels: &[Level], plots: usize, kind: Kind) -> Option<Columns<'a>> {
     let cells = match kind {
         Kind::Plot => plot_cells(levels, names.len(), plots),
         Kind::Treatment => treatment_cells(levels, names.len(), plots),
@@ -57,7 +57,7 @@ pub fn columns_of_kind<'a>(names: Vec<&'a [u8]>, levels: &[u16], plots: usize, k
 #[allow(clippy::too_many_arguments)]
 pub fn name(
     text: &[u8],
-    levels: &[u16],
+    levels: &[Level],
     family: &[u8],
     plots: usize,
     size: usize,

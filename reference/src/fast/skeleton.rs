@@ -1,10 +1,12 @@
 //! The printed table.
 
 use super::column::{Columns, Walk};
-use super::design::{judge, Design};
-use super::names::{put, Namer};
-use super::order::{places, Family};
+use super::design::Design;
+use super::full_design::judge;
+use super::name::{put, Namer};
+use super::order::Family;
 use super::sheet::Header;
+use super::strata::places;
 use super::work::with_work;
 use crate::{COLUMNS, FAMILY, INTERACTIONS, LEVELS, MEMBERS, NAME, TABLE, TEXT};
 

@@ -1,7 +1,11 @@
 //! The skeleton program: from a sheet's text to the printed table.
 
-use super::{degrees, full_design, name, read_sheet, strata};
-use crate::{FAMILY, LEVELS, MEMBERS, NAME, TABLE};
+use super::degrees::degrees;
+use super::full_design::full_design;
+use super::name::name;
+use super::read_sheet::read_sheet;
+use super::strata::strata;
+use crate::{Level, FAMILY, LEVELS, MEMBERS, NAME, TABLE};
 
 /// "with k = 6"
 const K: usize = 6;
@@ -9,7 +13,7 @@ const K: usize = 6;
 /// A sheet that was read and its design, accepted or refused.
 struct Trial<'a> {
     text: &'a [u8],
-    levels: Vec<u16>,
+    levels: Vec<Level>,
     plots: usize,
     plot_family: Vec<u8>,
     treatment_family: Vec<u8>,

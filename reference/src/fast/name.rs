@@ -5,7 +5,7 @@ use super::design::no_level_missing;
 use super::order::{ones, Family};
 use super::sheet::Header;
 use super::work::with_work;
-use crate::{COLUMNS, FAMILY, LEVELS, NAME, PLOTS, TEXT};
+use crate::{Level, COLUMNS, FAMILY, LEVELS, NAME, PLOTS, TEXT};
 
 /// The columns of one kind, ready for naming.
 pub struct Namer<'a> {
@@ -118,7 +118,7 @@ fn number(name: &mut [u8], place: usize) -> usize {
 #[allow(clippy::too_many_arguments)]
 pub fn name(
     text: &[u8],
-    levels: &[u16],
+    levels: &[Level],
     family: &[u8],
     plots: usize,
     size: usize,
