@@ -1,7 +1,8 @@
 #!/usr/bin/env bash
-# The prover refused each must-fail edit where it should: every function that the edit names with `fails:` has an error of its own. It does
-# not count that a function it calls is not proved, nor that the proof names a step or a place that the edited code has not. It reads
-# what `rt ci` left of the edits it tried. That what is refused is false, and not only written for other code, a reader has to see.
+# The prover refused each must-fail edit where it should. `fails:` names what becomes false: a function, as `crate::module::function`, or a
+# law of the rules, as `crate::File::law`. A function has an error of its own: it does not count that a function it calls is not proved,
+# nor that the proof names a step or a place that the edited code has not. A law is refused itself, or rests on one that is. The script
+# reads what `rt ci` left of the edits it tried. That what is refused is false, and not only written for other code, a reader has to see.
 set -u
 cd "$(dirname "$0")/.." || exit 1
 named=0
@@ -24,6 +25,14 @@ fails() {
   fi
 }
 
+# law_fails LOG LAW: the law, in the file of specs/ or proofs/ that has it, is refused
+law_fails() {
+  local path=${2#*::}
+  local law=${path##*::}
+  path=${path%::*}
+  grep -qE "/(specs|proofs)/${path//:://}\.antt:[0-9]+:[0-9]+: error: \`$law\`" "$1"
+}
+
 for edit in crates/*/must-fail/*.edit; do
   crate=${edit#crates/}
   log=target/must-fail/${crate%%/*}/$(basename "$edit" .edit)/.log
@@ -34,14 +43,18 @@ for edit in crates/*/must-fail/*.edit; do
   if grep -m 1 ': error' "$log" | grep -q 'has no `Need-'; then
     complain "$edit" 'it only makes the proof unfit for the code'
   fi
-  if grep -q '^file: src/' "$edit" && ! grep -q '^fails: ' "$edit"; then
-    complain "$edit" 'it changes code and names no function'
+  if ! grep -q '^fails: ' "$edit"; then
+    complain "$edit" 'it names neither a function nor a law that fails'
   fi
-  for function in $(sed -n 's/^fails: //p' "$edit"); do
+  for name in $(sed -n 's/^fails: //p' "$edit"); do
     named=$((named + 1))
-    fails "$log" "$function" || complain "$edit" "$function does not fail"
+    if [[ $name =~ ::[A-Z] ]]; then
+      law_fails "$log" "$name" || complain "$edit" "the law $name does not fail"
+    else
+      fails "$log" "$name" || complain "$edit" "the function $name does not fail"
+    fi
   done
 done
 
-[[ $bad -eq 0 && $named -gt 0 ]] && echo "edits: $named functions with a wrong answer fail"
+[[ $bad -eq 0 && $named -gt 0 ]] && echo "edits: $named functions and laws fail where an edit makes them false"
 [[ $bad -eq 0 && $named -gt 0 ]]

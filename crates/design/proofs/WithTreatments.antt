@@ -1,4 +1,4 @@
--- Laws of the full design around the plot design: what an accepted and a refused plot family lead to, and questions 6 and 7.
+-- Laws of the full design around the plot design: what an accepted and a refused plot family lead to, questions 6 and 7, and the promise whole.
 -- Assumes nothing.
 use mathlib.Core.Path.{_≡_, refl, sym, ap, ap₂, _∙_}
 use mathlib.Core.Bool.{Bool, true, false, _&&_, true≢false}
@@ -12,15 +12,17 @@ use borrow.Author.Tests.{eq-eqb, ltb-true, leb-true}
 use Rattle.rules.specs.Factor.{Column, uniform, orthogonal, equality}
 use Rattle.rules.specs.Family.{Family, _∈_, columnsFrom, membersOf}
 use Rattle.rules.specs.Closing.{Closing, tooMany, family, plotFamily, by-equality, firstTreatmentFamily, finalTreatmentFamily}
-use Rattle.rules.specs.Design.{Answer, Places, firstPair, firstCross, firstFailing, question8, question9, question10, question11, question12, question13, question14, withTreatments, nonzero, allNonzero, withinLimits, fullWithinLimits, fullQuestion7, fullDesign, refused}
+use Rattle.rules.specs.Design.{Answer, Places, firstPair, firstCross, firstFailing, question8, question9, question10, question11, question12, question13, question14, withTreatments, nonzero, allNonzero, withinLimits, fullWithinLimits, fullQuestion7, fullDesign, refused, plotBuffer, treatmentBuffer}
+use Rattle.rules.specs.Demand2.{Demand2}
 use Rattle.rules.proofs.Numbering.{by-cases}
 use Rattle.rules.proofs.Verdict.{verdict-members}
 use Rattle.rules.proofs.Buffer.{length-members}
 use Rattle.rules.proofs.Families.{plot-family-lists}
 use Rattle.rules.proofs.Made.{plot-made}
+use Rattle.rules.proofs.Demand2.{demand-2}
 use Rattle.design.specs.Treatments.{Numbered}
 use Rattle.design.proofs.Asked.{numbered-made}
-use Rattle.design.specs.Answers.{PlotNumbers, plotNumbersOf, fullNumbersOf, fullRefusing}
+use Rattle.design.specs.Answers.{PlotNumbers, plotNumbersOf, FullNumbers, fullNumbersOf, fullLeft, fullRefusing}
 use Rattle.design.specs.Closings.{closedIn, goesOn}
 use Rattle.design.proofs.Answered.{accepting, held-over, held-on, Limits, limits}
 
@@ -184,3 +186,13 @@ module _ (n c d k : ℕ) (levels : List ℕ) (p b : ℕ) where
         → fullDesign n c d k levels p b ≡ withTreatments n k (columnsFrom n levels 6 d) (question8 n (plotFamily n (columnsFrom n levels 0 c)))
     unfolding fullDesign fullQuestion7
     full-8 f g = rw (e, fullDesign) (rw (nonzero-append (columnsFrom n levels 0 c) (columnsFrom n levels 6 d) ∙ ap₂ _&&_ f g, fullQuestion7))
+
+-- the promise whole, demand 2 of the numbers answered and the bytes left being its last part
+module _ (n c d k : ℕ) (levels p b after after′ : List ℕ) (r : FullNumbers) where
+  abbrev made : Answer
+  made = fullDesign n c d k levels (length p) (length b)
+
+  pub promised : r ≡ fullNumbersOf made → after ≡ plotBuffer p made → after′ ≡ treatmentBuffer b made
+      → (r ≡ fullNumbersOf made) × ((after ≡ plotBuffer p made) × ((after′ ≡ treatmentBuffer b made) × Demand2 n c d k levels p b (fullLeft n r after after′)))
+  unfolding fullNumbersOf
+  promised e f g = (e, (f, (g, rw (e, f, g) (demand-2 n c d k levels p b))))

@@ -1,8 +1,10 @@
 -- The answers of the designs as the rules count them: the number of the refusal, its places and the sizes, for each case of the enums.
 -- Assumes nothing.
 use mathlib.Core.Bool.{Bool, true, false}
+use mathlib.Core.List.{List}
 use Prim.Native.Nat.{ℕ}
 use lib.Dec.{eqb}
+use Rattle.rules.specs.Family.{membersOf}
 use Rattle.rules.specs.Design.{Answer, plotSize, treatmentSize}
 use Rattle.design.specs.declared.PlotDesign.{PlotDesign}
 use Rattle.design.specs.declared.PlotDesign.the-variants.{Accepted, Refused}
@@ -45,6 +47,10 @@ fullNumbers (full.Refused r) = record { accepted = false; refusal = r .number; f
 -- an answer of the rules
 unfoldable pub fullNumbersOf : Answer → FullNumbers
 fullNumbersOf a = record { accepted = eqb (a .refusal) 0; refusal = a .refusal; first = a .places .first; second = a .places .second; plot = plotSize a; treatment = treatmentSize a }
+
+-- what a full design leaves: the numbers answered, and the families in the two buffers afterwards, as many members as the sizes answered
+abbrev pub fullLeft : ℕ → FullNumbers → List ℕ → List ℕ → Answer
+fullLeft n r plots treatments = record { refusal = r .refusal; places = record { first = r .first; second = r .second }; plot = membersOf n plots (r .plot); treatment = membersOf n treatments (r .treatment) }
 
 -- a refusal by question q, with its places and the sizes of the two families
 abbrev pub fullRefusing : ℕ → ℕ → ℕ → ℕ → ℕ → FullNumbers

@@ -22,7 +22,7 @@ pub record Ready (n size : ℕ) (plot order marks : List ℕ) : Type 0 where
   pub room : 7680 ≤ length plot
   pub judging : (size ≡ 33 → ⊥) → Judging n size plot order marks
 
--- "8 to 14": an accepted plot family goes on to the first treatment family
+-- questions 8 to 14: an accepted plot family goes on to the first treatment family
 unfoldable pub goesOn : ℕ → Closing → Answer → Answer
 unfolding question11
 goesOn n Y a = elim (a .refusal) [

@@ -6,7 +6,8 @@ ghost use Rattle.rules.specs.Family.{columnsFrom, membersOf, AtMost};
 ghost use Rattle.rules.specs.Closing.{InPlotFamily};
 ghost use Rattle.rules.specs.Design.{plotDesign, plotBuffer, fullDesign, treatmentBuffer};
 ghost use Rattle.rules.specs.Structure.{Lent, Demand3};
-ghost use Rattle.design.specs.Answers.{plotNumbers, plotNumbersOf, fullNumbers, fullNumbersOf};
+ghost use Rattle.rules.specs.Demand2.{Demand2};
+ghost use Rattle.design.specs.Answers.{plotNumbers, plotNumbersOf, fullNumbers, fullNumbersOf, fullLeft};
 
 mod apart;
 mod closed;
@@ -90,6 +91,7 @@ pub fn full_design(
     ensures answer { λ r. ⌜ fullNumbers r ≡ fullNumbersOf (fullDesign plots «plot_columns» «treatment_columns» k (now (levels .entry)) (length (now («plot_family» .entry))) (length (now («treatment_family» .entry)))) ⌝ }
     ensures plots { λ _. ⌜ now («plot_family» .exit) ≡ plotBuffer (now («plot_family» .entry)) (fullDesign plots «plot_columns» «treatment_columns» k (now (levels .entry)) (length (now («plot_family» .entry))) (length (now («treatment_family» .entry)))) ⌝ }
     ensures treatments { λ _. ⌜ now («treatment_family» .exit) ≡ treatmentBuffer (now («treatment_family» .entry)) (fullDesign plots «plot_columns» «treatment_columns» k (now (levels .entry)) (length (now («plot_family» .entry))) (length (now («treatment_family» .entry)))) ⌝ }
+    ensures demand { λ r. ⌜ Demand2 plots «plot_columns» «treatment_columns» k (now (levels .entry)) (now («plot_family» .entry)) (now («treatment_family» .entry)) (fullLeft plots (fullNumbers r) (now («plot_family» .exit)) (now («treatment_family» .exit))) ⌝ }
 {
     if !questions::full_within(
         plots,

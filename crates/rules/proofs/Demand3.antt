@@ -133,7 +133,7 @@ module _ (n : ℕ) (Fs : List Column) where
                 (orthogonal-equivalent (o .onPlots (a .member) (a .isMember)) (o .onPlots (b .member) (b .isMember)) (member-length F (in-R F m)) (member-length G (in-R G k)) (a .equivalent) (b .equivalent)
                 (o .orthogonal (a .member) (b .member) (a .isMember) (b .isMember)))
 
--- ---- the question8
+-- ---- questions 8 to 10
 
 pub verdict-right : (n : ℕ) (Fs : List Column) → ((F : Column) → F ∈ Fs → length F ≡ n) → AtMost 32 (InPlotFamily n Fs) → (x : Closing) → Closed both (plotGenerators n Fs) x → Demand3 n Fs (question8 n x .refusal) (question8 n x .plot)
 verdict-right n Fs on few x (too-many m) =
@@ -173,7 +173,8 @@ column-length n levels (suc m) c hn hl hc F k = go (column-length n levels m (su
     go below (inl e) = ap length e ∙ length-take-le n (drop (240 * c) levels) fits
     go below (inr k′) = below k′
 
-nonzero-all : (F : Column) → ((u : ℕ) → u < length F → getD F u 0 ≡ 0 → ⊥) → nonzero F ≡ true
+-- a column of levels that are not 0
+pub nonzero-all : (F : Column) → ((u : ℕ) → u < length F → getD F u 0 ≡ 0 → ⊥) → nonzero F ≡ true
 unfolding nonzero
 nonzero-all [] h = refl
 nonzero-all (x ∷ F) h = rw (ne-eqb x 0 (h 0 (suc-le-suc zero-le)), nonzero) (nonzero-all F (λ u hu. h (suc u) (suc-le-suc hu)))
@@ -199,7 +200,7 @@ within-limits n c t b h₁ h₂ h₃ h₄ h₅ = rw (le-leb 1 n h₁, le-leb n 2
 
 -- ---- demand 3
 
--- within the limits and with no missing level, the plot design is the question8 on the plot family
+-- within the limits and with no missing level, the plot design is what question 8 and those after it answer of the plot family
 pub design-verdict : (n c : ℕ) (levels buffer : List ℕ) → Lent n c levels buffer → plotDesign n c levels (length buffer) ≡ question8 n (plotFamily n (columnsFrom n levels 0 c))
 unfolding plotDesign question7
 design-verdict n c levels buffer l =

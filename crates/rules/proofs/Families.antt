@@ -10,16 +10,11 @@ use lib.ListN.{length}
 use Rattle.rules.specs.Limits.{mostMembers}
 use Rattle.rules.specs.Factor.{Column, number, infimum, supremum, universal, equality}
 use Rattle.rules.specs.Family.{Family, _∈_, Ascending, empty, AtMost}
+pub use Rattle.rules.specs.Family.{Lists}
+pub use Rattle.rules.specs.Closing.{InFinalTreatmentFamily}
 use Rattle.rules.specs.Closing.{both, onlySupremum, Made, given, made, Closing, tooMany, family, close, products, plotGenerators, plotFamily, InPlotFamily, by-column, by-universal, by-equality, by-infimum, by-supremum, choices, infimumAll, treatmentGenerators, firstTreatmentFamily, Chosen, none-of, skipping, taking, InFirstTreatmentFamily, of-universal, of-infimum, of-supremum, finalTreatmentFamily}
 use Rattle.rules.proofs.Members.{insertAll-has, insertAll-only, ascending-insertAll}
 use Rattle.rules.proofs.Closing.{Closed, listed, too-many, close-right, close-too-many, products-has, products-from, Product}
-
--- R lists exactly the columns with the property P, ascending (so none twice), and they are at most 32
-pub record Lists (P : Column → Type 0) (R : Family) : Type 0 where
-  pub ascending : Ascending R
-  pub few : length R ≤ mostMembers
-  pub only : (F : Column) → F ∈ R → P F
-  pub all : (F : Column) → P F → F ∈ R
 
 module _ (make : Column → Column → List Column) (Gs : List Column) (P : Column → Type 0)
     (to : (F : Column) → Made make Gs F → P F) (from : (F : Column) → P F → Made make Gs F) where
@@ -160,14 +155,6 @@ module _ (n k : ℕ) (Ts : List Column) where
   first-too-many = close-many-iff onlySupremum (treatmentGenerators n k Ts) (InFirstTreatmentFamily n k Ts) made-in-first in-first-made
 
 -- ---- the final treatment family
-
--- H is the supremum of a member of P with a member of S
-pub record InFinalTreatmentFamily (P S : Family) (H : Column) : Type 0 where
-  pub plot : Column
-  pub treatment : Column
-  pub in-plot : plot ∈ P
-  pub in-treatment : treatment ∈ S
-  pub is : H ≡ supremum plot treatment
 
 -- the final treatment family lists just the suprema of one plot member with one first-treatment member, ascending
 pub final-ascending : (P S : Family) → Ascending (finalTreatmentFamily P S)

@@ -11,11 +11,8 @@ use lib.ListN.{length, getD}
 use Rattle.rules.specs.Factor.{Column}
 use Rattle.rules.specs.Family.{Family, _∈_}
 use Rattle.rules.specs.Design.{firstFailing, Places, none, pairAt, firstPair, firstCross}
+pub use Rattle.rules.specs.Places.{atPlace, Earlier, FirstPlace, FirstPlaces, FirstCross}
 use Rattle.rules.proofs.Numbering.{by-cases}
-
--- the member at a place, places being counted from 1
-abbrev pub atPlace : Family → ℕ → Column
-atPlace S i = getD S (i - 1) []
 
 -- place k + 1 is index k
 pub member-suc : (S : Family) (k : ℕ) → atPlace S (suc k) ≡ getD S k []
@@ -27,7 +24,7 @@ module _ (p : Column → Bool) where
   abbrev Passing : Family → Type 0
   Passing S = (j : ℕ) → j < length S → p (getD S j []) ≡ true
 
-  -- as the public record below, with places from 0
+  -- as FirstPlace, with places from 0
   record FirstAt (S : Family) (k : ℕ) : Type 0 where
     less : k < length S
     fails : p (getD S k []) ≡ false
@@ -65,15 +62,8 @@ module _ (p : Column → Bool) where
       go e (nowhere h) = nowhere (more e (length S) h)
       go e (somewhere k w) = somewhere (suc k) record { less = suc-le-suc (w .less); fails = w .fails; passed = more e k (w .passed) }
 
-  -- place i is the first that fails: the member there fails, and all before it pass
-  pub record FirstPlace (S : Family) (i : ℕ) : Type 0 where
-    pub least : 1 ≤ i
-    pub most : i ≤ length S
-    pub fails : p (atPlace S i) ≡ false
-    pub before : (h : ℕ) → 1 ≤ h → h < i → p (atPlace S h) ≡ true
-
   -- where one place is the first that fails, it is the answer
-  pub failing-is : (S : Family) (i : ℕ) → FirstPlace S i → firstFailing p 1 S ≡ i
+  pub failing-is : (S : Family) (i : ℕ) → FirstPlace p S i → firstFailing p 1 S ≡ i
   failing-is S i w =
       failing-at 0 S (i - 1) record { less = omega arith; fails = w .fails; passed = λ j h. ap p (sym (member-suc S j)) ∙ w .before (suc j) (suc-le-suc zero-le) (omega arith) }
       ∙ omega (arith, w .least)
@@ -87,19 +77,15 @@ module _ (p : Column → Bool) where
       go e (somewhere k w) i l m = absurd (suc-ne-zero _ (sym (failing-at 0 S k w) ∙ e))
 
   -- an answer that is not 0 is the first place that fails
-  pub failing-first : (S : Family) → 1 ≤ firstFailing p 1 S → FirstPlace S (firstFailing p 1 S)
+  pub failing-first : (S : Family) → 1 ≤ firstFailing p 1 S → FirstPlace p S (firstFailing p 1 S)
   failing-first S l = go (found S)
     where
-      go : Found S → FirstPlace S (firstFailing p 1 S)
+      go : Found S → FirstPlace p S (firstFailing p 1 S)
       go (nowhere h) = absurd (not-suc-le-zero (rw (failing-all 1 S h) at l))
       go (somewhere k w) = let e : firstFailing p 1 S ≡ suc k = failing-at 0 S k w ∙ omega arith in
           rw e record { least = suc-le-suc zero-le; most = w .less; fails = ap p (member-suc S k) ∙ w .fails; before = λ h l m. w .passed (h - 1) (omega arith) }
 
 -- ---- two members of one family
-
--- the pair of h and k is earlier than the pair of i and j: smaller first place, then smaller second
-abbrev pub Earlier : ℕ → ℕ → ℕ → ℕ → Type 0
-Earlier h k i j = (h < i) ⊎ ((h ≡ i) × (k < j))
 
 earlier-suc : {h k i j : ℕ} → Earlier h k i j → Earlier (suc h) (suc k) (suc i) (suc j)
 earlier-suc (inl l) = inl (suc-le-suc l)
@@ -194,16 +180,8 @@ module _ (p : Column → Column → Bool) where
       go (nowhere f) (a-pair i j w) =
           a-pair (suc i) (suc j) record { order = suc-le-suc (w .order); less = suc-le-suc (w .less); fails = w .fails; passed = more f i j (w .passed) }
 
-  -- places i and j are the first failing pair: the two members fail, and every earlier pair passes
-  pub record FirstPlaces (S : Family) (i j : ℕ) : Type 0 where
-    pub least : 1 ≤ i
-    pub order : i < j
-    pub most : j ≤ length S
-    pub fails : p (atPlace S i) (atPlace S j) ≡ false
-    pub before : (h k : ℕ) → 1 ≤ h → h < k → k ≤ length S → Earlier h k i j → p (atPlace S h) (atPlace S k) ≡ true
-
   -- where one pair is the first that fails, it is the answer
-  pub pair-is : (S : Family) (i j : ℕ) → FirstPlaces S i j → firstPair p 1 S ≡ pairOf i j
+  pub pair-is : (S : Family) (i j : ℕ) → FirstPlaces p S i j → firstPair p 1 S ≡ pairOf i j
   pair-is S i j w =
       pair-at 1 S (i - 1) (j - 1) record {
         order = omega (arith, w .least, w .order);
@@ -230,10 +208,10 @@ module _ (p : Column → Column → Bool) where
       go (a-pair i j w) = let z : 1 + i ≡ 0 = ap (λ (q : Places). q .first) (sym (pair-at 1 S i j w)) ∙ e in absurd (omega arith)
 
   -- an answer that is not 0 is the first pair that fails
-  pub pair-first : (S : Family) → 1 ≤ firstPair p 1 S .first → FirstPlaces S (firstPair p 1 S .first) (firstPair p 1 S .second)
+  pub pair-first : (S : Family) → 1 ≤ firstPair p 1 S .first → FirstPlaces p S (firstPair p 1 S .first) (firstPair p 1 S .second)
   pair-first S l = go (found-pair S)
     where
-      go : FoundPair S → FirstPlaces S (firstPair p 1 S .first) (firstPair p 1 S .second)
+      go : FoundPair S → FirstPlaces p S (firstPair p 1 S .first) (firstPair p 1 S .second)
       go (no-pair f) = absurd (not-suc-le-zero (rw (pair-all 1 S f) at l))
       go (a-pair i j w) = let e : firstPair p 1 S ≡ pairOf (suc i) (suc j) = pair-at 1 S i j w ∙ ap₂ pairOf (omega arith) (omega arith) in
           rw e record {
@@ -322,17 +300,8 @@ module _ (p : Column → Column → Bool) where
       go (nowhere f) (a-cross i j w) =
           a-cross (suc i) j record { less-first = suc-le-suc (w .less-first); less-second = w .less-second; fails = w .fails; passed = more f i j (w .passed) }
 
-  -- place i of P and place j of S are the first failing pair: the two members fail, and every earlier pair passes
-  pub record FirstCross (P S : Family) (i j : ℕ) : Type 0 where
-    pub least-first : 1 ≤ i
-    pub least-second : 1 ≤ j
-    pub most-first : i ≤ length P
-    pub most-second : j ≤ length S
-    pub fails : p (atPlace P i) (atPlace S j) ≡ false
-    pub before : (h k : ℕ) → 1 ≤ h → 1 ≤ k → h ≤ length P → k ≤ length S → Earlier h k i j → p (atPlace P h) (atPlace S k) ≡ true
-
   -- where one pair is the first that fails, it is the answer
-  pub cross-is : (P S : Family) (i j : ℕ) → FirstCross P S i j → firstCross p 1 P S ≡ pairOf i j
+  pub cross-is : (P S : Family) (i j : ℕ) → FirstCross p P S i j → firstCross p 1 P S ≡ pairOf i j
   cross-is P S i j w =
       cross-at 1 P S (i - 1) (j - 1) record {
         less-first = omega (arith, w .least-first, w .most-first);
@@ -359,10 +328,10 @@ module _ (p : Column → Column → Bool) where
       go (a-cross i j w) = let z : 1 + i ≡ 0 = ap (λ (q : Places). q .first) (sym (cross-at 1 P S i j w)) ∙ e in absurd (omega arith)
 
   -- an answer that is not 0 is the first pair that fails
-  pub cross-first : (P S : Family) → 1 ≤ firstCross p 1 P S .first → FirstCross P S (firstCross p 1 P S .first) (firstCross p 1 P S .second)
+  pub cross-first : (P S : Family) → 1 ≤ firstCross p 1 P S .first → FirstCross p P S (firstCross p 1 P S .first) (firstCross p 1 P S .second)
   cross-first P S l = go (found-cross P S)
     where
-      go : FoundCross P S → FirstCross P S (firstCross p 1 P S .first) (firstCross p 1 P S .second)
+      go : FoundCross P S → FirstCross p P S (firstCross p 1 P S .first) (firstCross p 1 P S .second)
       go (no-cross f) = absurd (not-suc-le-zero (rw (cross-all 1 P S f) at l))
       go (a-cross i j w) = let e : firstCross p 1 P S ≡ pairOf (suc i) (suc j) = cross-at 1 P S i j w ∙ ap (λ (x : ℕ). pairOf x (suc j)) (omega arith) in
           rw e record {

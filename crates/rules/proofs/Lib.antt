@@ -27,6 +27,9 @@ pub mod Relation
 pub mod Degrees
 pub mod Sheet
 pub mod WellFormed
+pub mod FirstNo
+pub mod DesignAsks
+pub mod Demand2
 pub mod StrictOrder
 pub mod Places
 pub mod Listing

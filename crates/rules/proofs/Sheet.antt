@@ -707,7 +707,7 @@ decimal-level n h k =
     let v = decimal-back n in
     level-is (decimalOf n) (digits-first (suc n) n [] (omega arith) h) (digits-all (suc n) n [] refl) (omega arith) (omega arith)
 
--- ---- the sampleSheet sheet
+-- ---- the sample sheet
 
 -- its counts
 pub sample-read : reading sampleSheet (replicate 2880 0) ≡ read 4 1 1

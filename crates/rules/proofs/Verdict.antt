@@ -1,4 +1,4 @@
--- Laws of the question8: what the first failing places tell.
+-- Laws of questions 8 to 10 of a plot family: what the first failing places tell.
 -- Assumes nothing.
 use mathlib.Core.Path.{_≡_, refl, sym, ap, _∙_}
 use mathlib.Core.Logic.{_⊎_, inl, inr}
@@ -76,7 +76,7 @@ module _ (p : Column → Column → Bool) where
       go below (inr m′) (inl f) = inr (inr (rw f (h F m′)))
       go below (inr m′) (inr k′) = below m′ k′
 
--- ---- the question8 on a family
+-- ---- questions 9 and 10 of a family
 
 pub verdict-members : (n : ℕ) (S : Family) → question8 n (family S) .plot ≡ S
 unfolding question8 question9 question10

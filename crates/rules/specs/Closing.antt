@@ -1,5 +1,6 @@
 -- From columns to families (003, Algorithm 1): the plot family, the first and the final treatment family.
 -- Assumes nothing.
+use mathlib.Core.Path.{_≡_}
 use mathlib.Core.Bool.{true, false}
 use mathlib.Core.List.{List, [], _∷_, _++_, map}
 use Prim.Native.Nat.{ℕ, zero, suc, _+_, _≤_}
@@ -116,3 +117,15 @@ pub data InFirstTreatmentFamily (n k : ℕ) (Ts : List Column) : Column → Type
 unfoldable pub finalTreatmentFamily : Family → Family → Family
 unfolding insertAll products onlySupremum
 finalTreatmentFamily P S = insertAll (products onlySupremum P S) []
+
+-- "all suprema of one plot member with one first-treatment member": H is the supremum of one of Q and one of R
+pub record SupremumOfEach (Q R : Column → Type 0) (H : Column) : Type 0 where
+  pub plot : Column
+  pub treatment : Column
+  pub in-plot : Q plot
+  pub in-treatment : R treatment
+  pub is : H ≡ supremum plot treatment
+
+-- the same of two families listed
+abbrev pub InFinalTreatmentFamily : Family → Family → Column → Type 0
+InFinalTreatmentFamily P S = SupremumOfEach (λ F. F ∈ P) (λ F. F ∈ S)

@@ -63,6 +63,13 @@ pub data Distinct {A : Type 0} : List A → Type 0 where
 abbrev pub AtMost : ℕ → (Column → Type 0) → Type 0
 AtMost m P = (S : Family) → Distinct S → ((F : Column) → F ∈ S → P F) → length S ≤ m
 
+-- R lists just the columns with the property P, each before all that follow it (so none twice), and they are at most 32
+pub record Lists (P : Column → Type 0) (R : Family) : Type 0 where
+  pub ascending : Ascending R
+  pub few : length R ≤ mostMembers
+  pub only : (F : Column) → F ∈ R → P F
+  pub all : (F : Column) → P F → F ∈ R
+
 -- ---- lent memory
 
 -- "Column c, plot u (both from 0) is number 240 × c + u": the columns c, c + 1, .. of a table on n plots, m of them

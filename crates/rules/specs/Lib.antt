@@ -8,6 +8,9 @@ pub mod NamesMeant
 pub mod FurtherTrials
 pub mod Factor
 pub mod Family
+pub mod Places
+pub mod Asking
+pub mod Demand2
 pub mod Closing
 pub mod Structure
 pub mod Design

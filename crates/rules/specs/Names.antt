@@ -72,7 +72,7 @@ withCommas names [] = []
 withCommas names (c ∷ []) = getD names c []
 withCommas names (c ∷ d ∷ cs) = getD names c [] ++ 44 ∷ withCommas names (d ∷ cs)
 
--- "`U` for one class; `E` for N classes; the lowest column ..; `I(` names `)` ..; else `#` and its place in decimalOf"
+-- "`U` for one class; `E` for N classes; the lowest column ..; `I(` names `)` ..; else `#` and its place in decimal"
 unfoldable pub bytesOf : List (List ℕ) → Name → List ℕ
 unfolding withCommas decimalOf
 bytesOf names name-U = 85 ∷ []

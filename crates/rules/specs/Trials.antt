@@ -6,8 +6,8 @@ use Prim.Native.Nat.{ℕ, zero, suc, _-_}
 use lib.IntN.{ℤ, pos}
 use lib.ListN.{length, getD, replicate}
 use Rattle.rules.specs.Limits.{mostPlots, mostColumns, mostInteraction, familyBytes}
-use Rattle.rules.specs.Factor.{Column, classes}
-use Rattle.rules.specs.Design.{Answer, plotDesign, fullDesign}
+use Rattle.rules.specs.Factor.{Column, classes, orthogonal}
+use Rattle.rules.specs.Design.{Answer, Places, firstPair, plotDesign, fullDesign}
 use Rattle.rules.specs.Degrees.{degrees}
 use Rattle.rules.specs.Strata.{stratum, residuals}
 use Rattle.rules.specs.Names.{nameOf, bytesOf}
@@ -15,6 +15,8 @@ use Rattle.rules.specs.Names.{nameOf, bytesOf}
 pub data Trial : Type 0 where
   -- plots and plot columns; the number of the refusal and its two places
   refuses : ℕ → List Column → ℕ → ℕ → ℕ → Trial
+  -- plots and plot columns; the two places of the first pair of the plot family that is not orthogonal, though a question before 10 refuses
+  pairFails : ℕ → List Column → ℕ → ℕ → Trial
   -- plots and plot columns; the members' numbers of classes and degrees of freedom
   accepts : ℕ → List Column → List ℕ → List ℤ → Trial
   -- plots and plot columns, the columns' names, a place, and the name of the member there
@@ -60,6 +62,7 @@ trials =
     -- "Plots 1,1,2,2,3,3 and 1,2,1,3,2,3: refusal 10, places 2 and 3."
     ∷ refuses 6 ((1 ∷ 1 ∷ 2 ∷ 2 ∷ 3 ∷ 3 ∷ []) ∷ (1 ∷ 2 ∷ 1 ∷ 3 ∷ 2 ∷ 3 ∷ []) ∷ []) 10 2 3
     -- "Plots 1,1,1,2,2,2 and 1,1,2,1,2,2: refusal 9, place 4, though 10 fails also."
+    ∷ pairFails 6 ((1 ∷ 1 ∷ 1 ∷ 2 ∷ 2 ∷ 2 ∷ []) ∷ (1 ∷ 1 ∷ 2 ∷ 1 ∷ 2 ∷ 2 ∷ []) ∷ []) 2 3
     ∷ refuses 6 ((1 ∷ 1 ∷ 1 ∷ 2 ∷ 2 ∷ 2 ∷ []) ∷ (1 ∷ 1 ∷ 2 ∷ 1 ∷ 2 ∷ 2 ∷ []) ∷ []) 9 4 0
     -- "members of 1,2,4,4,8 classes; 1,1,2,2,2; the second is `#2`"
     ∷ accepts 8 (pairsOfEight ∷ crossedInHalves ∷ []) (1 ∷ 2 ∷ 4 ∷ 4 ∷ 8 ∷ []) (pos 1 ∷ pos 1 ∷ pos 2 ∷ pos 2 ∷ pos 2 ∷ [])
@@ -103,6 +106,9 @@ plotOutcome n Fs a = elim (a .refusal) [
   | suc q ↦ refuses n Fs (suc q) (a .places .first) (a .places .second)
 ]
 
+pairOutcome : ℕ → List Column → Places → Trial
+pairOutcome n Fs p = pairFails n Fs (p .first) (p .second)
+
 fullOutcome : ℕ → List Column → List Column → Answer → Trial
 unfolding classes stratum residuals
 fullOutcome n Fs Ts a = elim (a .refusal) [
@@ -112,11 +118,12 @@ fullOutcome n Fs Ts a = elim (a .refusal) [
 
 -- the trial with the outcome that the rules give it
 unfoldable pub observed : Trial → Trial
-unfolding plotOutcome fullOutcome plotTrial fullTrial nameOf bytesOf
+unfolding plotOutcome pairOutcome fullOutcome plotTrial fullTrial firstPair orthogonal nameOf bytesOf
 observed (refuses n Fs q i j) = plotOutcome n Fs (plotTrial n Fs)
 observed (accepts n Fs cs ds) = plotOutcome n Fs (plotTrial n Fs)
 observed (names n Fs ns i name) = names n Fs ns i (bytesOf ns (nameOf n Fs i (getD (plotTrial n Fs .plot) (i - 1) [])))
 observed (treats n Fs Ts cs ss ds) = fullOutcome n Fs Ts (fullTrial n Fs Ts)
+observed (pairFails n Fs i j) = pairOutcome n Fs (firstPair (orthogonal n) 1 (plotTrial n Fs .plot))
 
 -- each trial has the outcome stated
 pub trials-hold : map observed trials ≡ trials

@@ -1,4 +1,4 @@
--- `design::full_design` meets its contract: questions 6 and 7 of both kinds of columns, then questions 8 to 14.
+-- `design::full_design` meets its contract: questions 6 and 7 of both kinds of columns, then questions 8 to 14, and demand 2 of what is left.
 -- Assumes nothing.
 use mathlib.Core.Path.{_≡_, refl, sym, ap, _∙_}
 use mathlib.Core.Bool.{Bool, true, false, _&&_}
@@ -9,8 +9,8 @@ use borrow.Author.Needs.{needs}
 use borrow.Author.Tests.{not-true, not-false}
 use Rattle.rules.specs.Family.{columnsFrom, written}
 use Rattle.rules.specs.Design.{allNonzero, plotBuffer, treatmentBuffer}
-use Rattle.design.specs.Answers.{fullNumbersOf}
-use Rattle.design.proofs.WithTreatments.{FullLimits, full-limits, full-6, full-7, full-8}
+use Rattle.design.specs.Answers.{fullNumbers, fullNumbersOf}
+use Rattle.design.proofs.WithTreatments.{FullLimits, full-limits, full-6, full-7, full-8, promised}
 use Rattle.design.proofs.full_design.Statement.{statement}
 use Rattle.design.proofs.full_design.Tie as tie
 
@@ -33,7 +33,7 @@ returns c =
     let p = now (a .plot-family) in
     let b = now (a .treatment-family) in
     let e = full-6 (a .plots) (a .plot-columns) (a .treatment-columns) (a .k) levels (length p) (length b) (sym (w .full-within .ensures) ∙ not-true _ (c .before .if1 .taken)) in
-    (c .full-refused .ensures ∙ ap fullNumbersOf (sym e), (ap (plotBuffer p) (sym e), ap (treatmentBuffer b) (sym e)))
+    promised (a .plots) (a .plot-columns) (a .treatment-columns) (a .k) levels p b p b (fullNumbers (c .full-refused .result)) (c .full-refused .ensures ∙ ap fullNumbersOf (sym e)) (ap (plotBuffer p) (sym e)) (ap (treatmentBuffer b) (sym e))
 
 -- question 6 said yes
 in-limits : (c : tie.Else1) → FullLimits (c .before .before .before .before .before .args .plots) (c .before .before .before .before .before .args .plot-columns) (c .before .before .before .before .before .args .treatment-columns) (c .before .before .before .before .before .args .k) (length (now (c .before .before .before .before .before .args .levels))) (length (now (c .before .before .before .before .before .args .plot-family))) (length (now (c .before .before .before .before .before .args .treatment-family)))
@@ -57,7 +57,7 @@ returns-2 c =
     let yes = sym (w .full-within .ensures) ∙ not-false _ (z .before .if1 .left) in
     let no7 : allNonzero (columnsFrom (a .plots) levels 0 (a .plot-columns)) ≡ false = sym (z .all-nonzero .ensures) ∙ not-true _ (c .before .if2 .taken) in
     let e = full-7 (a .plots) (a .plot-columns) (a .treatment-columns) (a .k) levels (length p) (length b) yes (ap (λ (x : Bool). x && allNonzero (columnsFrom (a .plots) levels 6 (a .treatment-columns))) no7) in
-    (c .full-refused2 .ensures ∙ ap fullNumbersOf (sym e), (ap (plotBuffer p) (sym e), ap (treatmentBuffer b) (sym e)))
+    promised (a .plots) (a .plot-columns) (a .treatment-columns) (a .k) levels p b p b (fullNumbers (c .full-refused2 .result)) (c .full-refused2 .ensures ∙ ap fullNumbersOf (sym e)) (ap (plotBuffer p) (sym e)) (ap (treatmentBuffer b) (sym e))
 
 all-nonzero-requires-2 : tie.Need-all-nonzero-requires-2
 all-nonzero-requires-2 c κs = let l = in-limits (c .before .before) in (l .plots .most, omega (arith, l .treatments), l .plots .table)
@@ -78,7 +78,7 @@ returns-3 c =
     let yes = sym (w .full-within .ensures) ∙ not-false _ (z .before .if1 .left) in
     let no7 : allNonzero (columnsFrom (a .plots) levels 6 (a .treatment-columns)) ≡ false = sym (y .all-nonzero2 .ensures) ∙ not-true _ (c .before .if3 .taken) in
     let e = full-7 (a .plots) (a .plot-columns) (a .treatment-columns) (a .k) levels (length p) (length b) yes (and-false (allNonzero (columnsFrom (a .plots) levels 0 (a .plot-columns))) _ no7) in
-    (c .full-refused3 .ensures ∙ ap fullNumbersOf (sym e), (ap (plotBuffer p) (sym e), ap (treatmentBuffer b) (sym e)))
+    promised (a .plots) (a .plot-columns) (a .treatment-columns) (a .k) levels p b p b (fullNumbers (c .full-refused3 .result)) (c .full-refused3 .ensures ∙ ap fullNumbersOf (sym e)) (ap (plotBuffer p) (sym e)) (ap (treatmentBuffer b) (sym e))
 
 full-from-8-requires : tie.Need-full-from-8-requires
 full-from-8-requires c κs =
@@ -106,7 +106,7 @@ returns-4 c =
     let first = sym (z .all-nonzero .ensures) ∙ not-false _ (y .before .if2 .left) in
     let second = sym (y .all-nonzero2 .ensures) ∙ not-false _ (d .if3 .left) in
     let e = full-8 (a .plots) (a .plot-columns) (a .treatment-columns) (a .k) levels (length p) (length b) yes first second in
-    (f .full-from-8 .ensures .0 ∙ ap fullNumbersOf (sym e), (f .full-from-8 .ensures .1 .0 ∙ ap (plotBuffer p) (sym e), f .full-from-8 .ensures .1 .1 ∙ ap (treatmentBuffer b) (sym e)))
+    promised (a .plots) (a .plot-columns) (a .treatment-columns) (a .k) levels p b _ _ (fullNumbers (f .full-from-8 .result)) (f .full-from-8 .ensures .0 ∙ ap fullNumbersOf (sym e)) (f .full-from-8 .ensures .1 .0 ∙ ap (plotBuffer p) (sym e)) (f .full-from-8 .ensures .1 .1 ∙ ap (treatmentBuffer b) (sym e))
 
 pub full-design-spec : {M : Type 1} → statement M
 full-design-spec =

@@ -35,7 +35,7 @@ returns c =
     let q = c .before .before in
     let f = q .before .before .before .before .before .before in
     let e = sym (ap fullNumbers (q .found .given .1)) ∙ f .full-design .ensures .0 in
-    (ap refusalIn e, (f .full-design .ensures .1 .0, (f .full-design .ensures .1 .1, ap numbersIn e)))
+    (ap refusalIn e, (f .full-design .ensures .1 .0, (f .full-design .ensures .1 .1 .0, ap numbersIn e)))
 
 same-length-3 : tie.Need-same-length-3
 same-length-3 c = search needs
@@ -49,7 +49,7 @@ returns-2 c =
     let q = c .before .before in
     let f = q .before .before .before .before .before .before in
     let e = sym (ap fullNumbers (q .found2 .given .1)) ∙ f .full-design .ensures .0 in
-    (ap refusalIn e, (f .full-design .ensures .1 .0, (f .full-design .ensures .1 .1, ap numbersIn e)))
+    (ap refusalIn e, (f .full-design .ensures .1 .0, (f .full-design .ensures .1 .1 .0, ap numbersIn e)))
 
 pub rachdoum-full-design-spec : {M : Type 1} → statement M
 rachdoum-full-design-spec =

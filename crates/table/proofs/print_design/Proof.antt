@@ -75,7 +75,7 @@ print-refusal-requires c κs =
     let one : d .result .first ≡ design f .places .first = d .ensures .1 ∙ ap (λ (x : FullNumbers). x .first) (e .0) in
     let two : d .result .second ≡ design f .places .second = d .ensures .2 ∙ ap (λ (x : FullNumbers). x .second) (e .0) in (
       plots-nameable (number f) (s .pre .1) (s .pre .2) (design f) (tells f) empty empty long long (now (s .args .text)) (now (s .args .levels)) (s .pre .0) (s .pre .3) (f .full-design .last .1 .1 .1 .1 .1 .0) (e .1 .0),
-      treatments-nameable (number f) (s .pre .1) (s .pre .2) (design f) (tells f) empty empty long long (now (s .args .text)) (now (s .args .levels)) (s .pre .0) (s .pre .3) (f .full-design .last .1 .1 .1 .1 .1 .1 .0) (e .1 .1),
+      treatments-nameable (number f) (s .pre .1) (s .pre .2) (design f) (tells f) empty empty long long (now (s .args .text)) (now (s .args .levels)) (s .pre .0) (s .pre .3) (f .full-design .last .1 .1 .1 .1 .1 .1 .0) (e .1 .1 .0),
       omega (arith, one, few .0),
       omega (arith, two, few .1),
       s .pre .4,
@@ -95,7 +95,7 @@ returns c =
     let off = ap (λ (x : FullDesign). fullNumbers x .accepted) (c .before .before .before .before .before .before .before .enum-told .given .1) in
     wrote-as (now (s .args .out)) 0
     (ap rowsBytes
-    (refused-rows (number f) (s .pre .1) (s .pre .2) (design f) (tells f) empty empty long long (now (s .args .text)) (now (s .args .levels)) (fullNumbers (f .full-design .result)) (e .0) off (d .result .number) (d .result .first) (d .result .second) (d .ensures .0) (d .ensures .1) (d .ensures .2) (f .full-design .last .1 .1 .1 .1 .1 .0) (f .full-design .last .1 .1 .1 .1 .1 .1 .0) (e .1 .0) (e .1 .1)))
+    (refused-rows (number f) (s .pre .1) (s .pre .2) (design f) (tells f) empty empty long long (now (s .args .text)) (now (s .args .levels)) (fullNumbers (f .full-design .result)) (e .0) off (d .result .number) (d .result .first) (d .result .second) (d .ensures .0) (d .ensures .1) (d .ensures .2) (f .full-design .last .1 .1 .1 .1 .1 .0) (f .full-design .last .1 .1 .1 .1 .1 .1 .0) (e .1 .0) (e .1 .1 .0)))
     (c .before .before .print-refusal .ensures)
 
 slice-aggregate-print-accepted : tie.Need-slice-aggregate-print-accepted
@@ -111,7 +111,7 @@ print-accepted-requires c κs =
     let s = start f in
     let g = c .before .before .before .before .answer .given in
     let e = f .full-design .ensures in
-    (s .pre .0, s .pre .3, accepted-in (number f) (s .pre .1) (s .pre .2) (design f) (tells f) empty empty long long (now (s .args .text)) (now (s .args .levels)) _ (sym (ap fullNumbers (g .1)) ∙ e .0) refl (f .full-design .last .1 .1 .1 .1 .1 .0) (f .full-design .last .1 .1 .1 .1 .1 .1 .0) (e .1 .0) (e .1 .1), s .pre .4, s .pre .5)
+    (s .pre .0, s .pre .3, accepted-in (number f) (s .pre .1) (s .pre .2) (design f) (tells f) empty empty long long (now (s .args .text)) (now (s .args .levels)) _ (sym (ap fullNumbers (g .1)) ∙ e .0) refl (f .full-design .last .1 .1 .1 .1 .1 .0) (f .full-design .last .1 .1 .1 .1 .1 .1 .0) (e .1 .0) (e .1 .1 .0), s .pre .4, s .pre .5)
 
 same-length-2 : tie.Need-same-length-2
 same-length-2 c = search needs
@@ -124,7 +124,7 @@ returns-2 c =
     let g = c .before .before .before .before .before .before .before .answer .given in
     let e = f .full-design .ensures in
     wrote-as (now (s .args .out)) 0
-    (ap rowsBytes (accepted-rows (number f) (s .pre .1) (s .pre .2) (design f) (tells f) empty empty long long (now (s .args .text)) (now (s .args .levels)) _ (sym (ap fullNumbers (g .1)) ∙ e .0) refl (f .full-design .last .1 .1 .1 .1 .1 .0) (f .full-design .last .1 .1 .1 .1 .1 .1 .0) (e .1 .0) (e .1 .1)))
+    (ap rowsBytes (accepted-rows (number f) (s .pre .1) (s .pre .2) (design f) (tells f) empty empty long long (now (s .args .text)) (now (s .args .levels)) _ (sym (ap fullNumbers (g .1)) ∙ e .0) refl (f .full-design .last .1 .1 .1 .1 .1 .0) (f .full-design .last .1 .1 .1 .1 .1 .1 .0) (e .1 .0) (e .1 .1 .0)))
     (c .before .before .print-accepted .ensures)
 
 pub print-design-spec : {M : Type 1} → statement M
