@@ -2,16 +2,13 @@
 -- Assumes nothing.
 use mathlib.Core.Bool.{Bool, true, false, _&&_}
 use mathlib.Core.List.{List}
-use Prim.Native.Nat.{ℕ, _*_}
+use Prim.Native.Nat.{ℕ}
 use lib.Dec.{leb}
-use lib.ListN.{length, take, drop}
+use lib.ListN.{length}
 use Rattle.rules.specs.Limits.{mostPlots, familyBytes}
 use Rattle.rules.specs.Factor.{Column, number, classes}
 use Rattle.rules.specs.Family.{alike, membersOf, wellFormed}
-
--- the member at place i, from 0, of a family buffer
-abbrev pub columnAt : ℕ → List ℕ → ℕ → Column
-columnAt n buffer i = take n (drop (240 * i) buffer)
+pub use Rattle.factor.specs.Lent.{columnAt}
 
 -- 15 of the family that a buffer lends: at most 240 plots, a buffer that is long enough, and members of the form
 unfoldable pub formedIn : ℕ → List ℕ → ℕ → Bool

@@ -15,6 +15,21 @@ use limits::PLOTS;
 // Stands for the number of classes of a column that is not numbered by first appearance.
 const UNNUMBERED: usize = PLOTS + 1;
 
+// The member at place `i` of a family on `n` plots, or as much of it as the slice has.
+pub fn member(family: &[u8], i: usize, n: usize) -> &[u8]
+    ensures { λ r. ⌜ now r ≡ columnAt n (now (family .entry)) i ⌝ }
+{
+    if family.len() / PLOTS < i {
+        return &family[..0];
+    }
+    let start = PLOTS * i;
+    if family.len() - start < n {
+        return &family[start..];
+    }
+    let end = start + n;
+    &family[start..end]
+}
+
 // 6, of one family.
 pub fn within(plots: usize, bytes: usize) -> bool
     ensures { λ r. ⌜ r ≡ plotsWithin plots && leb 7680 bytes ⌝ }
@@ -28,7 +43,8 @@ pub fn within(plots: usize, bytes: usize) -> bool
     FAMILY <= bytes
 }
 
-// 15: 1 to 32 members in the numbering and order of the rules, no two alike. No where 6 says no to the plots or the bytes.
+// 15: 1 to 32 members in the numbering and order of the rules, no two alike. No of more plots than a column has, or of fewer bytes than a
+// family has; that there is a plot at all is for 6 to ask.
 pub fn well_formed(family: &[u8], plots: usize, size: usize) -> bool
     ensures { λ r. ⌜ r ≡ formedIn plots (now (family .entry)) size ⌝ }
 {
@@ -81,9 +97,7 @@ fn member_classes(family: &[u8], i: usize, n: usize) -> usize
     requires { ⌜ (n ≤ 240) × (7680 ≤ length (now family)) × (i < 32) ⌝ }
     ensures { λ r. ⌜ r ≡ numberedClasses (columnAt n (now (family .entry)) i) ⌝ }
 {
-    let a = PLOTS * i;
-    let e = a + n;
-    numbered_classes(&family[a..e])
+    numbered_classes(member(family, i, n))
 }
 
 // Whether member `i`, of `k` classes, stands before member `j`, of `m`: at a tie the columns decide.
@@ -94,11 +108,7 @@ fn member_before(family: &[u8], i: usize, k: usize, j: usize, m: usize, n: usize
     if k != m {
         return k < m;
     }
-    let a = PLOTS * i;
-    let b = PLOTS * j;
-    let c = a + n;
-    let d = b + n;
-    factor::smaller(&family[a..c], &family[b..d])
+    factor::smaller(member(family, i, n), member(family, j, n))
 }
 
 // Whether every member is numbered by first appearance and stands before the next. Each is counted once.
