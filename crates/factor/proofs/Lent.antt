@@ -40,6 +40,12 @@ test-all test n F G lF lG h =
     let e : common F G ≡ n = omega arith in
     ap (λ (m : ℕ). onCommon (test m) F G) e ∙ common-all (test n) F G (lF ∙ sym lG) (omega arith)
 
+-- a test of two columns that are lent as parts of buffers
+pub test-parts : {A : Type 0} (test : ℕ → Column → Column → A) (n : ℕ) (b d : List ℕ) (i j : ℕ) → n ≤ 240 → 240 * i + n ≤ length b → 240 * j + n ≤ length d
+    → (X Y : Column) → X ≡ columnAt n b i → Y ≡ columnAt n d j → testCommon test X Y ≡ test n (columnAt n b i) (columnAt n d j)
+test-parts test n b d i j h hb hd X Y eX eY =
+    ap₂ (testCommon test) eX eY ∙ test-all test n (columnAt n b i) (columnAt n d j) (length-part n i b hb) (length-part n j d hd) h
+
 pub finer-common : (n : ℕ) (F G : Column) → n ≤ 240 → length F ≡ n → length G ≡ n → testCommon finer F G ≡ finer n F G
 finer-common n F G h lF lG = test-all finer n F G lF lG h
 

@@ -12,11 +12,11 @@ columnAt n buffer i = take n (drop (mostPlots * i) buffer)
 
 -- the plots of a column: at most the first 240
 abbrev pub plotsOf : Column → Column
-plotsOf F = take 240 F
+plotsOf F = take mostPlots F
 
 -- how many plots two columns have in common
 abbrev pub common : Column → Column → ℕ
-common F G = min 240 (min (length F) (length G))
+common F G = min mostPlots (min (length F) (length G))
 
 -- an operation on two columns over those plots
 abbrev pub onCommon : {A : Type 0} → (Column → Column → A) → Column → Column → A

@@ -4,10 +4,11 @@ ghost use mathlib.Core.Bool.{true, false, _&&_};
 ghost use Prim.Native.Nat.{ℕ, _≤_, _<_};
 ghost use lib.Dec.{leb};
 ghost use lib.ListN.{length};
-ghost use Rattle.rules.specs.Factor.{at, classes};
+ghost use Rattle.rules.specs.Limits.{mostPlots, mostMembers, familyBytes};
+ghost use Rattle.rules.specs.Factor.{at};
 ghost use Rattle.rules.specs.Family.{membersOf, before, allNumbered, ordered, wellFormed};
 ghost use Rattle.rules.specs.Design.{plotsWithin};
-ghost use Rattle.families.specs.Lent.{columnAt, formedIn, numberedClasses};
+ghost use Rattle.families.specs.Lent.{columnAt, CountedMembers, formedIn, numberedClasses};
 use limits::FAMILY;
 use limits::MEMBERS;
 use limits::PLOTS;
@@ -32,7 +33,7 @@ pub fn member(family: &[u8], i: usize, n: usize) -> &[u8]
 
 // 6, of one family.
 pub fn within(plots: usize, bytes: usize) -> bool
-    ensures { λ r. ⌜ r ≡ plotsWithin plots && leb 7680 bytes ⌝ }
+    ensures { λ r. ⌜ r ≡ plotsWithin plots && leb familyBytes bytes ⌝ }
 {
     if plots < 1 {
         return false;
@@ -94,7 +95,7 @@ fn numbered_classes(column: &[u8]) -> usize
 
 // The same of a member.
 fn member_classes(family: &[u8], i: usize, n: usize) -> usize
-    requires { ⌜ (n ≤ 240) × (7680 ≤ length (now family)) × (i < 32) ⌝ }
+    requires { ⌜ (n ≤ mostPlots) × (familyBytes ≤ length (now family)) × (i < mostMembers) ⌝ }
     ensures { λ r. ⌜ r ≡ numberedClasses (columnAt n (now (family .entry)) i) ⌝ }
 {
     numbered_classes(member(family, i, n))
@@ -102,7 +103,7 @@ fn member_classes(family: &[u8], i: usize, n: usize) -> usize
 
 // Whether member `i`, of `k` classes, stands before member `j`, of `m`: at a tie the columns decide.
 fn member_before(family: &[u8], i: usize, k: usize, j: usize, m: usize, n: usize) -> bool
-    requires { ⌜ (n ≤ 240) × (7680 ≤ length (now family)) × (i < 32) × (j < 32) × (k ≡ classes (columnAt n (now family) i)) × (m ≡ classes (columnAt n (now family) j)) ⌝ }
+    requires { ⌜ CountedMembers n (now family) i k j m ⌝ }
     ensures { λ r. ⌜ r ≡ before (columnAt n (now (family .entry)) i) (columnAt n (now (family .entry)) j) ⌝ }
 {
     if k != m {
@@ -113,7 +114,7 @@ fn member_before(family: &[u8], i: usize, k: usize, j: usize, m: usize, n: usize
 
 // Whether every member is numbered by first appearance and stands before the next. Each is counted once.
 fn numbered_in_order(family: &[u8], n: usize, size: usize) -> bool
-    requires { ⌜ (n ≤ 240) × (7680 ≤ length (now family)) × (1 ≤ size) × (size ≤ 32) ⌝ }
+    requires { ⌜ (n ≤ mostPlots) × (familyBytes ≤ length (now family)) × (1 ≤ size) × (size ≤ mostMembers) ⌝ }
     ensures { λ r. ⌜ r ≡ allNumbered (membersOf n (now (family .entry)) size) && ordered (membersOf n (now (family .entry)) size) ⌝ }
 {
     let mut k = member_classes(family, 0, n);
@@ -135,7 +136,7 @@ fn numbered_in_order(family: &[u8], n: usize, size: usize) -> bool
 
 // 15, once the plots and the bytes are within limits.
 fn formed(family: &[u8], n: usize, size: usize) -> bool
-    requires { ⌜ (n ≤ 240) × (7680 ≤ length (now family)) ⌝ }
+    requires { ⌜ (n ≤ mostPlots) × (familyBytes ≤ length (now family)) ⌝ }
     ensures { λ r. ⌜ r ≡ wellFormed (membersOf n (now (family .entry)) size) ⌝ }
 {
     if size < 1 {
