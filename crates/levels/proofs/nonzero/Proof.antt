@@ -6,9 +6,9 @@ use native.Mathlib.Omega.{arith}
 use denote.Ref.{now}
 use lib.ListN.{length, drop}
 use Rattle.rules.specs.Design.{nonzero}
-use Rattle.design.proofs.Asked.{nonzero-stops, nonzero-on, nonzero-end}
-use Rattle.design.proofs.questions.nonzero.Statement.{statement}
-use Rattle.design.proofs.questions.nonzero.Tie as tie
+use Rattle.levels.proofs.Asked.{nonzero-stops, nonzero-on, nonzero-end}
+use Rattle.levels.proofs.nonzero.Statement.{statement}
+use Rattle.levels.proofs.nonzero.Tie as tie
 
 abbrev Inv-loop : tie.InvT-loop
 Inv-loop column u₀ u-end u = (u ≤ length column) × (u-end ≡ length column) × (nonzero column ≡ nonzero (drop u column))
