@@ -93,15 +93,19 @@ def _is_control(character: str) -> bool:
     return character < " " and character not in "\t\n" or "\x7f" <= character < "\xa0"
 
 
-def _separator(title: str) -> str:
-    return next((mark for mark in SEPARATORS if mark in title), " ")
+def _separator(title: str, text: str) -> str:
+    """What separates fields. A first line without any has one column: a level may then have blanks, but no separator."""
+    found = next((mark for mark in SEPARATORS if mark in title), "")
+    if found or " " in title.strip():
+        return found or " "
+    return next((mark for mark in SEPARATORS if mark in text), SEPARATORS[0])
 
 
 def _records(text: str) -> Records:
     """The lines that are not empty, as fields without blanks around them, each with its number."""
     lines = text.split("\n")
     start = next((i for i, line in enumerate(lines) if line.strip()), 0)
-    separator = _separator(lines[start])
+    separator = _separator(lines[start], text)
     if len(lines[start].strip()) == 5 and lines[start].strip().startswith("sep="):
         separator = lines[start].strip()[4]
         start += 1
