@@ -118,7 +118,7 @@ def _plan_file(path: str, options: argparse.Namespace, output: Output) -> int:
     notes = [] if options.quiet else notes_on(plan, crossed)
     _print_plan(plan, notes, options, output)
     for note in notes:
-        _print_note(table, note, output)
+        _print_note(note, output)
     return TABLE_GIVEN
 
 
@@ -150,11 +150,9 @@ def _print_refusal(table: Table, refusal: Refusal, options: argparse.Namespace, 
     output.message(f"  Remedy: {refusal.remedy[:1].upper()}{refusal.remedy[1:]}")
 
 
-def _print_note(table: Table, note: Note, output: Output) -> None:
+def _print_note(note: Note, output: Output) -> None:
     output.message(f"note: {note.text} (--crossed {note.child},{note.parent} leaves this note out.)")
-    if isinstance(note.other, Refusal):
-        output.message(f"  With {note.option} it is refused ({note.other.number}): {note.other.what}")
-    elif note.other is not None:
+    if note.other is not None:
         output.message(f"  With {note.option} the table is:")
         output.message("".join(f"    {line}\n" for line in aligned(note.other).splitlines()).rstrip("\n"))
 
@@ -175,7 +173,7 @@ def _run(options: argparse.Namespace, output: Output) -> int:
         import json
 
         whole = output.documents[0] if len(options.files) == 1 else output.documents
-        output.table(json.dumps(whole, indent=2, ensure_ascii=False) + "\n")
+        output.table(json.dumps(whole, indent=2) + "\n")
     return status
 
 

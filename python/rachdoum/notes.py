@@ -2,12 +2,11 @@
 from __future__ import annotations
 
 from dataclasses import dataclass
-from typing import Iterable, List, Optional, Union
+from typing import Iterable, List, Optional
 
 from .nesting import Pair, plural, starting_again, words
 from .planning import Plan, plan_of
-from .refusals import Refusal
-from .tables import Table, nest, shown
+from .tables import nest, shown
 
 MOST_TABLES = 3
 
@@ -19,7 +18,7 @@ class Note:
     child: str
     parent: str
     text: str
-    other: Optional[Union[Plan, Refusal]]
+    other: Optional[Plan]
 
     @property
     def option(self) -> str:
@@ -28,7 +27,9 @@ class Note:
 
 
 def notes_on(plan: Plan, crossed: Iterable[Pair] = ()) -> List[Note]:
-    """The notes on a plan. Up to three of them carry the other reading: its plan, or its refusal.
+    """The notes on a plan. Where there are at most three, each carries the plan of the other reading.
+
+    That reading is always accepted: a column combined with its parent is a member of the plot family that was accepted.
 
     >>> from .planning import plan as make
     >>> table = {"p:Hut": [1, 1, 2, 2], "p:Pier": [1, 2, 1, 2], "t:Gain": [1, 2, 2, 1]}
@@ -52,11 +53,4 @@ def _note(plan: Plan, pair: Pair, whole: bool) -> Note:
         f"{child} {first} is taken as one {one} that all {parents} {plural(parent)[1]} share. If these are different "
         f"{several}, number them consecutively or add --nested {words(pair)}."
     )
-    return Note(child, parent, text, _other(table, pair, plan.k) if whole else None)
-
-
-def _other(table: Table, pair: Pair, k: int) -> Union[Plan, Refusal]:
-    try:
-        return plan_of(nest(table, [pair]), k)
-    except Refusal as refusal:
-        return refusal
+    return Note(child, parent, text, plan_of(nest(table, [pair]), plan.k) if whole else None)

@@ -47,10 +47,15 @@ class Member(NamedTuple):
     classes: Tuple[int, ...]
 
 
-def quoted(text: str) -> str:
+def brief(text: str) -> str:
     """A text of the user in a message: shortened, without characters that a terminal would obey."""
     plain = "".join(character if character.isprintable() else "?" for character in text)
-    return f"`{plain if len(plain) <= LONGEST_SHOWN else plain[:LONGEST_SHOWN] + '..'}`"
+    return plain if len(plain) <= LONGEST_SHOWN else plain[:LONGEST_SHOWN] + ".."
+
+
+def quoted(text: str) -> str:
+    """A text of the user in a message, with marks around it."""
+    return f"`{brief(text)}`"
 
 
 def listed(names: Sequence[str]) -> str:
@@ -250,7 +255,7 @@ def _class(table: Table, member: Member, number: int) -> str:
     rows = [row for row, c in enumerate(member.classes) if c == number]
     if member.columns:
         first = table.rows[rows[0]]
-        return " with ".join(f"{name} {shown(first[table.column(name).place - 1])}" for name in member.columns)
+        return " with ".join(f"{name} {brief(shown(first[table.column(name).place - 1]))}" for name in member.columns)
     spots = [table.spot(row) for row in rows[:MOST_LINES]]
     more = ", .." if len(rows) > MOST_LINES else ""
     return f"the class of {member.name} with {', '.join(spots)}{more}"
