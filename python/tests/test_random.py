@@ -5,6 +5,7 @@ RACHDOUM_REFERENCE names the second implementation's program; RACHDOUM_DESIGNS h
 import ctypes
 import json
 import os
+import random
 import subprocess
 import unittest
 
@@ -110,12 +111,10 @@ def orthogonal(first, second):
 
 class Evenness(unittest.TestCase):
     def test_an_uneven_meeting_is_found_exactly_where_there_is_one(self):
-        import random
-
         chance, seen = random.Random(SEED), {True: 0, False: 0}
         for _ in range(3000):
             plots = chance.choice([4, 6, 8])
-            first = [chance.randrange(2) for _ in range(plots)]
+            first = [chance.randrange(chance.choice([2, 3])) for _ in range(plots)]
             second = [chance.randrange(chance.choice([2, 3])) for _ in range(plots)]
             if chance.random() < 0.3:
                 second = [plot % 2 + 2 * (plot >= plots // 2) for plot in range(plots)]
