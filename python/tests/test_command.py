@@ -1,5 +1,7 @@
 """The command: every example, its options, its exit statuses, and what it prints where."""
+import contextlib
 import glob
+import io
 import json
 import os
 import resource
@@ -9,7 +11,7 @@ import tempfile
 import unittest
 
 from rachdoum import library
-from support import EXAMPLES, run
+from support import EXAMPLES, ROOT, run
 
 LATIN = b"Hut,Pier,Gain\n1,1,1\n1,2,2\n1,3,3\n2,1,2\n2,2,3\n2,3,1\n3,1,3\n3,2,1\n3,3,2\n"
 KINDS = ["--plots", "Hut,Pier", "--treatments", "Gain"]
@@ -232,6 +234,50 @@ class Notes(unittest.TestCase):
     def test_columns_that_are_not_used(self):
         err = run("plan", "-", "--plots", "Hut", "--treatments", "Gain", data=LATIN)[2]
         self.assertEqual(err, "standard input: not used: Pier\n")
+
+
+class Documents(unittest.TestCase):
+    """What the documents show is what the command prints."""
+
+    def document(self, *path):
+        with open(os.path.join(ROOT, *path), encoding="utf-8") as file:
+            return file.read()
+
+    def side_by_side(self, text):
+        """The two columns of the first block with two sheets: text on the left, text on the right."""
+        block = text[text.index("numbered anew in each hut  ") :].split("```")[0]
+        split = block.index("numbered consecutively")
+        lines = block.splitlines()[2:]
+        return [[line[:split].rstrip() for line in lines], [line[split:].rstrip() for line in lines]]
+
+    def sheet(self, lines):
+        return "\n".join(lines[: lines.index("")] if "" in lines else lines).encode()
+
+    def test_readme(self):
+        text = self.document("README.md")
+        for lines, table in zip(self.side_by_side(text), (CROSSED_TABLE, NESTED_TABLE)):
+            shown = "\n".join(lines[lines.index("") + 1 :]).rstrip("\n") + "\n"
+            self.assertEqual(shown, table.decode())
+            self.assertEqual(run("plan", "-", "--quiet", data=self.sheet(lines))[:2], (0, table))
+        self.assertIn(NOTE.splitlines()[0], text)
+
+    def test_refusals(self):
+        whole = self.document("docs", "REFUSALS.md")
+        for number, names in ((10, "Logger\tPier"), (13, "Pier\tGain")):
+            left, right = self.side_by_side(whole[whole.index(f"### {number}. ") :])
+            refused = f"refused\t{number}\t{names}\n"
+            self.assertIn(refused.strip().replace("\t", "→"), whole)
+            self.assertEqual(run("plan", "-", "--tsv", data=self.sheet(left))[:2], (1, refused.encode()))
+            status, out, err = run("plan", "-", "--tsv", data=self.sheet(right))
+            self.assertEqual((status, err), (0, ""))
+            self.assertEqual(run("plan", "-", "--tsv", "--nested", "Pier/Hut", data=self.sheet(left)), (0, out, ""))
+
+    def test_python_in_documents(self):
+        for path, expected in ((("README.md",), "1 df of E"), (("docs", "COMMAND.md"), "2 df of E")):
+            code = self.document(*path).split("```python\n")[1].split("```")[0]
+            with contextlib.redirect_stdout(io.StringIO()) as out:
+                exec(code, {})
+            self.assertEqual(out.getvalue().splitlines()[-1], expected)
 
 
 class WrongCalls(unittest.TestCase):
