@@ -27,8 +27,13 @@ installed() {
   (cd "$work" && env -u RACHDOUM_LIBRARY PYTHONPATH="$work/site" site/bin/rachdoum plan --tsv huts.sheet | cmp - huts.table)
 }
 
+# old ARCHIVE: there is none, or a source is newer
+old() {
+  [[ ! -e $1 || -n $(find crates.txt crates -name must-fail -prune -o -newer "$1" -print -quit) ]]
+}
+
 archive=${RACHDOUM_LIB:-target/staticlib}/librachdoum.a
-if [[ ! -f $archive ]]; then
+if [[ -z ${RACHDOUM_LIB:-} ]] && old "$archive"; then
   step 'archive' rt staticlib rachdoum
 fi
 step 'shared library built' \

@@ -6,7 +6,7 @@ import os
 import sys
 from typing import Any, Dict, List, Optional
 
-from . import library
+from . import __version__, library
 from .nesting import Pair
 from .notes import Note, notes_on
 from .planning import Plan, plan_of, prepare
@@ -47,6 +47,7 @@ def parser() -> argparse.ArgumentParser:
     """The command's arguments."""
     form = argparse.RawDescriptionHelpFormatter
     top = argparse.ArgumentParser("rachdoum", description=DESCRIPTION, epilog=EXAMPLES, formatter_class=form)
+    top.add_argument("--version", action="version", version=f"%(prog)s {__version__}")
     commands = top.add_subparsers(dest="command", metavar="COMMAND", required=True)
     plan = commands.add_parser(
         "plan", help="print the table of each file", description=DESCRIPTION, epilog=EXAMPLES, formatter_class=form
@@ -162,7 +163,7 @@ def _run(options: argparse.Namespace, output: Output) -> int:
     for path in options.files:
         try:
             status = max(status, _plan_file(path, options, output))
-        except (WrongCall, ValueError) as error:
+        except WrongCall as error:
             output.message(f"rachdoum: {error}")
             return WRONG_CALL
         except OSError as error:

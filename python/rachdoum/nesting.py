@@ -4,7 +4,7 @@ from __future__ import annotations
 from typing import Iterable, List, Sequence, Tuple
 
 from .groupings import changes, crosses, finer
-from .tables import PLOT, Column, Table
+from .tables import PLOT, Column, Table, WrongCall
 
 Pair = Tuple[str, str]
 
@@ -22,7 +22,7 @@ def parse(text: str) -> List[Pair]:
     """
     names = [name.strip() for name in text.split("/")]
     if len(names) < 2 or not all(names):
-        raise ValueError(f"{text!r} is not of the form CHILD/PARENT, such as Pier/Hut")
+        raise WrongCall(f"{text!r} is not of the form CHILD/PARENT, such as Pier/Hut")
     return list(zip(names, names[1:]))
 
 

@@ -36,7 +36,7 @@ def notes_on(plan: Plan, crossed: Iterable[Pair] = ()) -> List[Note]:
     >>> for note in notes_on(make(table)):
     ...     print(note.text)
     ...     print(note.option, "->", note.other.source("Gain").test)
-    Pier 1 is taken as one pier that all 2 huts share. If these are different piers, number them consecutively or add --nested Pier/Hut.
+    Pier 1 is taken as one pier that both huts share. If these are different piers, number them consecutively or add --nested Pier/Hut.
     --nested Pier/Hut -> 1 df of E
     """
     pairs = starting_again(plan.table, list(crossed))
@@ -49,8 +49,9 @@ def _note(plan: Plan, pair: Pair, whole: bool) -> Note:
     one, several = plural(child)
     first = shown(table.cells(table.column(child))[0])
     parents = len(set(table.cells(table.column(parent))))
+    all_of_them = "both" if parents == 2 else f"all {parents}"
     text = (
-        f"{child} {first} is taken as one {one} that all {parents} {plural(parent)[1]} share. If these are different "
+        f"{child} {first} is taken as one {one} that {all_of_them} {plural(parent)[1]} share. If these are different "
         f"{several}, number them consecutively or add --nested {words(pair)}."
     )
     return Note(child, parent, text, plan_of(nest(table, [pair]), plan.k) if whole else None)

@@ -9,7 +9,7 @@ from typing import Callable, Dict, List, NamedTuple, Optional, Sequence, Tuple
 
 from . import library
 from .groupings import combined, uneven
-from .nesting import Pair, other_readings, plural, words
+from .nesting import other_readings, plural, words
 from .tables import PLOT, TREATMENT, Column, Table, cannot_be_shown, is_missing, nest, rules_take, shown
 
 NAME_FORM = "a name has 2 to 12 letters or digits, a letter first, without blanks, hyphens or accents"
@@ -129,11 +129,10 @@ def _no_kind(table: Table, column: Column) -> Tuple[str, str]:
     name = quoted(column.name)
     if column.name.replace(".", "").isdigit():
         return f"{name} is no column name.", "begin with a line that names the columns, such as p:Hut and t:Gain."
-    kinds = [c.name for c in table.columns if not c.kind]
-    example = f"--plots {kinds[0]} --treatments {kinds[-1]}" if len(kinds) > 1 else f"--treatments {kinds[0]}"
+    names = [brief(c.name) for c in table.columns]
     return (
         f"{name} is not marked as a plot column or a treatment.",
-        f"write p: (plot) or t: (treatment) before each name, or name the columns in the call, for example {example}.",
+        f"write p: (plot) or t: (treatment) before each name, or add --plots NAMES --treatments NAMES; there are {listed(names)}.",
     )
 
 
@@ -256,9 +255,8 @@ def _class(table: Table, member: Member, number: int) -> str:
     if member.columns:
         first = table.rows[rows[0]]
         return " with ".join(f"{name} {brief(shown(first[table.column(name).place - 1]))}" for name in member.columns)
-    spots = [table.spot(row) for row in rows[:MOST_LINES]]
     more = ", .." if len(rows) > MOST_LINES else ""
-    return f"the class of {member.name} with {', '.join(spots)}{more}"
+    return f"the class of {member.name} with {table.spot(*rows[:MOST_LINES])}{more}"
 
 
 def _meeting(table: Table, number: int, first: Member, second: Member) -> Tuple[str, str]:

@@ -179,7 +179,10 @@ def label(value: Any) -> str:
     >>> [label(value) for value in (1, 1.0, 2.5, " north ", None, float("nan"))]
     ['1', '1', '2.5', 'north', '', '']
     """
-    if value is None or value != value:
+    try:
+        if value is None or value != value:
+            return ""
+    except (TypeError, ValueError):  # a missing value of a data frame is equal to nothing, not even unequal
         return ""
     if isinstance(value, float) and value.is_integer():
         return str(int(value))

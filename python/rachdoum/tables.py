@@ -48,9 +48,10 @@ class Table:
     raw: Optional[bytes] = None
     fault: Tuple[str, ...] = ()
 
-    def spot(self, row: int) -> str:
-        """What a row is called in a message: a line of a file, or a plot."""
-        return f"line {self.lines[row]}" if self.lines else f"plot {row + 1}"
+    def spot(self, *rows: int) -> str:
+        """What a row, or some, are called in a message: lines of a file, or plots."""
+        numbers = ", ".join(str(self.lines[row] if self.lines else row + 1) for row in rows)
+        return f"{'line' if self.lines else 'plot'}{'s' if len(rows) > 1 else ''} {numbers}"
 
     def width(self) -> int:
         """How many fields each row should have."""
@@ -229,18 +230,17 @@ class Sheet:
     own: Dict[str, str] = field(default_factory=dict)
 
     def columns(self, name: str) -> List[str]:
-        """The user's names of the columns that a member's name lists; none for U, E and `#`."""
-        if name in OWN_NAMES or name.startswith("#"):
+        """The user's names of the columns whose levels together tell a member's classes apart; none for U, E, `S(` and `#`."""
+        if name in OWN_NAMES or name.startswith(("#", "S(")):
             return []
-        inner = name[2:-1].split(",") if name.startswith(("I(", "S(")) else [name]
+        inner = name[2:-1].split(",") if name.startswith("I(") else [name]
         return [self.own.get(part, part) for part in inner]
 
     def show(self, name: str) -> str:
         """A member's name with the user's names of the columns."""
-        if not self.own or not self.columns(name):
-            return name
-        inner = ",".join(self.columns(name))
-        return f"{name[:2]}{inner})" if name.startswith(("I(", "S(")) else inner
+        if not name.startswith(("I(", "S(")):
+            return self.own.get(name, name)
+        return f"{name[:2]}{','.join(self.own.get(part, part) for part in name[2:-1].split(','))})"
 
 
 def _handed_names(table: Table, strict: bool) -> List[str]:

@@ -3,7 +3,7 @@ import unittest
 
 from support import run
 
-MARK = "Write p: (plot) or t: (treatment) before each name, or name the columns in the call, for example "
+MARK = "Write p: (plot) or t: (treatment) before each name, or add --plots NAMES --treatments NAMES; there are "
 LEVEL = "A level is only a label: write another number or a word; take out a plot whose level is not known."
 FIELDS = "Give each line as many fields as there are columns, separated as in the first line."
 EMPTY = "Look whether the right file was given."
@@ -40,15 +40,15 @@ FILES = {
     ),
     "one column without a mark": (
         b"p:Hut,Gain\n1,1\n1,2\n", [], 3, "line 1, field 2: `Gain` is not marked as a plot column or a treatment.",
-        MARK + "--treatments Gain.",
+        MARK + "Hut and Gain.",
     ),
     "no column with a mark, below empty lines": (
         b"\n\nHut;Pier;Gain\n1;1;1\n", [], 3, "line 3, field 1: `Hut` is not marked as a plot column or a treatment.",
-        MARK + "--plots Hut --treatments Gain.",
+        MARK + "Hut, Pier and Gain.",
     ),
     "a title above the names": (
         b"Trial of May\np:Hut,t:Gain\n1,1\n", [], 3, "line 1, field 1: `Trial` is not marked as a plot column or a treatment.",
-        MARK + "--plots Trial --treatments May.",
+        MARK + "Trial, of and May.",
     ),
     "two columns with one name": (
         b"p:Hut,t:Hut\n1,1\n2,1\n", [], 3, "line 1, field 2: two columns are called `Hut`.", "Rename one of them.",

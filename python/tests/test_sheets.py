@@ -3,8 +3,8 @@ import unittest
 
 from rachdoum import planning
 from rachdoum.sheets import read_bytes, read_table
-from rachdoum.tables import WrongCall, choose, columns_of, nest, sheet
-from support import run, sheet_bytes
+from rachdoum.tables import WrongCall, choose, nest, sheet
+from support import run
 
 TITLES = ["p:Hut", "p:Pier", "t:Gain"]
 ROWS = [["north", 1, 10], ["north", 2, 20], ["south", 3, 20], ["south", 4, 10]]
