@@ -145,11 +145,17 @@ def _later_line(table: Table, number: int, strict: bool) -> Refusal:
         for column in table.columns:
             cell = row[column.place - 1]
             if is_missing(cell):
-                what = f"{quoted(cell)} stands for a missing level" if cell else "there is no level"
-                remedy = "a level is only a label: write another number or a word; take out a plot whose level is not known."
-                what = f"{table.spot(place)}, {column.name}: {what}."
+                what, remedy = _missing(cell)
+                what = f"{table.spot(place)}, {column.name}: {what}"
                 return Refusal(number, what, remedy, source=table.source, line=_line(table, place), column=column.name)
     return Refusal(number, "a line is out of form.", "look at the levels.", source=table.source)
+
+
+def _missing(cell: str) -> Tuple[str, str]:
+    out = "take out a plot whose level is not known."
+    if not cell:
+        return "there is no level.", f"write the level in every line, also where cells are merged; {out}"
+    return f"{quoted(cell)} stands for a missing level.", f"a level is only a label: write another number or a word; {out}"
 
 
 def _line(table: Table, row: int) -> Optional[int]:

@@ -76,10 +76,11 @@ class Table:
 def is_zero(text: str) -> bool:
     """Whether a level is zero, however it is written. Zero stands for a missing level.
 
-    >>> [is_zero(text) for text in ("0", "00", "0.0", "-0", "10", "")]
-    [True, True, True, True, False, False]
+    >>> [is_zero(text) for text in ("0", "00", "0,0", "-0", "10", "0-0", "")]
+    [True, True, True, True, False, False, False]
     """
-    return text[:1] in "+-0" and text.strip("+-.,0") == "" and "0" in text
+    parts = text.lstrip("+-").replace(",", ".").split(".")
+    return "0" in text and len(parts) <= 2 and not "".join(parts).strip("0")
 
 
 def is_missing(text: str) -> bool:

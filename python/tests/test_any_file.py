@@ -16,6 +16,8 @@ PIECES = [
 OPTIONS = [
     [], [], [], ["--tsv"], ["--json"], ["--quiet"], ["--k", "2"], ["--plots", "Hut"], ["--plots", "Plot1", "--treatments", "Treat1"],
     ["--nested", "Plot2/Plot1"], ["--nested", "Pier/Hut", "--crossed", "Pier,Hut"], ["--tsv", "--k", "1"],
+    ["--nested", "/"], ["--nested", "Hut/Hut"], ["--nested", "Plot3/Plot2/Plot1"], ["--crossed", ","], ["--plots", ","],
+    ["--plots", "Plot1", "--treatments", "Treat1,Plot1"], ["--plots", "\x1b[31m"],
 ]
 
 

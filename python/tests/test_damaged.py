@@ -89,7 +89,8 @@ FILES = {
         b"p:Hut,t:Cable\n1,1\n1,0\n2,1\n2,0\n", [], 4, "line 3, Cable: `0` stands for a missing level.", LEVEL,
     ),
     "a field left empty": (
-        b"p:Hut;t:Cable\r\n1;1\r\n1;2\r\n;1\r\n2;2\r\n", [], 4, "line 4, Hut: there is no level.", LEVEL,
+        b"p:Hut;t:Cable\r\n1;1\r\n1;2\r\n;1\r\n2;2\r\n", [], 4, "line 4, Hut: there is no level.",
+        "Write the level in every line, also where cells are merged; take out a plot whose level is not known.",
     ),
     "a missing value of R": (
         b"p:Hut t:Gain\n1 1\n1 NA\n", [], 4, "line 3, Gain: `NA` stands for a missing level.", LEVEL,
