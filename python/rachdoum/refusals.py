@@ -211,13 +211,15 @@ def _renumbering(table: Table, k: int, accepts: Accepts) -> str:
     return ""
 
 
-def _with_levels(table: Table, kind: str) -> List[str]:
-    return [f"{c.name} ({len(set(table.cells(c)))})" for c in table.of_kind(kind)]
+def _with_levels(table: Table, kind: str) -> str:
+    """The columns of a kind, with their numbers of levels."""
+    counts = [(c.name, len(set(table.cells(c)))) for c in table.of_kind(kind)]
+    return listed([f"{name} ({count}{' levels' if place == 0 else ''})" for place, (name, count) in enumerate(counts)])
 
 
 def _plot_family(table: Table, sizes: Tuple[int, ...], k: int, accepts: Accepts) -> Tuple[str, str]:
     return (
-        f"the plot columns {listed(_with_levels(table, PLOT))} {_make(table, PLOT)}.",
+        f"the plot columns {_with_levels(table, PLOT)} {_make(table, PLOT)}.",
         "number consecutively what lies inside something else, or leave out a plot column.",
     )
 
@@ -234,7 +236,7 @@ def _treatment_family(table: Table, sizes: Tuple[int, ...], k: int, accepts: Acc
     lower = next((lower for lower in range(k - 1, 0, -1) if accepts(table, lower)), 0)
     shorter = f"add --k {lower}, which takes combinations of at most {_count(lower, 'column')}" if lower else ""
     other = "leave out a treatment, or write two as one with a level for each combination."
-    what = f"the treatments {listed(_with_levels(table, TREATMENT))} {_make(table, TREATMENT)}."
+    what = f"the treatments {_with_levels(table, TREATMENT)} {_make(table, TREATMENT)}."
     return what, f"{shorter}; or {other}" if shorter else other
 
 

@@ -140,7 +140,7 @@ FILES = {
     ),
     "six crossed plot columns": (
         crossed("p:Site,p:Hut,p:Pier,p:Month,p:Week,p:Shift"), [], 8,
-        "the plot columns Site (2), Hut (2), Pier (2), Month (2), Week (2) and Shift (2) and their combinations make 63 "
+        "the plot columns Site (2 levels), Hut (2), Pier (2), Month (2), Week (2) and Shift (2) and their combinations make 63 "
         "groupings, and at most 32 are taken.",
         "If numbers start again (Hut in each site and Pier in each hut), number them consecutively or add --nested Hut/Site "
         "--nested Pier/Hut, which gives a table; otherwise number consecutively what lies inside something else, or leave out a "
@@ -164,7 +164,7 @@ FILES = {
     ),
     "six crossed treatments": (
         crossed("t:Gain,t:Cable,t:Filter,t:Amplifier,t:Logger,t:Mount"), [], 11,
-        "the treatments Gain (2), Cable (2), Filter (2), Amplifier (2), Logger (2) and Mount (2) and their combinations make 63 "
+        "the treatments Gain (2 levels), Cable (2), Filter (2), Amplifier (2), Logger (2) and Mount (2) and their combinations make 63 "
         "groupings, and at most 32 are taken.",
         "Add --k 2, which takes combinations of at most 2 columns; or leave out a treatment, or write two as one with a level for "
         "each combination.",

@@ -6,6 +6,7 @@ import ctypes
 import json
 import os
 import random
+import re
 import subprocess
 import unittest
 
@@ -79,17 +80,27 @@ class RandomDesigns(unittest.TestCase):
             number = expected.split(b"\t")[1].decode()
             self.assertEqual((status, out), (1, b""))
             self.assertTrue(err.startswith(f"rachdoum: standard input: refused ({number}): "), err)
+            self.try_remedy(text, err)
         else:
             self.assertEqual(lines_of_aligned(out), lines_of_tsv(expected))
             whole = json.loads(run("plan", "-", "--json", "--quiet", data=text)[1])
             self.assertEqual(lines_of_json(whole), lines_of_tsv(expected))
         return refused
 
+    def try_remedy(self, text, err):
+        """What a remedy says to add does give a table."""
+        options = [part for pair in re.findall(r"(--nested) ([^ ,]+)", err) for part in pair]
+        options += [part for pair in re.findall(r"(--k) (\d)", err) for part in pair]
+        if options:
+            self.tried += 1
+            self.assertEqual(run("plan", "-", "--quiet", *options, data=text)[0], 0, err)
+
     def test_designs(self):
-        refused = 0
+        refused = self.tried = 0
         for seed in range(SEED, SEED + DESIGNS):
             with self.subTest(seed=seed):
                 refused += self.check(seed)
+        self.assertGreater(self.tried, DESIGNS // 100)
         self.assertGreater(refused, DESIGNS // 10)
         self.assertGreater(DESIGNS - refused, DESIGNS // 10)
 
