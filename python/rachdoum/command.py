@@ -15,7 +15,7 @@ from .sheets import read_file
 from .show import aligned, as_dictionary, refusal_as_dictionary
 from .tables import Table, WrongCall, sheet
 
-TABLE_GIVEN, REFUSED, WRONG_CALL = 0, 1, 2
+TABLE_GIVEN, REFUSED, WRONG_CALL, INTERRUPTED = 0, 1, 2, 130
 
 DESCRIPTION = """\
 Prints the skeleton analysis-of-variance table of a planned trial: in which stratum each comparison is tested,
@@ -97,17 +97,18 @@ class Output:
                 stream.reconfigure(errors="backslashreplace")
 
     def table(self, text: str) -> None:
-        sys.stdout.write(text)
+        """Prints a table, or a part of one."""
+        print(text, end="", flush=True)
 
     def message(self, text: str) -> None:
-        sys.stdout.flush()
+        """Prints a message, without characters that a terminal would obey."""
         plain = "".join(c if c.isprintable() or c == "\n" else "?" for c in text)
         print(plain, file=sys.stderr)
 
 
-def _plan_file(path: str, options: argparse.Namespace, output: Output) -> int:
-    """Plans one file and answers the exit status."""
-    table = prepare(read_file(path), _names(options.plots), _names(options.treatments), options.nested)
+def _plan_table(given: Table, options: argparse.Namespace, output: Output) -> int:
+    """Plans one table and answers the exit status."""
+    table = prepare(given, _names(options.plots), _names(options.treatments), options.nested)
     crossed = _crossed(options.crossed, table) if table.columns else []
     if table.unused and not options.quiet:
         output.message(f"{table.source}: not used: {', '.join(table.unused)}")
@@ -162,14 +163,16 @@ def _run(options: argparse.Namespace, output: Output) -> int:
     status = TABLE_GIVEN
     for path in options.files:
         try:
-            status = max(status, _plan_file(path, options, output))
-        except WrongCall as error:
+            table = read_file(path)
+        except OSError as error:
+            output.message(f"rachdoum: {path}: {error.strerror or error}")
+            status = WRONG_CALL
+            continue
+        try:
+            status = max(status, _plan_table(table, options, output))
+        except (WrongCall, library.LibraryMissing) as error:
             output.message(f"rachdoum: {error}")
             return WRONG_CALL
-        except OSError as error:
-            reason = error if isinstance(error, library.LibraryMissing) else f"{path}: {error.strerror or error}"
-            output.message(f"rachdoum: {reason}")
-            status = WRONG_CALL
     if options.json and output.documents:
         import json
 
@@ -180,13 +183,20 @@ def _run(options: argparse.Namespace, output: Output) -> int:
 
 def main(arguments: Optional[List[str]] = None) -> int:
     """Runs the command and answers its exit status."""
+    options = parser().parse_args(arguments)
     try:
-        options = parser().parse_args(arguments)
-        status = _run(options, Output())
-        sys.stdout.flush()
-        return status
+        return _run(options, Output())
     except BrokenPipeError:
-        os.dup2(os.open(os.devnull, os.O_WRONLY), sys.stdout.fileno())
+        _leave_output()
         return TABLE_GIVEN
+    except OSError as error:
+        _leave_output()
+        print(f"rachdoum: the table cannot be written: {error.strerror or error}", file=sys.stderr)
+        return WRONG_CALL
     except KeyboardInterrupt:
-        return 130
+        return INTERRUPTED
+
+
+def _leave_output() -> None:
+    """Python flushes standard output once more at its end: what is left goes nowhere."""
+    os.dup2(os.open(os.devnull, os.O_WRONLY), sys.stdout.fileno())

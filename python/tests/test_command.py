@@ -102,6 +102,19 @@ all      total           12
             writer.stderr.close()
             writer.wait()
 
+    def test_streams_that_are_closed_or_full(self):
+        command = f"{sys.executable} -m rachdoum plan "
+        huts = os.path.join(EXAMPLES, "huts.sheet")
+        for arguments, status, message in (
+            (f"{huts} > /dev/full", 2, "rachdoum: the table cannot be written: No space left on device\n"),
+            (f"{huts} --json > /dev/full", 2, "rachdoum: the table cannot be written: No space left on device\n"),
+            (f"{huts} >&-", 0, ""),
+            ("- <&-", 2, "rachdoum: -: there is no standard input\n"),
+        ):
+            with self.subTest(arguments):
+                done = subprocess.run(command + arguments, shell=True, stderr=subprocess.PIPE, timeout=60)
+                self.assertEqual((done.returncode, done.stderr.decode()), (status, message))
+
     def test_names_in_a_plain_locale(self):
         data = "p:Hütte,t:Verstärkung\n1,1\n1,2\n2,1\n2,2\n".encode("utf-8")
         done = program("plan", "-", data=data, LC_ALL="C", PYTHONUTF8="0", PYTHONIOENCODING="ascii")
