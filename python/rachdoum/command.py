@@ -120,7 +120,7 @@ def _plan_table(given: Table, options: argparse.Namespace, output: Output) -> in
     notes = [] if options.quiet else notes_on(plan, crossed)
     _print_plan(plan, notes, options, output)
     for note in notes:
-        _print_note(note, output)
+        _print_note(note, f"{table.source}: " if len(options.files) > 1 else "", output)
     return TABLE_GIVEN
 
 
@@ -152,8 +152,8 @@ def _print_refusal(table: Table, refusal: Refusal, options: argparse.Namespace, 
     output.message(f"  Remedy: {refusal.remedy[:1].upper()}{refusal.remedy[1:]}")
 
 
-def _print_note(note: Note, output: Output) -> None:
-    output.message(f"note: {note.text} (--crossed {note.child},{note.parent} leaves this note out.)")
+def _print_note(note: Note, heading: str, output: Output) -> None:
+    output.message(f"{heading}note: {note.text} (--crossed {note.child},{note.parent} leaves this note out.)")
     if note.other is not None:
         output.message(f"  With {note.option} the table is:")
         output.message("".join(f"    {line}\n" for line in aligned(note.other).splitlines()).rstrip("\n"))

@@ -329,6 +329,10 @@ class WrongCalls(unittest.TestCase):
         status, out, err = run("plan", path, path)
         self.assertEqual((status, out.decode().count(f"{path}:\n")), (0, 2))
 
+    def test_notes_on_several_files_say_which(self):
+        path = os.path.join(EXAMPLES, "example-4.sheet")
+        self.assertTrue(run("plan", path, path)[2].startswith(f"{path}: note: Subcolumn 1 is taken as one subcolumn"))
+
 
 class Large(unittest.TestCase):
     def plan_in_little_memory(self, path):
