@@ -100,7 +100,7 @@ class RandomDesigns(unittest.TestCase):
         for seed in range(SEED, SEED + DESIGNS):
             with self.subTest(seed=seed):
                 refused += self.check(seed)
-        self.assertGreater(self.tried, DESIGNS // 100)
+        self.assertGreaterEqual(self.tried, DESIGNS // 100)
         self.assertGreater(refused, DESIGNS // 10)
         self.assertGreater(DESIGNS - refused, DESIGNS // 10)
 
