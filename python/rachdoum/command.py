@@ -12,7 +12,7 @@ from .notes import Note, notes_on
 from .planning import Plan, plan_of, prepare
 from .refusals import Refusal
 from .sheets import read_file
-from .show import aligned, as_dictionary, refusal_as_dictionary
+from .show import aligned, as_dictionary, note_as_dictionary, refusal_as_dictionary
 from .tables import Table, WrongCall, sheet
 
 TABLE_GIVEN, REFUSED, WRONG_CALL, INTERRUPTED = 0, 1, 2, 130
@@ -127,7 +127,7 @@ def _plan_table(given: Table, options: argparse.Namespace, output: Output) -> in
 def _print_plan(plan: Plan, notes: List[Note], options: argparse.Namespace, output: Output) -> None:
     if options.json:
         document: Dict[str, Any] = {"file": plan.table.source, **as_dictionary(plan)}
-        document["notes"] = [{"text": note.text, "option": note.option} for note in notes]
+        document["notes"] = [note_as_dictionary(note) for note in notes]
         output.documents.append(document)
     elif options.tsv:
         output.table(_printed(plan.table) if options.k == library.INTERACTIONS else plan.tsv())

@@ -97,10 +97,9 @@ def _first_line(table: Table, number: int, strict: bool) -> Refusal:
     for column in table.columns:
         fault = _title_fault(table, column, strict)
         if fault:
-            where = f"line {table.first_line}, field {column.place}: " if table.lines or table.first_line else ""
-            return Refusal(
-                number, where + fault[0], fault[1], source=table.source, line=table.first_line, column=column.name
-            )
+            where = f"line {table.first_line}, field {column.place}" if table.first_line else f"column {column.place}"
+            line = table.first_line or None
+            return Refusal(number, f"{where}: {fault[0]}", fault[1], source=table.source, line=line, column=column.name)
     return Refusal(number, "the column names are out of form.", f"{NAME_FORM}.", source=table.source)
 
 
@@ -139,7 +138,8 @@ def _no_kind(table: Table, column: Column) -> Tuple[str, str]:
 def _later_line(table: Table, number: int, strict: bool) -> Refusal:
     for place, row in enumerate(table.rows):
         if len(row) != table.width():
-            what = f"{table.spot(place)} has {_count(len(row), 'field')}, the first line has {table.width()}."
+            columns = f"the first line has {table.width()}" if table.first_line else f"there are {table.width()} columns"
+            what = f"{table.spot(place)} has {_count(len(row), 'field')}, {columns}."
             remedy = "give each line as many fields as there are columns, separated as in the first line."
             return Refusal(number, what, remedy, source=table.source, line=_line(table, place))
         for column in table.columns:

@@ -3,7 +3,8 @@ from __future__ import annotations
 
 from typing import Any, Dict, List, Sequence, Tuple
 
-from .planning import Member, Plan
+from .notes import Note
+from .planning import Member, Plan, Stratum
 from .refusals import Refusal
 
 TITLES = ("stratum", "source", "df", "tested against")
@@ -46,20 +47,21 @@ def as_dictionary(plan: Plan) -> Dict[str, Any]:
     return {
         "plots": plan.plots,
         "k": plan.k,
-        "strata": [
-            {
-                "name": stratum.name,
-                "df": stratum.degrees,
-                "residual": stratum.residual,
-                "sources": [
-                    {"name": s.name, "df": s.degrees, "testable": s.testable, "against": s.against, "test": s.test}
-                    for s in stratum.sources
-                ],
-            }
-            for stratum in plan.strata
-        ],
+        "strata": [_stratum(stratum) for stratum in plan.strata],
         "plot_family": [_member(member) for member in plan.plot_family],
         "treatment_family": [_member(member) for member in plan.treatment_family],
+    }
+
+
+def _stratum(stratum: Stratum) -> Dict[str, Any]:
+    return {
+        "name": stratum.name,
+        "df": stratum.degrees,
+        "residual": stratum.residual,
+        "sources": [
+            {"name": s.name, "df": s.degrees, "testable": s.testable, "against": s.against, "test": s.test}
+            for s in stratum.sources
+        ],
     }
 
 
@@ -71,6 +73,12 @@ def _member(member: Member) -> Dict[str, Any]:
         "coarser": list(member.coarser),
         "above": list(member.above),
     }
+
+
+def note_as_dictionary(note: Note) -> Dict[str, Any]:
+    """A note as JSON has it, with the strata of the other reading where the note carries it."""
+    other = [_stratum(stratum) for stratum in note.other.strata] if note.other else None
+    return {"text": note.text, "option": note.option, "strata": other}
 
 
 def refusal_as_dictionary(refusal: Refusal) -> Dict[str, Any]:

@@ -36,13 +36,16 @@ class Column:
 
 @dataclass(frozen=True)
 class Table:
-    """Plots and their levels as texts. A row may have too many or too few fields: the library will refuse it."""
+    """Plots and their levels as texts. A row may have too many or too few fields: the library will refuse it.
+
+    The table of a file has the number of the line with the titles, and of the line of each row.
+    """
 
     source: str
     columns: Tuple[Column, ...]
     rows: Tuple[Tuple[str, ...], ...]
     lines: Tuple[int, ...] = ()
-    first_line: int = 1
+    first_line: int = 0
     unused: Tuple[str, ...] = ()
     given: int = 0
     raw: Optional[bytes] = None

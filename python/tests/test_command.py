@@ -243,6 +243,7 @@ class Notes(unittest.TestCase):
     def test_in_json(self):
         note = json.loads(run("plan", "-", "--json", *KINDS, data=LATIN)[1])["notes"][0]
         self.assertEqual((note["option"], note["text"][:30]), ("--nested Pier/Hut", "Pier 1 is taken as one pier th"))
+        self.assertEqual([(s["name"], s["df"], s["residual"]) for s in note["strata"]], [("U", 1, 0), ("Hut", 2, 2), ("E", 6, 4)])
 
     def test_columns_that_are_not_used(self):
         err = run("plan", "-", "--plots", "Hut", "--treatments", "Gain", data=LATIN)[2]

@@ -1,10 +1,12 @@
 """The entries, byte for byte: what goes in and what comes out is what the C entries take and answer."""
 import ctypes
 import os
+import re
 import unittest
 from unittest import mock
 
 from rachdoum import library
+from support import ROOT
 
 HUTS = b"p:Hut\tt:Gain\n1\t1\n1\t2\n2\t1\n2\t2\n"
 
@@ -73,6 +75,29 @@ class Entries(unittest.TestCase):
 
     def test_bytes_with_a_zero_in_them(self):
         self.assertEqual(library.skeleton(b"p:Hut\n1\0\n"), (0, b"refused\t4\t-\t-\n"))
+
+
+class Header(unittest.TestCase):
+    """The declarations here are those of the header."""
+
+    with open(os.path.join(ROOT, "include", "rachdoum.h"), encoding="utf-8") as file:
+        text = file.read()
+
+    def test_every_entry_is_declared(self):
+        self.assertEqual(set(re.findall(r"uint32_t rachdoum_(\w+)\(", self.text)), set(library._SIGNATURES))
+
+    def test_limits(self):
+        own = {
+            "PLOTS": library.PLOTS, "COLUMNS": library.COLUMNS, "INTERACTION": library.INTERACTIONS, "MEMBERS": library.MEMBERS,
+            "TEXT": library.TEXT_BYTES, "LEVELS": library.LEVEL_CELLS, "FAMILY": library.FAMILY_BYTES, "NAME": library.NAME_BYTES,
+            "TABLE": library.TABLE_BYTES,
+        }
+        for name, number in re.findall(r"#define RACHDOUM_(\w+) (\d+)", self.text):
+            self.assertEqual((name, int(number)), (name, own[name]))
+
+    def test_width_of_a_level(self):
+        bits = 8 * ctypes.sizeof(library.LEVEL)
+        self.assertRegex(self.text, rf"typedef uint{bits}_t rachdoum_level;|uint{bits}_t \*levels")
 
 
 class Finding(unittest.TestCase):

@@ -102,6 +102,13 @@ class Refusals(unittest.TestCase):
         refusal = self.refusal([["p:Hut", "t:Gain"], [1, 1], [1, None]])
         self.assertEqual((refusal.number, refusal.line, refusal.what), (4, None, "plot 2, Gain: there is no level."))
 
+    def test_where_titles_and_rows_of_a_caller_are_wrong(self):
+        refusal = self.refusal({"p:Hut": [1], "Gain": [1]})
+        self.assertEqual((refusal.number, refusal.line, refusal.column), (3, None, "Gain"))
+        self.assertEqual(refusal.what, "column 2: `Gain` is not marked as a plot column or a treatment.")
+        refusal = self.refusal([["p:Hut", "t:Gain"], [1, 1], [1]])
+        self.assertEqual((refusal.number, refusal.what), (4, "plot 2 has 1 field, there are 2 columns."))
+
     def test_names_as_the_user_has_them(self):
         refusal = self.refusal({"p:Hut number": ["x", "x", "y"], "t:Gain": [1, 1, 1]})
         self.assertEqual((refusal.number, refusal.names), (9, ("Hut number",)))
