@@ -133,7 +133,7 @@ def choose(table: Table, plots: Any = None, treatments: Any = None) -> Table:
     if not kinds:
         return table
     marked = [replace(column, kind=kinds.get(column.name, column.kind)) for column in table.columns]
-    unused = tuple(column.name for column in marked if not column.kind)
+    unused = tuple(column.name for column in marked if column.name and not column.kind)
     return replace(table, columns=tuple(c for c in marked if c.kind), unused=unused, given=table.width())
 
 

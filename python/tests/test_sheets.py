@@ -96,6 +96,10 @@ class Tables(unittest.TestCase):
         self.assertEqual([(c.name, c.kind) for c in chosen.columns], [("Hut", "p"), ("Pier", "p"), ("Gain", "t")])
         self.assertEqual((chosen.unused, sheet(chosen).text), (("Note",), b"p:Hut\tp:Pier\tt:Gain\n1\t1\t1\n"))
 
+    def test_row_numbers_that_r_writes(self):
+        table = choose(read_bytes(b'"","Hut","Gain"\n"1",1,"low"\n"2",1,"high"\n'), "Hut", "Gain")
+        self.assertEqual((table.unused, sheet(table).text), ((), b"p:Hut\tt:Gain\n1\t1\n1\t2\n"))
+
     def test_wrong_choices(self):
         table = read_bytes(b"Hut,Gain\n1,2\n")
         with self.assertRaisesRegex(WrongCall, "there is no column 'Hat': the text has Hut, Gain"):
