@@ -13,7 +13,7 @@ from .planning import Plan, plan_of, prepare
 from .refusals import Refusal
 from .sheets import read_file
 from .show import aligned, as_dictionary, note_as_dictionary, refusal_as_dictionary
-from .tables import Table, WrongCall, sheet
+from .tables import Table, WrongCall, row_of, sheet
 
 TABLE_GIVEN, REFUSED, WRONG_CALL, INTERRUPTED = 0, 1, 2, 130
 
@@ -111,7 +111,7 @@ def _plan_table(given: Table, options: argparse.Namespace, output: Output) -> in
     table = prepare(given, _names(options.plots), _names(options.treatments), options.nested)
     crossed = _crossed(options.crossed, table) if table.columns else []
     if table.unused and not options.quiet:
-        output.message(f"{table.source}: not used: {', '.join(table.unused)}")
+        output.message(f"{table.source}: not used: {row_of(table.unused)}")
     try:
         plan = plan_of(table, options.k, strict=options.tsv)
     except Refusal as refusal:

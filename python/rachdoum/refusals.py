@@ -5,15 +5,16 @@ The library gives the number and the places. This module only looks for the cell
 from __future__ import annotations
 
 from collections import Counter
-from typing import Callable, Dict, List, NamedTuple, Optional, Sequence, Tuple
+from typing import Callable, Dict, NamedTuple, Optional, Sequence, Tuple
 
 from . import library
 from .groupings import combined, uneven
 from .nesting import other_readings, plural, words
-from .tables import PLOT, TREATMENT, Column, Table, cannot_be_shown, is_missing, nest, rules_take, shown
+from .tables import PLOT, TREATMENT, Column, Table, brief, cannot_be_shown, is_missing, nest, row_of, rules_take, shown
 
-NAME_FORM = "a name has 2 to 12 letters or digits, a letter first, without blanks, hyphens or accents"
-LONGEST_SHOWN = 40
+NAME_FORM = "a name has {} to {} letters or digits, a letter first, without blanks, hyphens or accents".format(
+    *library.NAME_LENGTHS
+)
 MOST_LINES = 6
 
 # Whether the library accepts a table with an interaction level.
@@ -47,12 +48,6 @@ class Member(NamedTuple):
     classes: Tuple[int, ...]
 
 
-def brief(text: str) -> str:
-    """A text of the user in a message: shortened, without characters that a terminal would obey."""
-    plain = "".join(character if character.isprintable() else "?" for character in text)
-    return plain if len(plain) <= LONGEST_SHOWN else plain[:LONGEST_SHOWN] + ".."
-
-
 def quoted(text: str) -> str:
     """A text of the user in a message, with marks around it."""
     return f"`{brief(text)}`"
@@ -74,33 +69,42 @@ def of_text(table: Table, number: int, strict: bool) -> Refusal:
     """The refusal of a text, with the first place that breaks its form."""
     if table.fault:
         return Refusal(number, f"{table.fault[0]}.", f"{table.fault[1]}.", source=table.source)
-    finder = {2: _length, 3: _first_line, 4: _later_line}.get(number, _plot_count)
-    return finder(table, number, strict)
+    finders = {2: (_empty, _many_plots, _titles, _rows), 3: (_titles,), 4: (_rows,)}.get(number, (_no_plot, _many_plots))
+    for finder in finders:
+        found = finder(table, number, strict)
+        if found:
+            return found
+    return Refusal(number, "it is out of form.", "see docs/REFUSALS.md.", source=table.source)
 
 
-def _length(table: Table, number: int, strict: bool) -> Refusal:
-    if not table.columns and not table.rows:
-        return Refusal(number, "it is empty.", "look whether the right file was given.", source=table.source)
-    return _plot_count(table, number, strict)
+def _empty(table: Table, number: int, strict: bool) -> Optional[Refusal]:
+    if table.columns or table.rows:
+        return None
+    return Refusal(number, "it is empty.", "look whether the right file was given.", source=table.source)
 
 
-def _plot_count(table: Table, number: int, strict: bool) -> Refusal:
-    if not table.rows:
-        what, remedy = "it has column names and no plot.", "write one line for each plot below the names."
-    else:
-        what = f"it has {len(table.rows):,} plots, and at most {library.PLOTS} are taken."
-        remedy = "look whether each line is one plot; split a larger trial."
-    return Refusal(number, what, remedy, source=table.source)
+def _no_plot(table: Table, number: int, strict: bool) -> Optional[Refusal]:
+    if table.rows:
+        return None
+    remedy = "write one line for each plot below the names."
+    return Refusal(number, "it has column names and no plot.", remedy, source=table.source)
 
 
-def _first_line(table: Table, number: int, strict: bool) -> Refusal:
+def _many_plots(table: Table, number: int, strict: bool) -> Optional[Refusal]:
+    if len(table.rows) <= library.PLOTS:
+        return None
+    what = f"it has {len(table.rows):,} plots, and at most {library.PLOTS} are taken."
+    return Refusal(number, what, "look whether each line is one plot; split a larger trial.", source=table.source)
+
+
+def _titles(table: Table, number: int, strict: bool) -> Optional[Refusal]:
     for column in table.columns:
         fault = _title_fault(table, column, strict)
         if fault:
             where = f"line {table.first_line}, field {column.place}" if table.first_line else f"column {column.place}"
             line = table.first_line or None
             return Refusal(number, f"{where}: {fault[0]}", fault[1], source=table.source, line=line, column=column.name)
-    return Refusal(number, "the column names are out of form.", f"{NAME_FORM}.", source=table.source)
+    return None
 
 
 def _title_fault(table: Table, column: Column, strict: bool) -> Optional[Tuple[str, str]]:
@@ -114,7 +118,8 @@ def _title_fault(table: Table, column: Column, strict: bool) -> Optional[Tuple[s
         return f"two columns are called {name}.", "rename one of them."
     if sum(c.kind == column.kind for c in before) == library.COLUMNS:
         kind = "plot column" if column.kind == PLOT else "treatment"
-        return f"{name} is {kind} number 7, and at most 6 are taken.", f"leave out a {kind}."
+        most = library.COLUMNS
+        return f"{name} is {kind} number {most + 1}, and at most {most} are taken.", f"leave out a {kind}."
     reason = cannot_be_shown(column.name)
     if reason:
         return f"{name} cannot be a name: {reason}.", "rename the column."
@@ -128,14 +133,14 @@ def _no_kind(table: Table, column: Column) -> Tuple[str, str]:
     name = quoted(column.name)
     if column.name.replace(".", "").isdigit():
         return f"{name} is no column name.", "begin with a line that names the columns, such as p:Hut and t:Gain."
-    names = [brief(c.name) for c in table.columns]
+    names = row_of([c.name for c in table.columns])
     return (
         f"{name} is not marked as a plot column or a treatment.",
-        f"write p: (plot) or t: (treatment) before each name, or add --plots NAMES --treatments NAMES; there are {listed(names)}.",
+        f"write p: (plot) or t: (treatment) before each name, or add --plots NAMES --treatments NAMES, of {names}.",
     )
 
 
-def _later_line(table: Table, number: int, strict: bool) -> Refusal:
+def _rows(table: Table, number: int, strict: bool) -> Optional[Refusal]:
     for place, row in enumerate(table.rows):
         if len(row) != table.width():
             columns = f"the first line has {table.width()}" if table.first_line else f"there are {table.width()} columns"
@@ -146,9 +151,9 @@ def _later_line(table: Table, number: int, strict: bool) -> Refusal:
             cell = row[column.place - 1]
             if is_missing(cell):
                 what, remedy = _missing(cell)
-                what = f"{table.spot(place)}, {column.name}: {what}"
+                what = f"{table.spot(place)}, {brief(column.name)}: {what}"
                 return Refusal(number, what, remedy, source=table.source, line=_line(table, place), column=column.name)
-    return Refusal(number, "a line is out of form.", "look at the levels.", source=table.source)
+    return None
 
 
 def _missing(cell: str) -> Tuple[str, str]:

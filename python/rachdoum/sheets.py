@@ -15,6 +15,7 @@ from .tables import Table, columns_of
 
 FILE_BYTES = 1 << 20
 SEPARATORS = ("\t", ";", ",")
+SEPARATOR_LINES = ("sep=;", "sep=,", "sep=|")
 BYTE_ORDER_MARKS = ((b"\xef\xbb\xbf", "utf-8-sig"), (b"\xff\xfe", "utf-16"), (b"\xfe\xff", "utf-16"))
 
 Records = List[Tuple[int, Tuple[str, ...]]]
@@ -59,10 +60,8 @@ def read_bytes(data: bytes, source: str = "the text") -> Table:
 
 def _width(records: List[Tuple[str, ...]]) -> int:
     """How many fields the table has: those of the first line without the last ones that are empty in every line."""
-    width = len(records[0])
-    while width > 1 and not any(any(row[width - 1 :]) for row in records):
-        width -= 1
-    return width
+    used = max(max((place for place, part in enumerate(row, 1) if part), default=0) for row in records)
+    return max(1, min(used, len(records[0])))
 
 
 def _cut(row: Tuple[str, ...], width: int) -> Tuple[str, ...]:
@@ -106,8 +105,8 @@ def _records(text: str) -> Records:
     lines = text.split("\n")
     start = next((i for i, line in enumerate(lines) if line.strip()), 0)
     separator = _separator(lines[start], text)
-    if len(lines[start].strip()) == 5 and lines[start].strip().startswith("sep="):
-        separator = lines[start].strip()[4]
+    if lines[start].strip() in SEPARATOR_LINES:
+        separator = lines[start].strip()[-1]
         start += 1
     if '"' in text:
         records: Iterable[Tuple[int, Sequence[str]]] = _quoted(lines, start, separator)

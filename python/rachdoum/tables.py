@@ -17,6 +17,10 @@ MISSING = ("", "NA", "N/A", "#N/A", "NaN")
 OWN_NAMES = ("U", "E")
 OWN_STARTS = ("I(", "S(", "#", "=")
 
+# What a message shows of the user's texts.
+LONGEST_SHOWN = 40
+MOST_LISTED = 12
+
 # Stands between a level and the parent that it is nested in. No file that is read has this character.
 WITHIN = "\x1f"
 
@@ -69,11 +73,22 @@ class Table:
         for column in self.columns:
             if column.name == name:
                 return column
-        raise WrongCall(f"there is no column {name!r}: {self.source} has {', '.join(c.name for c in self.columns)}")
+        raise WrongCall(f"there is no column {name!r}: {self.source} has {row_of([c.name for c in self.columns])}")
 
     def cells(self, column: Column) -> List[str]:
         """The levels of a column, one for each plot. All rows must be long enough."""
         return [row[column.place - 1] for row in self.rows]
+
+
+def row_of(names: Sequence[str]) -> str:
+    """Names in a row for a message: shortened, and no more than some."""
+    return ", ".join([brief(name) for name in names[:MOST_LISTED]] + [".."] * (len(names) > MOST_LISTED))
+
+
+def brief(text: str) -> str:
+    """A text of the user in a message: shortened, without characters that a terminal would obey."""
+    plain = "".join(character if character.isprintable() else "?" for character in text[: LONGEST_SHOWN + 1])
+    return plain if len(plain) <= LONGEST_SHOWN else plain[:LONGEST_SHOWN] + ".."
 
 
 def is_zero(text: str) -> bool:
@@ -249,16 +264,19 @@ class Sheet:
 
 def _handed_names(table: Table, strict: bool) -> List[str]:
     """A name for each column that the rules take, where the user's can be shown; a name with a fault stays as it is."""
-    taken = {column.name for column in table.columns}
-    names = []
-    for column in table.columns:
-        name = column.name
-        if column.kind and not strict and not rules_take(name) and not cannot_be_shown(name):
-            twins = [c for c in table.columns if c.name == name]
-            name = next(f"Column{i}" for i in range(1, 999) if f"Column{i}" not in taken) if len(twins) == 1 else name
-            taken.add(name)
-        names.append(name)
-    return names
+    names = [column.name for column in table.columns]
+    if strict or len(names) > 2 * library.COLUMNS:
+        return names
+    free = (f"Column{i}" for i in range(1, 4 * library.COLUMNS + 1) if f"Column{i}" not in names)
+    return [
+        next(free) if column.kind and not _is_fit(column.name) and names.count(column.name) == 1 else column.name
+        for column in table.columns
+    ]
+
+
+def _is_fit(name: str) -> bool:
+    """Whether a name goes to the library as it is: the rules take it, or it cannot be shown and is to be refused."""
+    return rules_take(name) or bool(cannot_be_shown(name))
 
 
 def sheet(table: Table, strict: bool = False) -> Sheet:

@@ -2,6 +2,7 @@
 import glob
 import os
 import random
+import time
 import unittest
 
 from support import EXAMPLES, design, run, sheet_bytes
@@ -50,7 +51,36 @@ def anything(chance, known):
     return damaged(chance, text.replace(b"\n", chance.choice([b"\n", b"\r\n", b"\r"])))
 
 
+MILLION = 1 << 20
+LARGE = {
+    "commas": b"," * MILLION,
+    "tabs": b"\t" * MILLION,
+    "line ends": b"\n" * MILLION,
+    "quotation marks": b'"' * MILLION,
+    "one field": b"x" * MILLION,
+    "one marked name": b"p:" + b"x" * (MILLION - 2),
+    "one name in many columns": b"p:A," * (MILLION // 4),
+    "many names": b",".join(b"p:A %d" % number for number in range(90000)),
+    "many columns without a mark": b",".join(b"A%d" % number for number in range(90000)),
+    "many plots": b"p:A,t:B\n" + b"1,2\n" * 200000,
+    "many levels": b"p:A\n" + b"\n".join(b"%d" % number for number in range(1, 120000)),
+    "many lines of many lengths": b"\n".join(b"," * number for number in range(1400)),
+    "a long level": b"p:A,t:B\n" + b"y" * 400000 + b",1\n" + b"y" * 400000 + b",2\nz,1\n",
+}
+
+
 class AnyFile(unittest.TestCase):
+    def test_large_files(self):
+        """At most a million bytes are read, and they take no long time and make no long message."""
+        for name, data in LARGE.items():
+            for options in ([], ["--tsv"], ["--plots", "A", "--treatments", "B"], ["--nested", "A/B"]):
+                with self.subTest(name, options=options):
+                    start = time.process_time()
+                    status, out, err = run("plan", "-", *options, data=data[:MILLION])
+                    self.assertIn(status, (1, 2))
+                    self.assertLess(len(err), 2000)
+                    self.assertLess(time.process_time() - start, 10)
+
     def test_no_traceback(self):
         chance, known, seen = random.Random(SEED), list(sheets()), {0: 0, 1: 0, 2: 0}
         for number in range(FILES):

@@ -3,7 +3,7 @@ import unittest
 
 from support import run
 
-MARK = "Write p: (plot) or t: (treatment) before each name, or add --plots NAMES --treatments NAMES; there are "
+MARK = "Write p: (plot) or t: (treatment) before each name, or add --plots NAMES --treatments NAMES, of "
 LEVEL = "A level is only a label: write another number or a word; take out a plot whose level is not known."
 FIELDS = "Give each line as many fields as there are columns, separated as in the first line."
 EMPTY = "Look whether the right file was given."
@@ -40,15 +40,15 @@ FILES = {
     ),
     "one column without a mark": (
         b"p:Hut,Gain\n1,1\n1,2\n", [], 3, "line 1, field 2: `Gain` is not marked as a plot column or a treatment.",
-        MARK + "Hut and Gain.",
+        MARK + "Hut, Gain.",
     ),
     "no column with a mark, below empty lines": (
         b"\n\nHut;Pier;Gain\n1;1;1\n", [], 3, "line 3, field 1: `Hut` is not marked as a plot column or a treatment.",
-        MARK + "Hut, Pier and Gain.",
+        MARK + "Hut, Pier, Gain.",
     ),
     "a title above the names": (
         b"Trial of May\np:Hut,t:Gain\n1,1\n", [], 3, "line 1, field 1: `Trial` is not marked as a plot column or a treatment.",
-        MARK + "Trial, of and May.",
+        MARK + "Trial, of, May.",
     ),
     "two columns with one name": (
         b"p:Hut,t:Hut\n1,1\n2,1\n", [], 3, "line 1, field 2: two columns are called `Hut`.", "Rename one of them.",
@@ -63,6 +63,10 @@ FILES = {
     "seven plot columns": (
         b"p:Aa,p:Bb,p:Cc,p:Dd,p:Ee,p:Ff,p:Gg\n1,1,1,1,1,1,1\n", [], 3,
         "line 1, field 7: `Gg` is plot column number 7, and at most 6 are taken.", "Leave out a plot column.",
+    ),
+    "five thousand plot columns": (
+        ",".join(f"p:Column{i}" for i in range(1, 5001)).encode() + b"\n1\n", [], 2,
+        "line 1, field 7: `Column7` is plot column number 7, and at most 6 are taken.", "Leave out a plot column.",
     ),
     "seven treatments": (
         b"t:Aa,t:Bb,t:Cc,t:Dd,p:Hut,t:Ee,t:Ff,t:Gg\n1,1,1,1,1,1,1,1\n", [], 3,
