@@ -73,7 +73,7 @@ class AnyFile(unittest.TestCase):
     def test_large_files(self):
         """At most a million bytes are read, and they take no long time and make no long message."""
         for name, data in LARGE.items():
-            for options in ([], ["--tsv"], ["--plots", "A", "--treatments", "B"], ["--nested", "A/B"]):
+            for options in ([], ["--plots", "A", "--treatments", "B"]):
                 with self.subTest(name, options=options):
                     start = time.process_time()
                     status, out, err = run("plan", "-", *options, data=data[:MILLION])

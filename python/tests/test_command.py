@@ -274,6 +274,7 @@ class Documents(unittest.TestCase):
             self.assertEqual(shown, table.decode())
             self.assertEqual(run("plan", "-", "--quiet", data=self.sheet(lines))[:2], (0, table))
         self.assertIn(NOTE.splitlines()[0], text)
+        self.assertEqual(run("plan", os.path.join(EXAMPLES, "piers.csv")), (0, CROSSED_TABLE, NOTE))
 
     def test_refusals(self):
         whole = self.document("docs", "REFUSALS.md")
