@@ -1,7 +1,7 @@
 """Plans: the skeleton table of a trial as objects, and each entry of the library for tables as users have them.
 
-Every function takes a table as a text, as rows with the titles first, as dictionaries, as columns by their title, or as a `Table`
-that `rachdoum.read_file` has read. Levels may be numbers or texts. A column is a plot column or a treatment by `p:` or `t:` before
+Every function takes a table as a text, as rows with the titles first, as dictionaries, as columns by their title, as the path of a
+file, or as a `Table` that `rachdoum.read_file` has read. Levels may be numbers or texts. A column is a plot column or a treatment by `p:` or `t:` before
 its name, or by `plots=` and `treatments=`. What the library refuses raises a `Refusal`.
 """
 from __future__ import annotations
@@ -160,7 +160,7 @@ class Plan:
     def __str__(self) -> str:
         from .show import aligned
 
-        return aligned(self)
+        return aligned(self).rstrip("\n")
 
 
 def prepare(table: Any, plots: Any = None, treatments: Any = None, nested: Nested = ()) -> Table:

@@ -138,7 +138,7 @@ def _quoted(lines: List[str], start: int, separator: str) -> Records:
 
 
 def read_table(table: Any, source: str = "the table") -> Table:
-    """The table of whatever a caller has: a text, bytes, rows with the titles first, dictionaries, or columns by their title.
+    """The table of whatever a caller has: a text, rows with the titles first, dictionaries, columns by their title, or a file.
 
     >>> rows = [["p:Hut", "t:Gain"], [1, "low"], [2, "high"]]
     >>> columns = {"p:Hut": [1, 2], "t:Gain": ["low", "high"]}
@@ -149,7 +149,8 @@ def read_table(table: Any, source: str = "the table") -> Table:
     if isinstance(table, Table):
         return table
     if isinstance(table, str):
-        return read_bytes(table.encode("utf-8", "replace"), "the text")
+        is_path = table and not set("\r\n\0") & set(table) and os.path.isfile(table)
+        return read_file(table) if is_path else read_bytes(table.encode("utf-8", "replace"), "the text")
     if isinstance(table, (bytes, bytearray, memoryview)):
         return read_bytes(bytes(table), "the text")
     if isinstance(table, os.PathLike):

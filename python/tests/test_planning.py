@@ -35,6 +35,11 @@ class Plans(unittest.TestCase):
                 if not expected.startswith("refused"):
                     self.assertEqual(rachdoum.plan(rachdoum.read_file(path)).tsv(), expected)
 
+    def test_a_path(self):
+        path = os.path.join(EXAMPLES, "huts.sheet")
+        self.assertEqual(rachdoum.plan(path), rachdoum.plan(HUTS))
+        self.assertTrue(str(rachdoum.plan(path)).startswith("stratum  source"))
+
     def test_unknown_names(self):
         plan = rachdoum.plan(HUTS)
         with self.assertRaisesRegex(KeyError, "there is no source 'Cable'; there are U, Filter, Gain"):
