@@ -310,6 +310,7 @@ class WrongCalls(unittest.TestCase):
         self.refuses("plan", "-", "--tsv", "--json", message="not allowed with argument")
         self.refuses("plan", "/nowhere", message="rachdoum: /nowhere: No such file or directory")
         self.refuses("plan", EXAMPLES, message="Is a directory")
+        self.refuses("plan", "/nowhere\x1b[31m", message="rachdoum: /nowhere?[31m: No such file or directory")
         self.refuses("plan", "-", "--plots", "Hat", message="there is no column 'Hat': standard input has Hut, Pier, Gain")
         self.refuses("plan", "-", *KINDS, "--nested", "Pier", message="'Pier' is not of the form CHILD/PARENT, such as Pier/Hut")
         self.refuses("plan", "-", *KINDS, "--nested", "Gain/Hut", message="only plot columns can be nested, and 'Gain' is none")
