@@ -356,18 +356,24 @@ class Large(unittest.TestCase):
     def test_an_endless_file(self):
         self.plan_in_little_memory("/dev/zero")
 
+    def processor_time(self, *words, data=b""):
+        """The processor's time of a program that ends with 0."""
+        before = resource.getrusage(resource.RUSAGE_CHILDREN)
+        self.assertEqual(subprocess.run([sys.executable, *words], input=data, stdout=subprocess.DEVNULL, stderr=subprocess.DEVNULL).returncode, 0)
+        after = resource.getrusage(resource.RUSAGE_CHILDREN)
+        return after.ru_utime + after.ru_stime - before.ru_utime - before.ru_stime
+
     def test_time(self):
-        """240 plots take at most 0.15 s from start to end. The processor's time counts, of the best run: the machine may be busy."""
+        """240 plots take at most 0.15 s from start to end, or four times Python's own start on a slower machine. The processor's time
+        counts, of the best run: the machine may be busy."""
         rows = [f"{hut},{pier},{week},{pier % 2 + 1},{week % 2 + 1}" for hut in range(1, 11) for pier in range(1, 7) for week in range(1, 5)]
         self.assertEqual(len(rows), library.PLOTS)
         data = "\n".join(["p:Hut,p:Pier,p:Week,t:Gain,t:Cable"] + rows).encode()
+        most = max(0.15, 4 * min(self.processor_time("-c", "pass") for _ in range(5)))
         taken = []
-        while len(taken) < 40 and min(taken, default=1) > 0.15:
-            before = resource.getrusage(resource.RUSAGE_CHILDREN)
-            self.assertEqual(program("plan", "-", data=data).returncode, 0)
-            after = resource.getrusage(resource.RUSAGE_CHILDREN)
-            taken.append(after.ru_utime + after.ru_stime - before.ru_utime - before.ru_stime)
-        self.assertLessEqual(min(taken), 0.15)
+        while len(taken) < 40 and min(taken, default=most + 1) > most:
+            taken.append(self.processor_time("-m", "rachdoum", "plan", "-", data=data))
+        self.assertLessEqual(min(taken), most)
 
 
 if __name__ == "__main__":
