@@ -1,7 +1,6 @@
 //! How the time of the whole table grows with plots and with members.
 
-use crate::entry::Memory;
-use crate::picture::{self, Line, Panel};
+use crate::entries::{self, Trial};
 use crate::sheets::{crossed, sheet, Sheet};
 use crate::{timing, PAIR};
 use std::{fs, io, path::Path, time::Duration};
@@ -10,17 +9,12 @@ use std::{fs, io, path::Path, time::Duration};
 const SIZES: [&[usize]; 5] = [&[240], &[15, 16], &[4, 6, 10], &[2, 3, 4, 10], &[2, 2, 2, 3, 10]];
 const LETTERS: [&str; 5] = ["Aa", "Bb", "Cc", "Dd", "Ee"];
 
-/// A rising size and the least microseconds of the library and of the reference.
-struct Point {
-    size: usize,
-    spent: [f64; 2],
-}
+/// The data file's first line. A series of sheets is a block; two empty lines separate blocks.
+const HEADING: &str = "# The time of the printed table in microseconds: written by `bench --growth`, drawn by bench/growth.gp";
 
 /// Sheets of rising size.
 pub struct Series {
     title: String,
-    /// What the lines of this series are called in the picture.
-    name: String,
     pub sheets: Vec<(usize, Sheet)>,
 }
 
@@ -42,56 +36,36 @@ fn by_members(sizes: &[usize], kinds: &str, name: &str) -> Sheet {
 pub fn series() -> [Series; 4] {
     let members = |kinds: &str, name: &str| Series {
         title: format!("{name}: crossed columns on 240 plots"),
-        name: format!(", {name}"),
         sheets: SIZES.iter().map(|sizes| (1 << sizes.len(), by_members(sizes, kinds, name))).collect(),
     };
     let plots = Series {
         title: "plots: 3 rows crossed with 5 columns, filters by row, gains by column".to_string(),
-        name: String::new(),
         sheets: [15, 30, 60, 120, 240].into_iter().map(|plots| (plots, by_plots(plots))).collect(),
     };
     [plots, members("p", "plot members"), members("t", "treatment members"), members("pt", "plot and treatment members")]
 }
 
-fn measure(series: &Series, limit: Duration) -> Option<Vec<Point>> {
+/// The lines of a series for the data file: size, microseconds of the library and of the reference. Nothing where the two differ.
+fn measure(series: &Series, limit: Duration) -> Option<String> {
     println!("\n{}\n{:>8}  {:<10}{:>10}{:>10}{:>8}", series.title, "", "members", "library", "reference", "ratio");
-    let mut points = Vec::new();
+    let mut lines = format!("# {}\n# size\tlibrary\treference\n", series.title);
     for (size, sheet) in &series.sheets {
-        let memory = Memory::new(sheet);
-        if !timing::same(PAIR, 0, &memory) {
+        let (trial, entry) = (Trial::new(sheet), &entries::ALL[0]);
+        if !timing::same(PAIR, entry, &trial) {
             println!("{size:>8}  THE TWO DIFFER");
             return None;
         }
-        let spent = timing::alternate(PAIR, 0, &memory, limit).map(|spent| spent.least);
-        println!("{size:>8}  {:<10}{:>10.2}{:>10.2}{:>8.2}", memory.members(), spent[0], spent[1], spent[0] / spent[1]);
-        points.push(Point { size: *size, spent });
+        let [library, reference] = timing::alternate(PAIR, entry, &trial, limit).map(|spent| spent.least);
+        println!("{size:>8}  {:<10}{library:>10.2}{reference:>10.2}{:>8.2}", trial.members(), library / reference);
+        lines += &format!("{size}\t{library:.2}\t{reference:.2}\n");
     }
-    Some(points)
+    Some(lines)
 }
 
-/// The lines of the library and of the reference through the same points.
-fn lines(points: &[Point], name: &str) -> Vec<Line> {
-    let line = |who: usize, title: &str| Line {
-        title: format!("{title}{name}"),
-        reference: who == 1,
-        points: points.iter().map(|point| (point.size as f64, point.spent[who])).collect(),
-    };
-    vec![line(0, "library"), line(1, "reference")]
-}
-
-fn measured(limit: Duration) -> Option<[Panel; 2]> {
-    let mut drawn = Vec::new();
-    for series in series() {
-        drawn.push(lines(&measure(&series, limit)?, &series.name));
-    }
-    let members = drawn.split_off(1).concat();
-    let plots = Panel { title: "plots (5 plot members, of 15 plots 4; 4 treatment members)", lines: drawn.concat() };
-    Some([plots, Panel { title: "members (240 plots)", lines: members }])
-}
-
-/// Prints the tables and writes the picture; whether both agreed on every sheet.
+/// Prints the tables and writes the data file, from which growth.gp makes the picture; whether both agreed on every sheet.
 pub fn tables(limit: Duration, file: &Path) -> io::Result<bool> {
-    let Some(panels) = measured(limit) else { return Ok(false) };
-    fs::write(file, picture::draw(&panels))?;
+    let measured: Option<Vec<String>> = series().iter().map(|series| measure(series, limit)).collect();
+    let Some(blocks) = measured else { return Ok(false) };
+    fs::write(file, format!("{HEADING}\n{}", blocks.join("\n\n")))?;
     Ok(true)
 }

@@ -1,20 +1,20 @@
 //! Times the proved library beside the reference's fast part: the same sheets, one process, turn by turn.
 
-mod entry;
+mod entries;
 mod growth;
-mod picture;
 mod sheets;
 mod timing;
 
-use compare::library::LIBRARY;
-use entry::{Memory, NAMES};
-use reference::{Entries, FAST};
+use compare::LIBRARY;
+use entries::{Call, Entry, Trial};
+use reference::{Entries, FAST, LITERAL};
 use sheets::Sheet;
 use std::{env, fs, io, path::Path, process::ExitCode, time::Duration};
 
 const USAGE: &str = "usage: bench [--seconds S] [--only WORD] [--entries]   the table of sheets; with each entry by itself
+       bench .. --literal ..                          the reference's literal version instead of the library
        bench [--seconds S] --folder FOLDER            the same of the files of a folder
-       bench [--seconds S] --growth [PICTURE]         how time grows with plots and members
+       bench [--seconds S] --growth [FILE]            how time grows with plots and members
        bench --once SHEET library|reference [CALLS [ENTRY]]   one entry on one sheet, a title or a file, so many times
        bench --instructions                           each sheet once by each, for bench/instructions.sh
        bench --write FOLDER                           the sheets as files";
@@ -25,23 +25,28 @@ const WORST: f64 = 1.3;
 /// The two that are compared, the proved library first.
 pub const PAIR: [&Entries; 2] = [&LIBRARY, &FAST];
 
+/// The literal version beside the fast one.
+const VERSIONS: [&Entries; 2] = [&LITERAL, &FAST];
+
 /// What the command line asks for.
 struct Wish {
     limit: Duration,
     only: String,
     entries: bool,
+    pair: [&'static Entries; 2],
     task: Vec<String>,
 }
 
 /// The command line, or nothing where it has an unknown form.
 fn wish(words: &[String]) -> Option<Wish> {
-    let mut wish = Wish { limit: Duration::from_millis(300), only: String::new(), entries: false, task: Vec::new() };
+    let mut wish = Wish { limit: Duration::from_millis(300), only: String::new(), entries: false, pair: PAIR, task: Vec::new() };
     let mut rest = words.iter();
     while let Some(word) = rest.next() {
         match word.as_str() {
             "--seconds" => wish.limit = Duration::try_from_secs_f64(rest.next()?.parse().ok()?).ok()?,
             "--only" => wish.only = rest.next()?.clone(),
             "--entries" => wish.entries = true,
+            "--literal" => wish.pair = VERSIONS,
             _ => {
                 wish.task.push(word.clone());
                 wish.task.extend(rest.by_ref().cloned());
@@ -52,25 +57,26 @@ fn wish(words: &[String]) -> Option<Wish> {
 }
 
 /// One line of the table; the ratio of the least times.
-fn line(title: &str, memory: &Memory, entry: usize, limit: Duration) -> f64 {
-    let [library, reference] = timing::alternate(PAIR, entry, memory, limit);
-    let ratio = library.least / reference.least;
-    print!("{title:<38}{:>7}{:>7}  {:<11}", memory.text.len(), memory.plots, memory.members());
-    print!("{:>10.2}{:>10.2}{:>10.2}{:>10.2}", library.least, reference.least, library.median, reference.median);
+fn line(title: &str, trial: &Trial, entry: &Entry, wish: &Wish) -> f64 {
+    let [first, second] = timing::alternate(wish.pair, entry, trial, wish.limit);
+    let ratio = first.least / second.least;
+    print!("{title:<38}{:>7}{:>7}  {:<11}", trial.text.len(), trial.plots, trial.members());
+    print!("{:>10.2}{:>10.2}{:>10.2}{:>10.2}", first.least, second.least, first.median, second.median);
     println!("{ratio:>8.2}{}", if ratio > WORST { "  *" } else { "" });
     ratio
 }
 
 /// The table of one entry over the sheets; whether both agreed everywhere.
-fn table(entry: usize, sheets: &[Sheet], limit: Duration) -> bool {
-    println!("\n{} (microseconds; * is above {WORST})", NAMES[entry]);
+fn table(entry: &Entry, sheets: &[Sheet], wish: &Wish) -> bool {
+    let names = if wish.pair[0].title == LIBRARY.title { ["library", "reference"] } else { ["literal", "fast"] };
+    println!("\n{} (microseconds; * is above {WORST})", entry.title);
     print!("{:<38}{:>7}{:>7}  {:<11}", "sheet", "bytes", "plots", "members");
-    println!("{:>10}{:>10}{:>10}{:>10}{:>8}", "library", "reference", "median", "median", "ratio");
+    println!("{:>10}{:>10}{:>10}{:>10}{:>8}", names[0], names[1], "median", "median", "ratio");
     let (mut ratios, mut agreed) = (Vec::new(), true);
     for sheet in sheets {
-        let memory = Memory::new(sheet);
-        if timing::same(PAIR, entry, &memory) {
-            ratios.push((line(&sheet.title, &memory, entry, limit), &sheet.title));
+        let trial = Trial::new(sheet);
+        if timing::same(wish.pair, entry, &trial) {
+            ratios.push((line(&sheet.title, &trial, entry, wish), &sheet.title));
         } else {
             agreed = false;
             println!("{:<38}  THE TWO DIFFER", sheet.title);
@@ -81,27 +87,23 @@ fn table(entry: usize, sheets: &[Sheet], limit: Duration) -> bool {
     if let Some((ratio, title)) = worst {
         let above = ratios.iter().filter(|(ratio, _)| *ratio > WORST).count();
         let mean = (logs / ratios.len() as f64).exp();
-        println!("{}: geometric mean {mean:.3}, worst {ratio:.2} ({title}), above {WORST}: {above} of {}", NAMES[entry], ratios.len());
+        println!("{}: geometric mean {mean:.3}, worst {ratio:.2} ({title}), above {WORST}: {above} of {}", entry.title, ratios.len());
     }
     agreed
 }
 
 fn tables(wish: &Wish, mut sheets: Vec<Sheet>) -> io::Result<bool> {
     sheets.retain(|sheet| sheet.title.contains(&wish.only));
-    let entries = if wish.entries { NAMES.len() } else { 1 };
-    let agreed: Vec<bool> = (0..entries).map(|entry| table(entry, &sheets, wish.limit)).collect();
+    let entries = if wish.entries { entries::ALL } else { &entries::ALL[..1] };
+    let agreed: Vec<bool> = entries.iter().map(|entry| table(entry, &sheets, wish)).collect();
     Ok(!agreed.contains(&false))
 }
 
 /// What callgrind counts: it is told this name.
 #[no_mangle]
 #[inline(never)]
-extern "C" fn measured_calls(memory: &mut Memory, library: bool, entry: usize, calls: usize) {
-    for _ in 0..calls {
-        memory.call(PAIR[usize::from(!library)], entry, &mut |answer| {
-            std::hint::black_box(answer);
-        });
-    }
+extern "C" fn measured_calls(call: &mut Call, library: bool, calls: u32) {
+    timing::repeat(PAIR[usize::from(!library)], call, calls);
 }
 
 /// A sheet by its title or its file.
@@ -111,10 +113,10 @@ fn find(name: &str) -> io::Result<Sheet> {
 }
 
 fn once(name: &str, who: &str, calls: &str, entry: &str) -> io::Result<bool> {
-    let mut memory = Memory::new(&find(name)?);
     let calls = calls.parse().map_err(io::Error::other)?;
-    let entry = NAMES.iter().position(|known| *known == entry).ok_or(io::Error::other(USAGE))?;
-    measured_calls(&mut memory, who == "library", entry, calls);
+    let entry = entries::ALL.iter().find(|known| known.title == entry).ok_or(io::Error::other(USAGE))?;
+    let mut call = (entry.call)(&Trial::new(&find(name)?));
+    measured_calls(&mut call, who == "library", calls);
     Ok(who == "library" || who == "reference")
 }
 
@@ -122,11 +124,12 @@ fn once(name: &str, who: &str, calls: &str, entry: &str) -> io::Result<bool> {
 fn instructions() -> io::Result<bool> {
     let growing = growth::series().into_iter().flat_map(|series| series.sheets).map(|(_, sheet)| sheet);
     for sheet in sheets::all()?.into_iter().chain(growing) {
-        let mut memory = Memory::new(&sheet);
-        println!("{}\t{}\t{}\t{}", sheet.title, memory.text.len(), memory.plots, memory.members());
+        let trial = Trial::new(&sheet);
+        println!("{}\t{}\t{}\t{}", sheet.title, trial.text.len(), trial.plots, trial.members());
+        let mut call = (entries::ALL[0].call)(&trial);
         for library in [true, false] {
-            memory.answer(PAIR[usize::from(!library)], 0);
-            measured_calls(&mut memory, library, 0, 1);
+            timing::repeat(PAIR[usize::from(!library)], &mut call, 1);
+            measured_calls(&mut call, library, 1);
         }
     }
     Ok(true)
@@ -147,10 +150,10 @@ fn perform(wish: &Wish) -> io::Result<bool> {
     match words[..] {
         [] => tables(wish, sheets::all()?),
         ["--folder", folder] => tables(wish, sheets::folder(Path::new(folder), "")?),
-        ["--growth"] => growth::tables(wish.limit, Path::new(concat!(env!("CARGO_MANIFEST_DIR"), "/../docs/growth.svg"))),
-        ["--growth", picture] => growth::tables(wish.limit, Path::new(picture)),
-        ["--once", name, who] => once(name, who, "1", NAMES[0]),
-        ["--once", name, who, calls] => once(name, who, calls, NAMES[0]),
+        ["--growth"] => growth::tables(wish.limit, Path::new(concat!(env!("CARGO_MANIFEST_DIR"), "/growth.tsv"))),
+        ["--growth", file] => growth::tables(wish.limit, Path::new(file)),
+        ["--once", name, who] => once(name, who, "1", entries::ALL[0].title),
+        ["--once", name, who, calls] => once(name, who, calls, entries::ALL[0].title),
         ["--once", name, who, calls, entry] => once(name, who, calls, entry),
         ["--instructions"] => instructions(),
         ["--write", folder] => write(folder),

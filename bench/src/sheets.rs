@@ -1,5 +1,6 @@
 //! The sheets that are timed: those of examples/, those of bench/sheets/, and hard shapes that are made here.
 
+use reference::Level;
 use std::{fs, io, path::Path};
 
 /// A sheet and what it is called in the tables.
@@ -119,7 +120,7 @@ fn refused() -> Vec<Sheet> {
         5 => (five(u, 0) + five(u, 1)) % 2,
         _ => u,
     };
-    let last = |u: usize, f: usize| if (u, f) == (239, 9) { 65_535 } else { 60_000 + five(u, f) };
+    let last = |u: usize, f: usize| if (u, f) == (239, 9) { Level::MAX as usize } else { 60_000 + five(u, f) };
     vec![
         sheet("refused by 4 at the last level", &both, 240, last),
         sheet("refused by 5, 32,768 bytes", "p:Aab", 16_381, |_, _| 0),

@@ -2,9 +2,12 @@
 //!
 //! Each line has a word and what belongs to it. `text "..."` adds to the sheet, so often as a number after it says. `levels LENGTH`
 //! and `family PLACE LENGTH` begin a table of zeros, and `at OFFSET: ...` fills cells of the last one: `7` is a number, `1,2x3` is
-//! 1 2 1 2 1 2. A line that begins with `#` is a remark. `refusal` and `answer` say what is expected.
+//! 1 2 1 2 1 2. A line that begins with `#` is a remark. `refusal` and `answer` say what is expected. The words of counts, texts and
+//! tables are those of [`Call::counts`], [`Call::texts`] and [`Call::tables`].
 
-use crate::common::call::{Call, Entry, Outcome};
+use crate::call::{Call, Outcome};
+use crate::cells::number;
+use crate::entries;
 
 /// A kept call and, if known, what it must answer: the refusal, and the first numbers.
 pub struct Case {
@@ -26,92 +29,84 @@ impl Case {
 
 /// Writes a call as a text.
 pub fn write(call: &Call, remarks: &[String]) -> String {
+    let mut call = call.clone();
     let mut text: String = remarks.iter().map(|remark| format!("# {remark}\n")).collect();
-    text += &format!("entry {}\n", call.entry.title());
-    let list = |numbers: &[usize]| numbers.iter().map(usize::to_string).collect::<Vec<_>>().join(" ");
-    let fields: [(&str, &[usize]); 7] = [
-        ("plots", &[call.plots]), ("columns", &call.columns), ("k", &[call.k]), ("kind", &[call.kind as usize]),
-        ("place", &[call.place]), ("sizes", &call.sizes), ("lent", &call.lent),
-    ];
-    for (word, numbers) in fields.iter().filter(|(_, numbers)| numbers.iter().any(|&number| number != 0)) {
-        text += &format!("{word} {}\n", list(numbers));
+    text += &format!("entry {}\n", call.entry.title);
+    for (word, numbers) in call.counts().iter().filter(|(_, numbers)| numbers.iter().any(|&number| number != 0)) {
+        let numbers: Vec<String> = numbers.iter().map(usize::to_string).collect();
+        text += &format!("{word} {}\n", numbers.join(" "));
     }
-    text += &write_text(&call.text);
-    if !call.levels.is_empty() {
-        text += &format!("levels {}\n{}", call.levels.len(), write_cells(&call.levels));
+    for (word, bytes) in call.texts() {
+        text += &write_text(word, bytes);
     }
-    for (i, family) in call.families.iter().enumerate().filter(|(_, family)| !family.is_empty()) {
-        text += &format!("family {} {}\n{}", i + 1, family.len(), write_cells(family));
+    for (word, table) in call.tables().iter().filter(|(_, table)| table.length() > 0) {
+        text += &format!("{word} {}\n{}", table.length(), table.written());
     }
     text
 }
 
-/// The sheet's lines, each in quotes; equal ones that follow each other are counted.
-fn write_text(text: &[u8]) -> String {
+/// A text's lines, each in quotes; equal ones that follow each other are counted.
+fn write_text(word: &str, text: &[u8]) -> String {
     let lines: Vec<&[u8]> = text.split_inclusive(|&byte| byte == 10).collect();
     let runs = lines.chunk_by(|a, b| a == b);
-    let line = |run: &[&[u8]]| format!("text \"{}\" {}\n", run[0].escape_ascii(), run.len());
+    let line = |run: &[&[u8]]| format!("{word} \"{}\" {}\n", run[0].escape_ascii(), run.len());
     runs.map(line).collect()
-}
-
-/// Cells that are not 0, 240 a line.
-fn write_cells<T: Copy + PartialEq + Into<u64>>(cells: &[T]) -> String {
-    let row = |(i, row): (usize, &[T])| {
-        let used = row.iter().rposition(|&cell| cell.into() != 0)? + 1;
-        let run = |run: &[T]| if run.len() == 1 { run[0].into().to_string() } else { format!("{}x{}", run[0].into(), run.len()) };
-        let runs: Vec<String> = row[..used].chunk_by(|a, b| a == b).map(run).collect();
-        Some(format!("at {}: {}\n", 240 * i, runs.join(" ")))
-    };
-    cells.chunks(240).enumerate().filter_map(row).collect()
 }
 
 /// Reads a kept case.
 pub fn read(text: &str) -> Result<Case, String> {
-    let mut case = Case { call: Call::new(Entry::ReadSheet), refusal: None, answer: Vec::new() };
-    let mut table = 0;
+    let mut case = Case { call: Call::default(), refusal: None, answer: Vec::new() };
+    let mut table = String::new();
     for (i, line) in text.lines().enumerate().filter(|(_, line)| !line.is_empty() && !line.starts_with('#')) {
-        let (word, rest) = line.split_once(' ').ok_or(format!("line {}: a word alone", i + 1))?;
-        read_line(&mut case, &mut table, word, rest).map_err(|what| format!("line {}: {what}", i + 1))?;
+        read_line(&mut case, &mut table, line).map_err(|what| format!("line {}: {what}", i + 1))?;
     }
     Ok(case)
 }
 
-/// Takes one line into the case. The table is 0 for the levels, else the place of the family that `at` fills.
-fn read_line(case: &mut Case, table: &mut usize, word: &str, rest: &str) -> Result<(), String> {
+/// Takes one line into the case. `at` fills the table that was begun last.
+fn read_line(case: &mut Case, last: &mut String, line: &str) -> Result<(), String> {
+    let (word, rest) = line.split_once(' ').ok_or("a word alone")?;
     let call = &mut case.call;
     match word {
-        "entry" => call.entry = Entry::titled(rest).ok_or(format!("no entry {rest}"))?,
-        "plots" => [call.plots] = numbers(rest)?,
-        "columns" => call.columns = numbers(rest)?,
-        "k" => [call.k] = numbers(rest)?,
-        "kind" => [call.kind] = numbers(rest)?,
-        "place" => [call.place] = numbers(rest)?,
-        "sizes" => call.sizes = numbers(rest)?,
-        "lent" => call.lent = numbers(rest)?,
-        "refusal" => case.refusal = Some(numbers::<u32, 1>(rest)?[0]),
-        "answer" => case.answer = rest.split(' ').map(number).collect::<Result<_, _>>()?,
-        "text" => call.text.extend(read_text(rest)?),
-        "levels" => (*table, call.levels) = (0, vec![0; numbers::<usize, 1>(rest)?[0]]),
-        "family" => {
-            let [place, length] = numbers::<usize, 2>(rest)?;
-            *table = place.clamp(1, 2);
-            call.families[*table - 1] = vec![0; length];
+        "entry" => call.entry = entries::titled(rest).ok_or(format!("no entry {rest}"))?,
+        "refusal" => case.refusal = Some(number(rest)?),
+        "answer" => case.answer = numbers(rest)?,
+        "at" => {
+            let (offset, list) = rest.split_once(": ").ok_or("no offset")?;
+            let mut tables = call.tables();
+            let table = tables.iter_mut().find(|table| table.0 == last).ok_or("no table was begun")?;
+            table.1.fill(number(offset)?, list)?;
         }
-        "at" if *table == 0 => read_cells(&mut call.levels, rest)?,
-        "at" => read_cells(&mut call.families[*table - 1], rest)?,
-        _ => return Err(format!("no word {word}")),
+        _ => read_part(call, last, line)?,
     }
     Ok(())
 }
 
-fn number<T: std::str::FromStr>(field: &str) -> Result<T, String> {
-    field.parse().map_err(|_| format!("no number {field}"))
+/// Takes one line of a count, a text or a table's beginning into the call.
+fn read_part(call: &mut Call, last: &mut String, line: &str) -> Result<(), String> {
+    let (word, rest) = line.split_once(' ').unwrap_or((line, ""));
+    if let Some((_, counts)) = call.counts().into_iter().find(|count| count.0 == word) {
+        let found: Vec<usize> = numbers(rest)?;
+        if found.len() != counts.len() {
+            return Err(format!("not {} numbers: {rest}", counts.len()));
+        }
+        counts.copy_from_slice(&found);
+        return Ok(());
+    }
+    if let Some((_, text)) = call.texts().into_iter().find(|text| text.0 == word) {
+        text.extend(read_text(rest)?);
+        return Ok(());
+    }
+    let (word, length) = line.rsplit_once(' ').unwrap_or((line, ""));
+    let (word, table) = call.tables().into_iter().find(|table| table.0 == word).ok_or(format!("no word {word}"))?;
+    table.begin(number(length)?);
+    *last = word.to_string();
+    Ok(())
 }
 
-/// Just so many numbers, parted by blanks.
-fn numbers<T: std::str::FromStr, const COUNT: usize>(rest: &str) -> Result<[T; COUNT], String> {
-    let found: Vec<T> = rest.split(' ').map(number).collect::<Result<_, _>>()?;
-    found.try_into().map_err(|_| format!("not {COUNT} numbers: {rest}"))
+/// Numbers separated by blanks.
+fn numbers<T: std::str::FromStr>(rest: &str) -> Result<Vec<T>, String> {
+    rest.split(' ').map(number).collect()
 }
 
 /// `"..." COUNT`, with the escapes of Rust's byte strings.
@@ -139,19 +134,4 @@ fn escaped(bytes: &mut std::str::Bytes) -> Result<u8, String> {
         }
         other => Ok(other),
     }
-}
-
-/// `OFFSET: ...`: fills cells from the offset on.
-fn read_cells<T: Copy + std::str::FromStr>(cells: &mut [T], rest: &str) -> Result<(), String> {
-    let (offset, list) = rest.split_once(": ").ok_or("no offset")?;
-    let mut at: usize = number(offset)?;
-    for group in list.split(' ') {
-        let (values, times) = group.split_once('x').unwrap_or((group, "1"));
-        let values: Vec<T> = values.split(',').map(number).collect::<Result<_, _>>()?;
-        for value in values.repeat(number(times)?) {
-            *cells.get_mut(at).ok_or("past the end of the table")? = value;
-            at += 1;
-        }
-    }
-    Ok(())
 }

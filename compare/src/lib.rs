@@ -1,12 +1,17 @@
 //! The library of the proved planner as seen from Rust, in the shape of the second implementation's entries, and what is needed to
-//! hold the two to each other call by call.
+//! compare the two call by call. Without the feature `library` there is no archive, only the calls and how they are run.
 
+pub mod call;
 pub mod case;
+pub mod cells;
 pub mod check;
-pub mod fault;
-pub mod library;
+pub mod entries;
+pub mod family;
+pub mod memory;
+pub mod random;
+pub mod sheet;
 pub mod shrink;
+pub mod trial;
 
-/// Calls and their generator, which the tests of the second implementation use too.
-#[path = "../../reference/tests/common/mod.rs"]
-pub mod common;
+#[cfg(feature = "library")]
+pub use entries::LIBRARY;

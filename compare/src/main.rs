@@ -1,13 +1,11 @@
-//! Holds the library of the proved planner to the second implementation, call by call and byte for byte.
+//! Compares the library of the proved planner with the second implementation, call by call and byte for byte.
 
+use compare::call::Call;
 use compare::case;
 use compare::check::{affordable, check, Checked};
-use compare::common::call::{Call, Entry, PRINTED};
-use compare::common::generate;
-use compare::fault::{faults, Fault};
-use compare::library::LIBRARY;
+use compare::entries::{self, Entry, Fault, FAULTS, LIBRARY};
 use compare::shrink::shrink;
-use reference::Entries;
+use reference::{Entries, QUESTIONS};
 use std::path::{Path, PathBuf};
 use std::process::ExitCode;
 
@@ -27,28 +25,36 @@ struct Asked {
     cases: u64,
     first: u64,
     trace: bool,
-    one: Option<(Entry, u64)>,
+    one: Option<(&'static Entry, u64)>,
     self_test: bool,
 }
 
+/// How often each refusal was seen, 0 for none.
+type Seen = [u64; QUESTIONS + 1];
+
 /// How often an entry was called, with the literal version too, and with which refusals.
-#[derive(Clone, Copy, Default)]
 struct Tally {
+    entry: &'static Entry,
     calls: u64,
     literal: u64,
-    refusals: [u64; 17],
-    printed: [u64; 17],
+    refusals: Seen,
+    printed: Seen,
     differences: u64,
 }
 
 impl Tally {
-    fn count(&mut self, entry: Entry, checked: &Checked) {
+    fn new(entry: &'static Entry) -> Tally {
+        let none = [0; QUESTIONS + 1];
+        Tally { entry, calls: 0, literal: 0, refusals: none, printed: none, differences: 0 }
+    }
+
+    fn count(&mut self, checked: &Checked) {
         self.calls += 1;
         self.literal += u64::from(checked.literal);
         self.differences += u64::from(checked.difference.is_some());
-        self.refusals[(checked.outcome.refusal as usize).min(16)] += 1;
-        if entry == Entry::Skeleton && checked.outcome.refusal == 0 {
-            self.printed[(checked.outcome.printed() as usize).min(16)] += 1;
+        self.refusals[(checked.outcome.refusal as usize).min(QUESTIONS)] += 1;
+        if let Some(printed) = self.entry.printed.as_ref().filter(|_| checked.outcome.refusal == 0) {
+            self.printed[((printed.told)(&checked.outcome) as usize).min(QUESTIONS)] += 1;
         }
     }
 }
@@ -87,7 +93,7 @@ fn asked(arguments: &[String]) -> Result<Asked, String> {
             "--trace" => asked.trace = true,
             "--one" => {
                 let title = next()?;
-                let entry = Entry::titled(title).ok_or(format!("no entry {title}"))?;
+                let entry = entries::titled(title).ok_or(format!("no entry {title}"))?;
                 asked.one = Some((entry, number(next()?)?));
             }
             "--self-test" => asked.self_test = true,
@@ -126,16 +132,15 @@ fn kept() -> bool {
 /// Compares so many calls of each entry, entry by entry, and prints what was seen.
 fn compare_all(asked: &Asked) -> bool {
     println!("compare: seed {}, {} calls of each entry from index {} on", asked.seed, asked.cases, asked.first);
-    let mut tallies = [Tally::default(); 8];
-    for entry in Entry::ALL {
-        let tally = &mut tallies[entry as usize];
+    let mut tallies: Vec<Tally> = entries::ALL.iter().map(|entry| Tally::new(entry)).collect();
+    for tally in &mut tallies {
         for index in asked.first..asked.first.saturating_add(asked.cases) {
             if asked.trace {
-                eprintln!("{} {index}", entry.title());
+                eprintln!("{} {index}", tally.entry.title);
             }
-            let call = generate::call(entry, asked.seed, index);
+            let call = tally.entry.call(asked.seed, index);
             let checked = check(&call, &LIBRARY, affordable(&call, index));
-            tally.count(entry, &checked);
+            tally.count(&checked);
             if let Some(what) = checked.difference.filter(|_| tally.differences <= WRITTEN) {
                 keep(&call, asked.seed, index, &what);
             }
@@ -147,11 +152,11 @@ fn compare_all(asked: &Asked) -> bool {
 
 /// Makes a call that showed a difference smaller and writes it beside the kept cases.
 fn keep(call: &Call, seed: u64, index: u64, what: &str) {
-    println!("{} {index}: {what}", call.entry.title());
+    println!("{} {index}: {what}", call.entry.title);
     let smaller = smaller(call, &LIBRARY);
     let now = check(&smaller, &LIBRARY, true).difference.unwrap_or_default();
     let remarks = [format!("seed {seed}, index {index}: {what}"), format!("made smaller: {now}")];
-    let path = folder().join(format!("{}-{seed}-{index}.case", call.entry.title()));
+    let path = folder().join(format!("{}-{seed}-{index}.case", call.entry.title));
     match std::fs::write(&path, case::write(&smaller, &remarks)) {
         Ok(()) => println!("  made smaller: {}", path.display()),
         Err(error) => println!("  not written: {}: {error}", path.display()),
@@ -164,40 +169,46 @@ fn smaller(call: &Call, library: &Entries) -> Call {
     shrink(call, &|call| check(call, library, literal).difference.is_some())
 }
 
-fn print_table(tallies: &[Tally; 8]) {
+fn print_table(tallies: &[Tally]) {
     let row = |title: &str, calls: &str, literal: &str, cells: &[String]| {
         let cells: String = cells.iter().map(|cell| format!("{cell:>8}")).collect();
-        println!("{title:<12}{calls:>9}{literal:>9}{cells}");
+        println!("{title:<17}{calls:>9}{literal:>9}{cells}");
     };
-    let cells = |numbers: &[u64; 17]| numbers.map(|number| if number == 0 { ".".to_string() } else { number.to_string() });
-    row("refusal", "calls", "literal", &std::array::from_fn::<String, 17, _>(|number| number.to_string()));
-    for entry in Entry::ALL {
-        let tally = &tallies[entry as usize];
-        row(entry.title(), &tally.calls.to_string(), &tally.literal.to_string(), &cells(&tally.refusals));
+    let cells = |numbers: &Seen| numbers.map(|number| if number == 0 { ".".to_string() } else { number.to_string() });
+    row("refusal", "calls", "literal", &std::array::from_fn::<String, { QUESTIONS + 1 }, _>(|number| number.to_string()));
+    for tally in tallies {
+        row(tally.entry.title, &tally.calls.to_string(), &tally.literal.to_string(), &cells(&tally.refusals));
+        if tally.entry.printed.is_some() {
+            row("  as printed", "", "", &cells(&tally.printed));
+        }
     }
-    row("as printed", "", "", &cells(&tallies[Entry::Skeleton as usize].printed));
     let sum = |field: fn(&Tally) -> u64| tallies.iter().map(field).sum::<u64>();
     let (calls, literal, differences) = (sum(|tally| tally.calls), sum(|tally| tally.literal), sum(|tally| tally.differences));
     println!("compare: {calls} calls, {calls} with the fast version, {literal} with the literal one, {differences} differences");
 }
 
-/// Whether each entry gave each refusal that it has, and each that a printed text can tell was printed.
-fn all_reached(tallies: &[Tally; 8]) -> bool {
-    let missing = |title: &str, numbers: &[u32], seen: &[u64; 17]| {
+/// Whether each entry gave each refusal that it has, and each that its printed text can tell was printed.
+fn all_reached(tallies: &[Tally]) -> bool {
+    let missing = |title: &str, numbers: &[u32], seen: &Seen| {
         let missing: Vec<u32> = numbers.iter().copied().filter(|&number| seen[number as usize] == 0).collect();
         if !missing.is_empty() {
             println!("compare: {title} never gave {missing:?}");
         }
-        missing.is_empty()
+        !missing.is_empty()
     };
-    let printed = missing("the printed text", &PRINTED, &tallies[Entry::Skeleton as usize].printed);
-    let reached = Entry::ALL.map(|entry| missing(entry.title(), entry.refusals(), &tallies[entry as usize].refusals));
-    printed && reached.iter().all(|&all| all)
+    let reached = |tally: &Tally| {
+        let entry = tally.entry;
+        let told = entry.printed.as_ref().map_or(&[][..], |printed| printed.refusals);
+        let answers = missing(entry.title, entry.refusals, &tally.refusals);
+        !missing(&format!("the text of {}", entry.title), told, &tally.printed) && !answers
+    };
+    let reached: Vec<bool> = tallies.iter().map(reached).collect();
+    !reached.contains(&false)
 }
 
 /// One case alone, written out.
-fn one(entry: Entry, seed: u64, index: u64) -> bool {
-    let call = generate::call(entry, seed, index);
+fn one(entry: &'static Entry, seed: u64, index: u64) -> bool {
+    let call = entry.call(seed, index);
     let checked = check(&call, &LIBRARY, true);
     let what = checked.difference.clone().unwrap_or("no difference".to_string());
     print!("{}", case::write(&call, &[format!("seed {seed}, index {index}: {what}")]));
@@ -208,25 +219,33 @@ fn one(entry: Entry, seed: u64, index: u64) -> bool {
 
 /// Each fault must be found, and still be there in the smaller call after that was written and read again.
 fn self_test(seed: u64) -> bool {
-    let found = |fault: &Fault| -> Result<String, String> {
-        let mut calls = (0..20_000).map(|index| (index, generate::call(fault.entry, seed, index)));
-        let differs = |call: &Call| check(call, &fault.entries, false).difference;
-        let (index, call) = calls.find(|(_, call)| differs(call).is_some()).ok_or("not found")?;
-        let smaller = smaller(&call, &fault.entries);
-        let again = case::read(&case::write(&smaller, &[]))?.call;
-        if again != smaller {
-            return Err("the written case is another one".to_string());
-        }
-        let what = differs(&again).ok_or("the smaller call shows no difference")?;
-        let size = |call: &Call| case::write(call, &[]).len();
-        Ok(format!("index {index}, made smaller from {} to {} bytes; {what}", size(&call), size(&again)))
-    };
     let mut all = true;
-    for fault in faults() {
-        let result = found(&fault);
-        all &= result.is_ok();
-        let what = result.unwrap_or_else(|what| format!("FAILED: {what}"));
-        println!("self-test: {}, {}: {what}", fault.entry.title(), fault.title);
+    for (entry, faults) in FAULTS {
+        if faults.is_empty() {
+            println!("self-test: {}: FAILED: no fault", entry.title);
+            all = false;
+        }
+        for fault in *faults {
+            let result = found(entry, fault, seed);
+            all &= result.is_ok();
+            let what = result.unwrap_or_else(|what| format!("FAILED: {what}"));
+            println!("self-test: {}, {}: {what}", entry.title, fault.title);
+        }
     }
     all
+}
+
+/// Where a fault of an entry was found, in words.
+fn found(entry: &'static Entry, fault: &Fault, seed: u64) -> Result<String, String> {
+    let mut calls = (0..20_000).map(|index| (index, entry.call(seed, index)));
+    let differs = |call: &Call| check(call, &fault.entries, false).difference;
+    let (index, call) = calls.find(|(_, call)| differs(call).is_some()).ok_or("not found")?;
+    let smaller = smaller(&call, &fault.entries);
+    let again = case::read(&case::write(&smaller, &[]))?.call;
+    if again != smaller {
+        return Err("the written case is another one".to_string());
+    }
+    let what = differs(&again).ok_or("the smaller call shows no difference")?;
+    let size = |call: &Call| case::write(call, &[]).len();
+    Ok(format!("index {index}, made smaller from {} to {} bytes; {what}", size(&call), size(&again)))
 }

@@ -1,59 +1,49 @@
 //! Makes a call that shows a difference smaller, as long as it still shows one.
 
-use crate::common::call::Call;
-use reference::{LEVELS, PLOTS};
+use crate::call::Call;
+use reference::{Level, COLUMNS, FAMILY, LEVELS, MEMBERS, NAME, PLOTS, TABLE};
 
 /// So many smaller calls are tried at most.
 const TRIES: usize = 5000;
 
-/// One way to make a call smaller.
-enum Step {
-    /// Plots from .. of so many, in the level table and in the families.
-    Plots(usize, usize),
-    /// All plots that share this plot's level in a column of the level table: a design that is balanced stays so.
-    Class(usize, usize),
-    /// The same in a text: all lines that share a field with this line.
-    Lines(usize, usize),
-    /// Plots in the order of their levels.
-    Sort,
-    /// Levels numbered by first appearance.
-    Renumber,
-    /// A column of a kind.
-    Column(usize, usize),
-    /// A member of a family.
-    Member(usize, usize),
-    /// Bytes of the text.
-    Bytes(usize, usize),
-    /// A field of every line.
-    Field(usize),
-    /// Another length of what is lent for writing.
-    Lent(usize, usize),
-    /// Cells of a table set to 0: 0 for the level table, else the place of a family.
-    Clear(usize, usize, usize),
-    /// Another length of such a table.
-    Cut(usize, usize),
-    /// k, kind and place as small as they go.
-    Counts,
-}
+/// Most fields of a line.
+const FIELDS: usize = 2 * COLUMNS;
+
+/// One way to make a call smaller; nothing where it makes no sense.
+pub type Step = Box<dyn Fn(&mut Call) -> Option<()>>;
+
+/// The ways of one sort that a call offers. An entry names those that it has a use for; one of its own can stand in its module.
+pub type Steps = fn(&Call) -> Vec<Step>;
+
+/// For entries that take every sort of part.
+pub const ALL: &[Steps] = &[counts, lines, columns, members, plots, lent, tables, bytes];
+/// For entries that take a text.
+pub const TEXT: &[Steps] = &[counts, lines, lent, bytes];
+/// For entries that take a level table.
+pub const LEVELS_OF_PLOTS: &[Steps] = &[counts, columns, plots, lent, tables];
+/// For entries that take families.
+pub const FAMILIES: &[Steps] = &[counts, members, plots, lent, tables];
 
 /// The smallest call found for which `differs` still holds.
 pub fn shrink(call: &Call, differs: &dyn Fn(&Call) -> bool) -> Call {
-    let mut best = call.clone();
+    let (mut best, mut size) = (call.clone(), measure(call));
     let mut tries = 0;
     loop {
-        let before = measure(&best);
-        for step in steps(&best) {
-            let smaller = apply(&best, &step).filter(|smaller| measure(smaller) < measure(&best));
-            let Some(smaller) = smaller else { continue };
+        let before = size;
+        for step in best.entry.steps.iter().flat_map(|steps| steps(&best)).collect::<Vec<Step>>() {
+            let mut smaller = best.clone();
+            if step(&mut smaller).is_none() || measure(&smaller) >= size {
+                continue;
+            }
             tries += 1;
             if differs(&smaller) {
-                best = smaller;
+                (size, best) = (measure(&smaller), smaller);
             }
             if tries == TRIES {
                 return best;
             }
         }
-        if measure(&best) == before {
+        if size == before {
             return best;
         }
     }
@@ -61,17 +51,14 @@ pub fn shrink(call: &Call, differs: &dyn Fn(&Call) -> bool) -> Call {
 
 /// How large a call is: what is to be read by whoever looks for the reason.
 fn measure(call: &Call) -> usize {
-    let counts = [call.plots, call.k, call.place, call.kind as usize, call.columns[0], call.columns[1], call.sizes[0], call.sizes[1]];
-    let counts: usize = counts.iter().map(|&count| count.min(1000)).sum();
-    let lengths = call.lent[0] + call.lent[1] + call.levels.len() + call.families[0].len() + call.families[1].len();
-    let cells = changes(&call.levels) + changes(&call.families[0]) + changes(&call.families[1]);
-    let wide = call.levels.iter().filter(|&&level| level > 240).count();
-    8 * call.text.len() + 4 * counts + lengths + cells + wide
-}
-
-/// How often a cell is another than the one before it: so long is the table as it is written.
-fn changes<T: PartialEq>(cells: &[T]) -> usize {
-    cells.windows(2).filter(|pair| pair[0] != pair[1]).count()
+    let mut call = call.clone();
+    let counts = call.counts().into_iter().filter(|(word, _)| *word != "lent").flat_map(|(_, counts)| counts.to_vec());
+    let counts: usize = counts.map(|count| count.min(1000)).sum();
+    let lent: usize = call.lent.iter().sum();
+    let texts: usize = call.texts().iter().map(|(_, text)| text.len()).sum();
+    let tables: usize = call.tables().iter().map(|(_, table)| table.length() + table.changes()).sum();
+    let wide = call.levels.iter().filter(|&&level| level > PLOTS as Level).count();
+    8 * texts + 4 * counts + lent + tables + wide
 }
 
 /// Pieces of a whole, the large ones first.
@@ -85,64 +72,121 @@ fn pieces(whole: usize) -> Vec<(usize, usize)> {
     found
 }
 
-fn steps(call: &Call) -> Vec<Step> {
-    let mut found = vec![Step::Counts];
-    let lines: Vec<&[u8]> = call.text.split_inclusive(|&byte| byte == 10).collect();
-    let starts: Vec<usize> = lines.iter().scan(0, |at, line| { *at += line.len(); Some(*at - line.len()) }).collect();
-    let bytes = |(from, count): (usize, usize)| {
-        let length = lines[from..from + count].iter().map(|line| line.len()).sum();
-        Step::Bytes(starts[from], length)
+/// A step as it is kept.
+fn step(run: impl Fn(&mut Call) -> Option<()> + 'static) -> Step {
+    Box::new(run)
+}
+
+/// k, kind and place as small as they go.
+pub fn counts(_: &Call) -> Vec<Step> {
+    vec![step(|call| {
+        (call.k, call.kind, call.place) = (call.k.min(1), call.kind.min(1), call.place.min(1));
+        Some(())
+    })]
+}
+
+/// Lines of a text, a field of every line, all lines that share a field.
+pub fn lines(call: &Call) -> Vec<Step> {
+    call.clone().texts().iter().enumerate().flat_map(|(which, (_, text))| lines_of(which, text)).collect()
+}
+
+fn lines_of(which: usize, text: &[u8]) -> Vec<Step> {
+    let lengths: Vec<usize> = text.split_inclusive(|&byte| byte == 10).map(<[u8]>::len).collect();
+    let part = |(from, count): (usize, usize)| {
+        let [start, length] = [&lengths[..from], &lengths[from..from + count]].map(|lengths| lengths.iter().sum());
+        drop_bytes(which, start, length)
     };
-    found.extend(pieces(lines.len()).into_iter().map(bytes));
-    found.extend((0..12).map(Step::Field));
-    found.extend((0..12 * lines.len().min(PLOTS)).map(|i| Step::Lines(i % 12, i / 12)));
-    found.extend((0..12).map(|c| Step::Column(c / 6, c % 6)));
-    found.extend((0..64).map(|i| Step::Member(i / 32, i % 32)));
-    if call.plots <= PLOTS {
-        found.extend((0..12 * call.plots).map(|i| Step::Class(i % 12, i / 12)));
-        found.extend(pieces(call.plots).into_iter().map(|(from, count)| Step::Plots(from, count)));
-        found.extend([Step::Renumber, Step::Sort]);
-    }
-    found.extend([0, 96, 7_680, 2_880, 32_768].into_iter().flat_map(|length| [Step::Lent(0, length), Step::Lent(1, length)]));
-    found.extend([0, 2_880, 7_680].into_iter().flat_map(|length| (0..3).map(move |table| Step::Cut(table, length))));
-    for table in 0..3 {
-        let rows = if table == 0 { 12 } else { 32 };
-        found.extend(pieces(rows).into_iter().map(|(from, count)| Step::Clear(table, PLOTS * from, PLOTS * count)));
-        found.extend((0..rows).map(|row| Step::Clear(table, PLOTS * row + call.plots.min(PLOTS), PLOTS - call.plots.min(PLOTS))));
-    }
-    if call.text.len() < 400 {
-        found.extend(pieces(call.text.len()).into_iter().map(|(from, count)| Step::Bytes(from, count)));
-    }
+    let mut found: Vec<Step> = pieces(lengths.len()).into_iter().map(part).collect();
+    found.extend((0..FIELDS).map(|field| changed_text(which, move |text| Some(without_field(text, field)))));
+    let shared = |i: usize| changed_text(which, move |text| without_lines(text, i % FIELDS, i / FIELDS));
+    found.extend((0..FIELDS * lengths.len().min(PLOTS)).map(shared));
     found
 }
 
-/// The call after a step, where the step makes sense.
-fn apply(call: &Call, step: &Step) -> Option<Call> {
-    let mut smaller = call.clone();
-    match *step {
-        Step::Plots(from, count) => drop_plots(&mut smaller, from, count)?,
-        Step::Class(c, u) => drop_class(&mut smaller, c, u)?,
-        Step::Lines(field, line) => smaller.text = without_lines(&call.text, field, line)?,
-        Step::Sort => sort(&mut smaller)?,
-        Step::Renumber => smaller.levels.chunks_mut(PLOTS).for_each(renumber),
-        Step::Column(kind, c) => drop_column(&mut smaller, kind, c)?,
-        Step::Member(which, i) => drop_member(&mut smaller, which, i)?,
-        Step::Bytes(from, count) if from + count <= call.text.len() => drop(smaller.text.drain(from..from + count)),
-        Step::Bytes(..) => return None,
-        Step::Field(field) => smaller.text = without_field(&call.text, field),
-        Step::Lent(which, length) => smaller.lent[which] = length,
-        Step::Clear(0, from, count) => clear(&mut smaller.levels, from, count),
-        Step::Clear(table, from, count) => clear(&mut smaller.families[table - 1], from, count),
-        Step::Cut(0, length) => smaller.levels.truncate(length),
-        Step::Cut(table, length) => smaller.families[table - 1].truncate(length),
-        Step::Counts => (smaller.k, smaller.kind, smaller.place) = (call.k.min(1), call.kind.min(1), call.place.min(1)),
-    }
-    Some(smaller)
+/// Bytes of a short text.
+pub fn bytes(call: &Call) -> Vec<Step> {
+    let mut call = call.clone();
+    let short = call.texts().into_iter().map(|(_, text)| text.len()).enumerate().filter(|(_, length)| *length < 400);
+    let parts = |(which, length)| pieces(length).into_iter().map(move |(from, count)| drop_bytes(which, from, count));
+    short.flat_map(parts).collect()
 }
 
-fn clear<T: Default + Clone>(cells: &mut [T], from: usize, count: usize) {
-    let end = (from + count).min(cells.len());
-    cells[from.min(end)..end].fill(T::default());
+/// Another text in the place of one.
+fn changed_text(which: usize, change: impl Fn(&[u8]) -> Option<Vec<u8>> + 'static) -> Step {
+    step(move |call| {
+        let text = &mut *call.texts()[which].1;
+        *text = change(text)?;
+        Some(())
+    })
+}
+
+fn drop_bytes(which: usize, from: usize, count: usize) -> Step {
+    changed_text(which, move |text| Some([text.get(..from)?, text.get(from + count..)?].concat()))
+}
+
+/// A column of a kind.
+pub fn columns(_: &Call) -> Vec<Step> {
+    (0..2 * COLUMNS).map(|c| step(move |call| drop_column(call, c / COLUMNS, c % COLUMNS))).collect()
+}
+
+/// A member of a family.
+pub fn members(_: &Call) -> Vec<Step> {
+    (0..2 * MEMBERS).map(|i| step(move |call| drop_member(call, i / MEMBERS, i % MEMBERS))).collect()
+}
+
+/// Plots, in the level table and in the families: all that share this plot's level in a column, so that a design that is balanced stays
+/// so; some that follow each other. Then levels numbered by first appearance, and plots in the order of their levels.
+pub fn plots(call: &Call) -> Vec<Step> {
+    if call.plots > PLOTS {
+        return Vec::new();
+    }
+    let class = |i: usize| step(move |call| drop_class(call, i % FIELDS, i / FIELDS));
+    let mut found: Vec<Step> = (0..FIELDS * call.plots).map(class).collect();
+    found.extend(pieces(call.plots).into_iter().map(|(from, count)| step(move |call| drop_plots(call, from, count))));
+    found.push(step(|call| {
+        call.levels.chunks_mut(PLOTS).for_each(renumber);
+        Some(())
+    }));
+    found.push(step(sort));
+    found
+}
+
+/// Another length of what is lent for writing.
+pub fn lent(_: &Call) -> Vec<Step> {
+    let shorter = |which: usize, length: usize| {
+        step(move |call| {
+            call.lent[which] = length;
+            Some(())
+        })
+    };
+    [0, NAME, FAMILY, LEVELS, TABLE].into_iter().flat_map(|length| [shorter(0, length), shorter(1, length)]).collect()
+}
+
+/// Another length of a table, rows of it set to 0, cells past the plots set to 0.
+pub fn tables(call: &Call) -> Vec<Step> {
+    let rows: Vec<usize> = call.clone().tables().iter().map(|(_, table)| table.length().div_ceil(PLOTS)).collect();
+    let cut = |which: usize, length: usize| {
+        step(move |call| {
+            call.tables()[which].1.cut(length);
+            Some(())
+        })
+    };
+    let clear = |which: usize, from: usize, count: usize| {
+        step(move |call| {
+            call.tables()[which].1.clear(from, count);
+            Some(())
+        })
+    };
+    let used = call.plots.min(PLOTS);
+    let mut found = Vec::new();
+    for length in [0, LEVELS, FAMILY] {
+        found.extend((0..rows.len()).map(|which| cut(which, length)));
+    }
+    for (which, rows) in rows.into_iter().enumerate() {
+        found.extend(pieces(rows).into_iter().map(|(from, count)| clear(which, PLOTS * from, PLOTS * count)));
+        found.extend((0..rows).map(|row| clear(which, PLOTS * row + used, PLOTS - used)));
+    }
+    found
 }
 
 fn drop_plots(call: &mut Call, from: usize, count: usize) -> Option<()> {
@@ -154,16 +198,10 @@ fn drop_plots(call: &mut Call, from: usize, count: usize) -> Option<()> {
     Some(())
 }
 
-/// These plots in this order, in the level table and in both families; the others are dropped.
+/// These plots in this order, in every table; the others are dropped.
 fn choose_plots(call: &mut Call, chosen: &[usize]) {
-    fn choose<T: Copy>(cells: &mut [T], plots: usize, chosen: &[usize]) {
-        for row in cells.chunks_mut(PLOTS).filter(|row| row.len() >= plots) {
-            let moved: Vec<T> = chosen.iter().map(|&u| row[u]).collect();
-            row[..moved.len()].copy_from_slice(&moved);
-        }
-    }
-    choose(&mut call.levels, call.plots, chosen);
-    call.families.iter_mut().for_each(|family| choose(family, call.plots, chosen));
+    let plots = call.plots;
+    call.tables().into_iter().for_each(|(_, table)| table.choose(plots, chosen));
     call.plots = chosen.len();
 }
 
@@ -185,20 +223,20 @@ fn sort(call: &mut Call) -> Option<()> {
         return None;
     }
     let mut order: Vec<usize> = (0..call.plots).collect();
-    order.sort_by_key(|&u| (0..12).map(|c| call.levels[PLOTS * c + u]).collect::<Vec<u16>>());
+    order.sort_by_key(|&u| (0..FIELDS).map(|c| call.levels[PLOTS * c + u]).collect::<Vec<Level>>());
     choose_plots(call, &order);
     Some(())
 }
 
 /// Numbers by first appearance; 0 stays.
-fn renumber(column: &mut [u16]) {
-    let mut seen: Vec<u16> = vec![0];
+fn renumber(column: &mut [Level]) {
+    let mut seen: Vec<Level> = vec![0];
     for cell in column {
         let found = seen.iter().position(|level| level == cell);
         if found.is_none() {
             seen.push(*cell);
         }
-        *cell = found.unwrap_or(seen.len() - 1) as u16;
+        *cell = found.unwrap_or(seen.len() - 1) as Level;
     }
 }
 
@@ -218,9 +256,9 @@ fn drop_column(call: &mut Call, kind: usize, c: usize) -> Option<()> {
     if c >= call.columns[kind] || call.levels.len() < LEVELS {
         return None;
     }
-    let columns = &mut call.levels[PLOTS * 6 * kind..PLOTS * 6 * (kind + 1)];
+    let columns = &mut call.levels[PLOTS * COLUMNS * kind..PLOTS * COLUMNS * (kind + 1)];
     columns.copy_within(PLOTS * (c + 1).., PLOTS * c);
-    columns[PLOTS * 5..].fill(0);
+    columns[PLOTS * (COLUMNS - 1)..].fill(0);
     call.columns[kind] -= 1;
     Some(())
 }

@@ -5,6 +5,7 @@
 
 pub mod blocks;
 pub mod child;
+pub mod entries;
 pub mod memory;
 pub mod mutator;
 pub mod oracle;

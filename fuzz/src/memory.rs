@@ -1,14 +1,16 @@
 //! Lent memory that ends at a page which may not be touched: a step past a slice's end stops the run.
 
 use crate::system::{mmap, mprotect, PRIVATE, READ, WRITE};
+use reference::Level;
 use std::ptr::null_mut;
 
 const PAGE: usize = 4096;
 
-/// Some pages and a barred one behind them.
+/// Some pages, of which the last so many bytes are lent, and a barred one behind them.
 pub struct Guarded {
     start: *mut u8,
     size: usize,
+    lent: usize,
 }
 
 impl Guarded {
@@ -20,19 +22,31 @@ impl Guarded {
             let start = mmap(null_mut(), size + PAGE, READ | WRITE, PRIVATE, -1, 0);
             assert_ne!(start as isize, -1, "no memory");
             assert_eq!(mprotect(start.add(size), PAGE, 0), 0, "no barred page");
-            Guarded { start: start.cast(), size }
+            Guarded { start: start.cast(), size, lent: 0 }
         }
     }
 
-    /// The last so many bytes before the barred page.
-    pub fn bytes(&mut self, length: usize) -> &mut [u8] {
+    /// Lends the last so many bytes from now on.
+    pub fn lend(&mut self, length: usize) -> &mut [u8] {
         assert!(length <= self.size);
-        unsafe { std::slice::from_raw_parts_mut(self.start.add(self.size - length), length) }
+        self.lent = length;
+        self.bytes()
     }
 
-    /// The last so many 16-bit numbers before the barred page, which begins at an even address.
-    pub fn numbers(&mut self, length: usize) -> &mut [u16] {
-        assert!(2 * length <= self.size);
-        unsafe { std::slice::from_raw_parts_mut(self.start.add(self.size - 2 * length).cast(), length) }
+    /// The last so many levels likewise.
+    pub fn lend_levels(&mut self, length: usize) -> &mut [Level] {
+        self.lend(size_of::<Level>() * length);
+        self.levels()
+    }
+
+    /// The bytes that are lent.
+    pub fn bytes(&mut self) -> &mut [u8] {
+        unsafe { std::slice::from_raw_parts_mut(self.start.add(self.size - self.lent), self.lent) }
+    }
+
+    /// The levels that are lent. The barred page begins at a multiple of a level's size, so they do too.
+    pub fn levels(&mut self) -> &mut [Level] {
+        let count = self.lent / size_of::<Level>();
+        unsafe { std::slice::from_raw_parts_mut(self.start.add(self.size - self.lent).cast(), count) }
     }
 }

@@ -1,14 +1,14 @@
 //! Changes that keep a sheet well formed, beside libFuzzer's own changes of bytes.
 
+use reference::{COLUMNS, PLOTS};
 use std::collections::BTreeSet;
 
 extern "C" {
     fn LLVMFuzzerMutate(data: *mut u8, size: usize, most: usize) -> usize;
 }
 
-/// Most plots, and most columns of both kinds.
-const PLOTS: usize = 240;
-const COLUMNS: usize = 12;
+/// Most columns of both kinds.
+const FIELDS: usize = 2 * COLUMNS;
 
 /// Numbers from a seed (xorshift).
 struct Chance(u64);
@@ -40,7 +40,7 @@ impl Sheet {
         let plots: Option<Vec<Vec<u32>>> = lines.map(|line| line.split('\t').map(level).collect()).collect();
         let plots = plots?;
         let even = plots.iter().all(|plot| plot.len() == headings.len());
-        (even && plots.len() <= PLOTS + 1 && headings.len() <= COLUMNS + 1).then_some(Sheet { headings, plots })
+        (even && plots.len() <= PLOTS + 1 && headings.len() <= FIELDS + 1).then_some(Sheet { headings, plots })
     }
 
     fn write(&self) -> Vec<u8> {
@@ -118,7 +118,7 @@ fn merged_levels(sheet: &mut Sheet, chance: &mut Chance) {
 
 /// Another column with a new name, equal to one that is there.
 fn add_column(sheet: &mut Sheet, chance: &mut Chance) {
-    if sheet.headings.len() >= COLUMNS {
+    if sheet.headings.len() >= FIELDS {
         return;
     }
     let (_, c) = sheet.place(chance);

@@ -5,17 +5,11 @@
 //! once: that gives the cells of their infimum, and joining classes along the cells gives their supremum. Nothing is
 //! allocated.
 
+entries!(modules);
+
 mod closing;
 mod column;
 mod design;
-mod names;
 mod order;
 mod sheet;
-mod table;
 mod work;
-
-pub use design::{full_design, plot_design};
-pub use names::name;
-pub use order::{degrees, relation, strata};
-pub use sheet::read_sheet;
-pub use table::skeleton;

@@ -1,7 +1,7 @@
 //! A second implementation of the planner of designed experiments, from the rules and the theory alone.
 //!
 //! [`literal`] says each rule as it is written; [`fast`] gives the same answers and is built for speed. Both have the same
-//! public entries, gathered as [`LITERAL`] and [`FAST`], so that tests and benchmarks can take either.
+//! public entries, a module each, gathered as [`LITERAL`] and [`FAST`], so that tests and benchmarks can take either.
 //!
 //! Every entry answers the number of the question that failed (0 for none) and its numbers. It takes any counts and any
 //! slices: nothing is assumed of the caller.
@@ -9,9 +9,8 @@
 #![forbid(unsafe_code)]
 #![allow(clippy::type_complexity, clippy::needless_range_loop)]
 
-pub mod fast;
-pub mod literal;
-
+/// A level of a column, from 1 to the highest number of this type; 0 is a level that is missing.
+pub type Level = u16;
 /// Most plots of a trial.
 pub const PLOTS: usize = 240;
 /// Most columns of one kind, plot or treatment.
@@ -30,60 +29,62 @@ pub const FAMILY: usize = 7_680;
 pub const NAME: usize = 96;
 /// Bytes that the buffer for the printed table has to hold.
 pub const TABLE: usize = 32_768;
+/// The last question's number: refusals are numbered from 1 to this.
+pub const QUESTIONS: usize = 16;
 
-/// The public entries of one implementation.
-#[derive(Clone, Copy)]
-pub struct Entries {
-    /// What this implementation is called in messages.
-    pub title: &'static str,
-    /// Text, level table; refusal and plots, plot columns, treatment columns (questions 1 to 5).
-    pub read_sheet: fn(&[u8], &mut [u16]) -> (u32, [u64; 3]),
-    /// Level table, plots, plot columns, family; refusal and first place, second place, size (6 to 10).
-    pub plot_design: fn(&[u16], usize, usize, &mut [u8]) -> (u32, [u64; 3]),
-    /// Level table, plots, plot columns, treatment columns, k, plot family, treatment family; refusal and first place,
-    /// second place, plot size, treatment size (6 to 14).
-    pub full_design: FullDesign,
-    /// Family, plots, size; refusal and the size, 32 words, 32 words of direct neighbours, 32 counts (6, 15).
-    pub relation: fn(&[u8], usize, usize) -> (u32, [u32; 97]),
-    /// Family, plots, size; refusal and 32 degrees of freedom (6, 15).
-    pub degrees: fn(&[u8], usize, usize) -> (u32, [i64; 32]),
-    /// Plot family, its size, treatment family, its size, plots; refusal and 32 places of strata by treatment member, then
-    /// 32 residuals by plot member (6, 15, 16).
-    pub strata: fn(&[u8], usize, &[u8], usize, usize) -> (u32, [i64; 64]),
-    /// Text, level table, family, plots, size, kind (0 plot, else treatment), place, name; refusal and the name's length
-    /// (2, 3, 6, 7, 15).
-    pub name: Name,
-    /// Text, buffer for the table; 6 if that buffer is too short, else 0, and the printed text's length.
-    pub skeleton: fn(&[u8], &mut [u8]) -> (u32, u64),
+/// The list of entries, handed to another macro: an entry's name and its shape. The name is that of its module and of its function,
+/// both in [`literal`] and in [`fast`].
+macro_rules! entries {
+    ($taken:ident) => {
+        $taken! {
+            /// Text, level table; refusal and plots, plot columns, treatment columns (questions 1 to 5).
+            read_sheet: fn(&[u8], &mut [Level]) -> (u32, [u64; 3]),
+            /// Level table, plots, plot columns, family; refusal and first place, second place, size (6 to 10).
+            plot_design: fn(&[Level], usize, usize, &mut [u8]) -> (u32, [u64; 3]),
+            /// Level table, plots, plot columns, treatment columns, k, plot family, treatment family; refusal and first place,
+            /// second place, plot size, treatment size (6 to 14).
+            full_design: fn(&[Level], usize, usize, usize, usize, &mut [u8], &mut [u8]) -> (u32, [u64; 4]),
+            /// Family, plots, size; refusal and the size, 32 words, 32 words of direct neighbours, 32 counts (6, 15).
+            relation: fn(&[u8], usize, usize) -> (u32, [u32; 97]),
+            /// Family, plots, size; refusal and 32 degrees of freedom (6, 15).
+            degrees: fn(&[u8], usize, usize) -> (u32, [i64; 32]),
+            /// Plot family, its size, treatment family, its size, plots; refusal and 32 places of strata by treatment member, then
+            /// 32 residuals by plot member (6, 15, 16).
+            strata: fn(&[u8], usize, &[u8], usize, usize) -> (u32, [i64; 64]),
+            /// Text, level table, family, plots, size, kind (0 plot, else treatment), place, name; refusal and the name's length
+            /// (2, 3, 6, 7, 15).
+            name: fn(&[u8], &[Level], &[u8], usize, usize, u32, usize, &mut [u8]) -> (u32, [u64; 1]),
+            /// Text, buffer for the table; 6 if that buffer is too short, else 0, and the printed text's length.
+            skeleton: fn(&[u8], &mut [u8]) -> (u32, u64),
+        }
+    };
 }
 
-/// The shape of the full design's entry.
-pub type FullDesign = fn(&[u16], usize, usize, usize, usize, &mut [u8], &mut [u8]) -> (u32, [u64; 4]);
-/// The shape of the naming entry.
-pub type Name = fn(&[u8], &[u16], &[u8], usize, usize, u32, usize, &mut [u8]) -> (u32, [u64; 1]);
+/// A module for each entry of the list.
+macro_rules! modules {
+    ($($(#[$said:meta])* $name:ident: $shape:ty,)*) => { $(pub mod $name;)* };
+}
 
-/// The rules as they are written.
-pub const LITERAL: Entries = Entries {
-    title: "literal",
-    read_sheet: literal::read_sheet,
-    plot_design: literal::plot_design,
-    full_design: literal::full_design,
-    relation: literal::relation,
-    degrees: literal::degrees,
-    strata: literal::strata,
-    name: literal::name,
-    skeleton: literal::skeleton,
-};
+/// What gathers the functions of these modules.
+macro_rules! gathered {
+    ($($(#[$said:meta])* $name:ident: $shape:ty,)*) => {
+        /// The public entries of one implementation.
+        #[derive(Clone, Copy)]
+        pub struct Entries {
+            /// What this implementation is called in messages.
+            pub title: &'static str,
+            $($(#[$said])* pub $name: $shape,)*
+        }
 
-/// The same answers, built for speed.
-pub const FAST: Entries = Entries {
-    title: "fast",
-    read_sheet: fast::read_sheet,
-    plot_design: fast::plot_design,
-    full_design: fast::full_design,
-    relation: fast::relation,
-    degrees: fast::degrees,
-    strata: fast::strata,
-    name: fast::name,
-    skeleton: fast::skeleton,
-};
+        /// The rules as they are written.
+        pub const LITERAL: Entries = Entries { title: "literal", $($name: literal::$name::$name,)* };
+
+        /// The same answers, built for speed.
+        pub const FAST: Entries = Entries { title: "fast", $($name: fast::$name::$name,)* };
+    };
+}
+
+pub mod fast;
+pub mod literal;
+
+entries!(gathered);

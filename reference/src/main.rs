@@ -1,10 +1,24 @@
-//! Reads a trial sheet on standard input and prints its skeleton table; with `--fast` by the fast implementation.
+//! Reads a text on standard input and prints what a program makes of it: `reference [--fast] [PROGRAM]`. Without a program's name a
+//! trial sheet is read and its skeleton table printed; with `--fast` by the fast implementation.
 
-use reference::{FAST, LITERAL, TABLE, TEXT};
+use reference::{Entries, FAST, LITERAL, TABLE, TEXT};
 use std::io::{self, Read, Write};
 
-/// Standard input to its end. Only one byte more than the longest sheet is kept: any text above it is refused alike.
-fn sheet() -> io::Result<Vec<u8>> {
+/// From the text that is read to the text that is printed.
+type Program = fn(&Entries, &[u8]) -> Vec<u8>;
+
+/// The programs by name; the first is run where none is named.
+const PROGRAMS: [(&str, Program); 1] = [("skeleton", skeleton)];
+
+fn skeleton(entries: &Entries, text: &[u8]) -> Vec<u8> {
+    let mut table = vec![0; TABLE];
+    let (_, length) = (entries.skeleton)(text, &mut table);
+    table.truncate(length as usize);
+    table
+}
+
+/// Standard input to its end. Only one byte more than the longest text is kept: any text above it is refused alike.
+fn input() -> io::Result<Vec<u8>> {
     let mut text = Vec::new();
     let mut input = io::stdin().lock();
     input.by_ref().take(TEXT as u64 + 1).read_to_end(&mut text)?;
@@ -13,9 +27,11 @@ fn sheet() -> io::Result<Vec<u8>> {
 }
 
 fn main() -> io::Result<()> {
-    let fast = std::env::args().nth(1).is_some_and(|argument| argument == "--fast");
+    let arguments: Vec<String> = std::env::args().skip(1).collect();
+    let fast = arguments.first().is_some_and(|argument| argument == "--fast");
     let entries = if fast { FAST } else { LITERAL };
-    let mut table = vec![0; TABLE];
-    let (_, length) = (entries.skeleton)(&sheet()?, &mut table);
-    io::stdout().write_all(&table[..length as usize])
+    let named = arguments.get(usize::from(fast)).map_or(PROGRAMS[0].0, String::as_str);
+    let program = PROGRAMS.iter().find(|program| program.0 == named);
+    let (_, run) = program.ok_or(io::Error::other(format!("no program {named}")))?;
+    io::stdout().write_all(&run(&entries, &input()?))
 }

@@ -1,12 +1,9 @@
 //! Random comparison of the fast implementation with the literal one: answers and lent memory, byte for byte.
 //!
 //! The seed is printed; `REFERENCE_SEED` sets it, `REFERENCE_CASES` the number of cases of each entry and `REFERENCE_FIRST` the
-//! index of the first one.
+//! index of the first one. `REFERENCE_ENTRY` names one entry alone.
 
-mod common;
-
-use common::call::{Entry, PRINTED};
-use common::generate;
+use compare::entries::{Entry, ALL};
 use reference::{FAST, LITERAL};
 use std::collections::BTreeMap;
 
@@ -16,27 +13,27 @@ fn setting(name: &str, default: u64) -> u64 {
 }
 
 /// Compares the two on the cases of an entry. Each refusal must occur, unless the environment asks for fewer cases.
-fn agree(entry: Entry, default: u64) {
+fn agree(entry: &'static Entry) {
     let (seed, first) = (setting("REFERENCE_SEED", 20_080_101), setting("REFERENCE_FIRST", 0));
-    let count = setting("REFERENCE_CASES", default);
+    let count = setting("REFERENCE_CASES", entry.calls);
     let (mut seen, mut printed) = (BTreeMap::new(), BTreeMap::new());
     for index in first..first.saturating_add(count) {
-        let call = generate::call(entry, seed, index);
-        let found = call.run(&FAST);
-        if let Some(difference) = found.difference(&call.run(&LITERAL)) {
-            panic!("{}: {difference}; alone: REFERENCE_SEED={seed} REFERENCE_FIRST={index} REFERENCE_CASES=1", entry.title());
+        let call = entry.call(seed, index);
+        let found = (entry.run)(&call, &FAST);
+        if let Some(difference) = found.difference(&(entry.run)(&call, &LITERAL)) {
+            let alone = format!("REFERENCE_ENTRY={} REFERENCE_SEED={seed} REFERENCE_FIRST={index} REFERENCE_CASES=1", entry.title);
+            panic!("{}: {difference}; alone: {alone}", entry.title);
         }
         *seen.entry(found.refusal).or_insert(0) += 1;
-        if entry == Entry::Skeleton && found.refusal == 0 {
-            *printed.entry(found.printed()).or_insert(0) += 1;
+        if let Some(text) = entry.printed.as_ref().filter(|_| found.refusal == 0) {
+            *printed.entry((text.told)(&found)).or_insert(0) += 1;
         }
     }
-    println!("{}: seed {seed}, {count} cases, by refusal {seen:?}{}", entry.title(), more(&printed));
-    if count >= default {
-        assert!(entry.refusals().iter().all(|number| seen.contains_key(number)), "each refusal occurs: {seen:?}");
-    }
-    if count >= default && entry == Entry::Skeleton {
-        assert!(PRINTED.iter().all(|number| printed.contains_key(number)), "each refusal is printed: {printed:?}");
+    println!("{}: seed {seed}, {count} cases, by refusal {seen:?}{}", entry.title, more(&printed));
+    if count >= entry.calls {
+        assert!(entry.refusals.iter().all(|number| seen.contains_key(number)), "{}: each refusal occurs: {seen:?}", entry.title);
+        let told = entry.printed.as_ref().map_or(&[][..], |text| text.refusals);
+        assert!(told.iter().all(|number| printed.contains_key(number)), "{}: each refusal is printed: {printed:?}", entry.title);
     }
 }
 
@@ -46,41 +43,14 @@ fn more(printed: &BTreeMap<u32, u64>) -> String {
 }
 
 #[test]
-fn readers_agree() {
-    agree(Entry::ReadSheet, 10_000);
-}
-
-#[test]
-fn plot_designs_agree() {
-    agree(Entry::PlotDesign, 4000);
-}
-
-#[test]
-fn full_designs_agree() {
-    agree(Entry::FullDesign, 3000);
-}
-
-#[test]
-fn relations_agree() {
-    agree(Entry::Relation, 5000);
-}
-
-#[test]
-fn degrees_agree() {
-    agree(Entry::Degrees, 5000);
-}
-
-#[test]
-fn strata_agree() {
-    agree(Entry::Strata, 5000);
-}
-
-#[test]
-fn names_agree() {
-    agree(Entry::Name, 8000);
-}
-
-#[test]
-fn tables_agree() {
-    agree(Entry::Skeleton, 3000);
+fn both_agree_on_every_entry() {
+    let wanted = std::env::var("REFERENCE_ENTRY").ok();
+    let asked = |entry: &&&'static Entry| wanted.as_ref().is_none_or(|title| title == entry.title);
+    let entries: Vec<&'static Entry> = ALL.iter().filter(asked).copied().collect();
+    assert!(!entries.is_empty(), "no entry of this name");
+    std::thread::scope(|scope| {
+        let running: Vec<_> = entries.into_iter().map(|entry| scope.spawn(move || agree(entry))).collect();
+        let failed = running.into_iter().filter_map(|one| one.join().err()).count();
+        assert_eq!(failed, 0, "entries on which the two differ");
+    });
 }

@@ -3,6 +3,7 @@
 mod common;
 
 use common::*;
+use reference::Level;
 
 fn prints(text: &[u8], expected: &[&str]) {
     for entries in &BOTH {
@@ -10,8 +11,8 @@ fn prints(text: &[u8], expected: &[&str]) {
     }
 }
 
-fn column(plots: usize, level: impl Fn(usize) -> usize) -> Vec<u16> {
-    (0..plots).map(|u| level(u) as u16 + 1).collect()
+fn column(plots: usize, level: impl Fn(usize) -> usize) -> Vec<Level> {
+    (0..plots).map(|u| level(u) as Level + 1).collect()
 }
 
 #[test]
@@ -105,13 +106,13 @@ fn a_split_plot_experiment() {
 }
 
 /// Plots by row, column and sub-column: u = 20 × row + 4 × column + sub-column.
-fn orchard() -> [(&'static str, Vec<u16>); 4] {
+fn orchard() -> [(&'static str, Vec<Level>); 4] {
     let cell = column(100, |u| u / 4);
     let sub_column = column(100, |u| u % 20);
     [("Row", column(100, |u| u / 20)), ("Column", column(100, |u| u / 4 % 5)), ("Cell", cell), ("Subcolumn", sub_column)]
 }
 
-fn rootstock() -> Vec<u16> {
+fn rootstock() -> Vec<Level> {
     column(100, |u| (u / 20 + u / 4 % 5) % 5)
 }
 
@@ -185,7 +186,7 @@ fn refused_designs_are_printed_with_names() {
     for (text, line) in &expected {
         prints(text, &[line]);
     }
-    let bits = |count: usize| -> Vec<(&'static str, Vec<u16>)> {
+    let bits = |count: usize| -> Vec<(&'static str, Vec<Level>)> {
         let names = ["Aa", "Bb", "Cc", "Dd", "Ee", "Ff"];
         (0..count).map(|c| (names[c], column(64, |u| u >> c & 1))).collect()
     };
@@ -193,7 +194,7 @@ fn refused_designs_are_printed_with_names() {
     prints(&sheet(&[], &bits(6)), &["refused 11 - -"]);
     let sums = column(32, |u| (u ^ u >> 1) & 15);
     let four = column(32, |u| u & 15);
-    let five: Vec<(&str, Vec<u16>)> = bits(5).into_iter().map(|(name, levels)| (name, levels[..32].to_vec())).collect();
+    let five: Vec<(&str, Vec<Level>)> = bits(5).into_iter().map(|(name, levels)| (name, levels[..32].to_vec())).collect();
     prints(&sheet(&five, &[("Gg", sums), ("Hh", four)]), &["refused 14 - -"]);
 }
 

@@ -3,7 +3,7 @@
 mod common;
 
 use common::*;
-use reference::{LEVELS, NAME, PLOTS, TEXT};
+use reference::{Level, LEVELS, NAME, PLOTS, TEXT};
 
 /// Both implementations answer this number, and a refusal leaves the table as it was.
 fn reads(text: &[u8], number: u32) {
@@ -158,7 +158,7 @@ fn naming_asks_2_3_6_7_15_in_that_order() {
     let (full, missing) = (level_table(&[vec![1, 2]], &[vec![1, 1]]), level_table(&[vec![1, 0]], &[vec![1, 1]]));
     for entries in &BOTH {
         let mut name = pattern(NAME);
-        let mut asked = |text: &[u8], levels: &[u16], family: &[u8], size, place| {
+        let mut asked = |text: &[u8], levels: &[Level], family: &[u8], size, place| {
             (entries.name)(text, levels, family, 2, size, 0, place, &mut name)
         };
         assert_eq!(asked(b"", &[], &[], 0, 0), (2, [0]));
@@ -201,7 +201,7 @@ fn an_infimum_lists_all_its_finest_coarser_columns() {
 fn the_longest_name_fits() {
     // Six two-level columns on 64 plots doubled: their infimum has 64 classes of two plots.
     let names: Vec<String> = (0..6).map(|c| format!("t:Abcdefghijk{c}")).collect();
-    let columns: Vec<Vec<u16>> = (0..6).map(|c| (0..128).map(|u: usize| (u >> c & 1) as u16 + 1).collect()).collect();
+    let columns: Vec<Vec<Level>> = (0..6).map(|c| (0..128).map(|u: usize| (u >> c & 1) as Level + 1).collect()).collect();
     let member: Vec<u8> = (0..128).map(|u| (u % 64 + 1) as u8).collect();
     for entries in &BOTH {
         let mut name = pattern(NAME);

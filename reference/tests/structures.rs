@@ -4,7 +4,7 @@
 mod common;
 
 use common::*;
-use reference::{Entries, FAMILY};
+use reference::{Entries, Level, FAMILY};
 
 type Partition = Vec<u8>;
 
@@ -98,7 +98,7 @@ fn grow(set: &mut Vec<Partition>, others: &[Partition], found: &mut Vec<Vec<Part
 /// One choice of columns: accepted exactly when a structure contains them, and with the least one.
 fn check(entries: &Entries, columns: &[Partition], structures: &[Vec<Partition>]) {
     let plots = columns[0].len();
-    let levels: Vec<Vec<u16>> = columns.iter().map(|c| c.iter().map(|&class| u16::from(class)).collect()).collect();
+    let levels: Vec<Vec<Level>> = columns.iter().map(|c| c.iter().map(|&class| Level::from(class)).collect()).collect();
     let mut family = pattern(FAMILY);
     let (number, answer) = (entries.plot_design)(&level_table(&levels, &[]), plots, columns.len(), &mut family);
     let containing: Vec<&Vec<Partition>> = structures.iter().filter(|s| columns.iter().all(|c| s.contains(c))).collect();

@@ -3,10 +3,10 @@
 mod common;
 
 use common::*;
-use reference::{Entries, FAMILY, LEVELS, NAME, PLOTS};
+use reference::{Entries, Level, FAMILY, LEVELS, NAME, PLOTS};
 
 /// What a plot design answers and leaves: the refusal, its places, and the members.
-fn plot_design(entries: &Entries, columns: &[Vec<u16>], plots: usize) -> (u32, [u64; 3], Vec<Vec<u8>>) {
+fn plot_design(entries: &Entries, columns: &[Vec<Level>], plots: usize) -> (u32, [u64; 3], Vec<Vec<u8>>) {
     let levels = level_table(columns, &[]);
     let mut family = pattern(FAMILY + 3);
     let (number, answer) = (entries.plot_design)(&levels, plots, columns.len(), &mut family);
@@ -27,7 +27,7 @@ fn degrees(entries: &Entries, members: &[Vec<u8>]) -> Vec<i64> {
 }
 
 /// An accepted plot design: its class numbers and degrees of freedom.
-fn accepted(columns: &[Vec<u16>], plots: usize, expected_classes: &[u8], expected_degrees: &[i64]) {
+fn accepted(columns: &[Vec<Level>], plots: usize, expected_classes: &[u8], expected_degrees: &[i64]) {
     for entries in &BOTH {
         let (number, answer, found) = plot_design(entries, columns, plots);
         assert_eq!((number, answer), (0, [0, 0, expected_classes.len() as u64]), "{}", entries.title);
@@ -36,7 +36,7 @@ fn accepted(columns: &[Vec<u16>], plots: usize, expected_classes: &[u8], expecte
     }
 }
 
-fn refused(columns: &[Vec<u16>], plots: usize, number: u32, answer: [u64; 3]) {
+fn refused(columns: &[Vec<Level>], plots: usize, number: u32, answer: [u64; 3]) {
     for entries in &BOTH {
         let found = plot_design(entries, columns, plots);
         assert_eq!((found.0, found.1), (number, answer), "{}", entries.title);
@@ -106,8 +106,8 @@ fn a_treatment_crossing_its_plot_column() {
 }
 
 /// Column c has level 1 or 2 by bit c of the plot.
-fn crossed(columns: usize, plots: usize) -> Vec<Vec<u16>> {
-    (0..columns).map(|c| (0..plots).map(|u| (u >> c & 1) as u16 + 1).collect()).collect()
+fn crossed(columns: usize, plots: usize) -> Vec<Vec<Level>> {
+    (0..columns).map(|c| (0..plots).map(|u| (u >> c & 1) as Level + 1).collect()).collect()
 }
 
 #[test]
@@ -197,7 +197,7 @@ fn what_12_13_and_14_leave() {
 #[test]
 fn a_final_family_that_is_too_large_leaves_the_first() {
     let bit = |u: usize, b: usize| u >> b & 1;
-    let level = |bits: [usize; 4]| bits.iter().fold(0, |sum, b| 2 * sum + *b as u16) + 1;
+    let level = |bits: [usize; 4]| bits.iter().fold(0, |sum, b| 2 * sum + *b as Level) + 1;
     let sums = |u: usize| level([0, 1, 2, 3].map(|b| bit(u, b) ^ bit(u, b + 1)));
     let four = |u: usize| level([0, 1, 2, 3].map(|b| bit(u, b)));
     let treatment_columns = [(0..32).map(sums).collect(), (0..32).map(four).collect()];

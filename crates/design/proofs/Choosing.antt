@@ -9,25 +9,26 @@ use native.Mathlib.Nat.{le-of-eq, not-suc-le-zero, le-of-suc-le-suc, lt-irrefl, 
 use native.Mathlib.Numerals.{add-one}
 use native.Mathlib.Omega.{arith}
 use lib.Dec.{ltb, eqb, leb·suc-suc, leb·suc-zero}
-use lib.ListN.{length, getD, take, drop, set, length-set, length-append, length-drop, replicate, List·getD-append}
-use lib.Seq.{paste, take-suc, take-all, take-length, length-take-le, getD-set-same, getD-set-other, getD-at}
+use lib.ListN.{length, getD, take, drop, set, length-set, length-append, replicate, List·getD-append}
+use lib.Seq.{paste, take-suc, take-all, take-length, getD-set-same, getD-set-other, getD-at}
 use borrow.Author.Tests.{lt-ltb, le-ltb, ltb-true, ltb-false, eqb-true, eqb-false}
 use Rattle.rules.specs.Factor.{Column, number, infimum, universal}
-use Rattle.rules.specs.Family.{Family, _∈_, columnsFrom, membersOf, insertAll, written}
+use Rattle.rules.specs.Family.{Family, _∈_, columnsFrom, membersOf, insertAll}
 use Rattle.rules.specs.Closing.{choices, infimumAll, treatmentGenerators, onlySupremum, tooMany, family, close, given, Chosen, none-of, skipping, taking}
 use Rattle.rules.proofs.Numbering.{by-cases, length-number, number-number, length-infimum, number-infimum}
 use Rattle.rules.proofs.Supremum.{infimum-equivalent, number-equivalent, equivalent-refl}
 use Rattle.rules.proofs.Bounds.{numbered-equal}
 use Rattle.rules.proofs.ClassCount.{infimum-universal}
 use Rattle.rules.proofs.Extremes.{length-universal, number-universal}
-use Rattle.rules.proofs.Buffer.{put, length-put, length-members, member-is, members-add, columns-snoc}
-use Rattle.rules.proofs.WorkList.{place-of, member-in, found-over}
+use Rattle.rules.proofs.Buffer.{put, length-put, length-members, member-is, members-add}
+use Rattle.rules.proofs.WorkList.{member-in, found-over}
 use Rattle.rules.proofs.Families.{choices-chosen}
 use Rattle.factor.specs.Lent.{onCommon, overlay}
 use Rattle.factor.proofs.Lent.{common-all, take-overlay}
-use Rattle.design.specs.State.{columnIn, Placed, full, old, new, grownTo, Begun, makeOf, Work, Closed, exceeded, complete}
+use Rattle.design.specs.State.{columnAt, PlacedMember, full, old, new, grownTo, Begun, makeOf, Work, Closed, exceeded, complete}
 use Rattle.design.specs.Treatments.{withChoice, shorter, extended, Room, Infima, AllPlaced, over, on}
-use Rattle.design.proofs.Placing.{grown-old, part-column}
+use Rattle.design.proofs.Placing.{grown-old}
+use Rattle.factor.proofs.Lent.{part-of, length-part}
 use Rattle.design.proofs.Start.{begun-more}
 
 -- ---- choices
@@ -210,10 +211,6 @@ getD-map f [] i d e h = absurd (not-suc-le-zero h)
 getD-map f (x ∷ l) zero d e h = refl
 getD-map f (x ∷ l) (suc i) d e h = getD-map f l i d e (le-of-suc-le-suc h)
 
--- the columns of a buffer are on n plots
-pub length-part : (n e : ℕ) (b : List ℕ) → n ≤ 240 → 240 * e + 240 ≤ length b → length (columnIn n b e) ≡ n
-length-part n e b small fits = length-take-le n (drop (240 * e) b) (rw length-drop (omega arith))
-
 -- pasting a whole column is putting it
 paste-whole : (n : ℕ) (small : n ≤ 240) (b : List ℕ) (m : ℕ) (F : Column) → length F ≡ n → paste b (240 * m) F n ≡ put n small b m F
 paste-whole n small b m F l = subst (λ (i : ℕ). paste b (240 * m) F i ≡ put n small b m F) l (rw (take-length F))
@@ -233,10 +230,10 @@ module _ (T : Column) (b : List ℕ) (e : ℕ) (small : length T ≤ 240) (fits 
   lentPart = take (240 * e + length T - 240 * e) (drop (240 * e) b)
 
   abbrev G : Column
-  G = columnIn (length T) b e
+  G = columnAt (length T) b e
 
   on-plots : length G ≡ length T
-  on-plots = length-part (length T) e b small fits
+  on-plots = length-part (length T) e b (omega (arith, small, fits))
 
   -- it is on as many plots
   pub length-met : length (infimum T G) ≡ length T
@@ -244,7 +241,7 @@ module _ (T : Column) (b : List ℕ) (e : ℕ) (small : length T ≤ 240) (fits 
 
   module _ (out after : List ℕ) (q : after ≡ overlay out (onCommon infimum T lentPart)) where
     array-is : after ≡ overlay out (infimum T G)
-    array-is = q ∙ ap (λ (X : Column). overlay out (onCommon infimum T X)) (part-column (length T) b e) ∙ ap (overlay out) (common-all infimum T G (sym on-plots) small)
+    array-is = q ∙ ap (λ (X : Column). overlay out (onCommon infimum T X)) (part-of (length T) e b) ∙ ap (overlay out) (common-all infimum T G (sym on-plots) small)
 
     -- the array starts with it
     pub take-met : take (length T) after ≡ infimum T G
@@ -269,7 +266,7 @@ room-more n lengths m v r h f = record {
 
 module _ (n : ℕ) (infima lengths : List ℕ) (m : ℕ) (Cs : List (List Column)) (i : Infima n infima lengths m Cs) where
   -- the infimum at e
-  pub infimum-at : (e : ℕ) → e < m → columnIn n infima e ≡ infimumAll n (getD Cs e [])
+  pub infimum-at : (e : ℕ) → e < m → columnAt n infima e ≡ infimumAll n (getD Cs e [])
   infimum-at e h =
       sym (member-is n (i .room .most) infima m e h) ∙ ap (λ (S : Family). getD S e []) (i .columns)
       ∙ getD-map (infimumAll n) Cs e [] [] (rw (i .count) h)
@@ -279,17 +276,17 @@ module _ (n : ℕ) (infima lengths : List ℕ) (m : ℕ) (Cs : List (List Column
     C = getD Cs e []
 
     abbrev F : Column
-    F = infimum (number T) (columnIn n infima e)
+    F = infimum (number T) (columnAt n infima e)
 
-    on-n : length (columnIn n infima e) ≡ n
-    on-n = length-part n e infima (i .room .most) (omega (arith, i .fits))
+    on-n : length (columnAt n infima e) ≡ n
+    on-n = length-part n e infima (omega (arith, i .fits, i .room .most))
 
     length-F : length F ≡ n
-    length-F = length-infimum (number T) (columnIn n infima e) (length-number T ∙ l ∙ sym on-n) ∙ length-number T ∙ l
+    length-F = length-infimum (number T) (columnAt n infima e) (length-number T ∙ l ∙ sym on-n) ∙ length-number T ∙ l
 
     is : F ≡ infimumAll n (T ∷ C)
     unfolding infimumAll
-    is = infimum-number T (columnIn n infima e) (l ∙ sym on-n) ∙ ap (infimum T) (infimum-at e h)
+    is = infimum-number T (columnAt n infima e) (l ∙ sym on-n) ∙ ap (infimum T) (infimum-at e h)
 
     -- one infimum more
     pub infima-more : Infima n (paste infima (240 * m) F n) (set lengths m (getD lengths e 0 + 1)) (m + 1) (Cs ++ (T ∷ C) ∷ [])
@@ -362,12 +359,12 @@ module _ (column : Column) (k : ℕ) (infima₀ lengths₀ : List ℕ) (total : 
 
     -- what a column and a choice make is the infimum of the two, or the column where the choice is empty
     choice-is : (T : Column) (Cs : List (List Column)) → number T ≡ column → Infima (length column) infima₀ lengths₀ total Cs
-        → (l : ℕ) → l ≡ getD lengths e 0 → withChoice l column (columnIn (length column) infima e) ≡ infimum column (columnIn (length column) infima e)
+        → (l : ℕ) → l ≡ getD lengths e 0 → withChoice l column (columnAt (length column) infima e) ≡ infimum column (columnAt (length column) infima e)
     unfolding infimumAll
     choice-is T Cs w i zero q =
         let h : e < size = omega (arith, x .low) in
         let alone : getD (reached k T Cs e) e [] ≡ [] = no-column (getD (reached k T Cs e) e []) (sym (x .chosen T Cs w i .sizes e h) ∙ sym q) in
-        let u : columnIn (length column) infima e ≡ universal (length column) = infimum-at (length column) infima lengths size (reached k T Cs e) (x .chosen T Cs w i) e h ∙ ap (infimumAll (length column)) alone in
+        let u : columnAt (length column) infima e ≡ universal (length column) = infimum-at (length column) infima lengths size (reached k T Cs e) (x .chosen T Cs w i) e h ∙ ap (infimumAll (length column)) alone in
         sym (ap (infimum column) u ∙ infimum-universal (length column) column refl (ap number (sym w) ∙ number-number T ∙ w))
       where
         no-column : (C : List Column) → length C ≡ 0 → C ≡ []
@@ -376,12 +373,12 @@ module _ (column : Column) (k : ℕ) (infima₀ lengths₀ : List ℕ) (total : 
     choice-is T Cs w i (suc l) q = refl
 
     -- it is on as many plots
-    length-choice : (l : ℕ) → length (withChoice l column (columnIn (length column) infima e)) ≡ length column
+    length-choice : (l : ℕ) → length (withChoice l column (columnAt (length column) infima e)) ≡ length column
     length-choice zero = refl
     length-choice (suc l) = length-met column infima e (x .room .most) fits-here
 
     -- what the column makes with the choice at e is added
-    pub extending-more : getD lengths e 0 < k → (after lengths′ : List ℕ) (size′ : ℕ) → after ≡ paste infima (240 * size) (withChoice (getD lengths e 0) column (columnIn (length column) infima e)) (length column)
+    pub extending-more : getD lengths e 0 < k → (after lengths′ : List ℕ) (size′ : ℕ) → after ≡ paste infima (240 * size) (withChoice (getD lengths e 0) column (columnAt (length column) infima e)) (length column)
         → lengths′ ≡ set lengths size (getD lengths e 0 + 1) → size′ ≡ size + 1 → Extending after lengths′ size′ (e + 1)
     extending-more short after lengths′ size′ p q z = rw (p, q, z) record {
       room = room-more (length column) lengths size (getD lengths e 0 + 1) (x .room) (omega (arith, x .high)) (omega arith);
@@ -392,7 +389,7 @@ module _ (column : Column) (k : ℕ) (infima₀ lengths₀ : List ℕ) (total : 
     }
       where
         made : Column
-        made = withChoice (getD lengths e 0) column (columnIn (length column) infima e)
+        made = withChoice (getD lengths e 0) column (columnAt (length column) infima e)
 
         Next : Column → (T : Column) → List (List Column) → Type 0
         Next F T Ds = Infima (length column) (paste infima (240 * size) F (length column)) (set lengths size (getD lengths e 0 + 1)) (size + 1) Ds
@@ -404,9 +401,9 @@ module _ (column : Column) (k : ℕ) (infima₀ lengths₀ : List ℕ) (total : 
             let s : length (getD Cs e []) < k = subst (λ (m : ℕ). m < k) (columns-at T Cs w i) short in
             let j = infima-more (length column) infima lengths size (reached k T Cs e) (x .chosen T Cs w i) T l e (omega (arith, x .low)) (omega (arith, x .high)) (omega arith) fits-next in
             subst (λ (F : Column). Next F T (reached k T Cs (e + 1))) (sym (choice-is T Cs w i (getD lengths e 0) refl))
-            (subst (λ (Ds : List (List Column)). Next (infimum column (columnIn (length column) infima e)) T Ds)
+            (subst (λ (Ds : List (List Column)). Next (infimum column (columnAt (length column) infima e)) T Ds)
             (ap (λ (D : List Column). reached k T Cs e ++ (T ∷ D) ∷ []) (reached-at k T Cs e e h) ∙ sym (reached-more k T Cs e h s))
-            (subst (λ (N : Column). Next (infimum N (columnIn (length column) infima e)) T (reached k T Cs e ++ (T ∷ getD (reached k T Cs e) e []) ∷ [])) w j))
+            (subst (λ (N : Column). Next (infimum N (columnAt (length column) infima e)) T (reached k T Cs e ++ (T ∷ getD (reached k T Cs e) e []) ∷ [])) w j))
 
     -- the one at e is of too many columns
     pub extending-same : k ≤ getD lengths e 0 → (after lengths′ : List ℕ) (size′ : ℕ) → after ≡ infima → lengths′ ≡ lengths → size′ ≡ size → Extending after lengths′ size′ (e + 1)
@@ -460,12 +457,12 @@ module _ (n k first d : ℕ) (levels : List ℕ) where
       rw z
 
   -- a column more
-  pub last-more : 1 ≤ k → (c : ℕ) → 0 < c → c ≤ d → extended k (columnIn n levels (first + (c - 1))) (lastOf c) ≡ lastOf (c - 1)
+  pub last-more : 1 ≤ k → (c : ℕ) → 0 < c → c ≤ d → extended k (columnAt n levels (first + (c - 1))) (lastOf c) ≡ lastOf (c - 1)
   unfolding columnsFrom
   last-more some c h l =
       let z : d - (c - 1) ≡ suc (d - c) = omega arith in
       let s : first + c ≡ suc (first + (c - 1)) = omega arith in
-      rw (z, s) (choices-more k some (columnIn n levels (first + (c - 1))) (columnsFrom n levels (suc (first + (c - 1))) (d - c)))
+      rw (z, s) (choices-more k some (columnAt n levels (first + (c - 1))) (columnsFrom n levels (suc (first + (c - 1))) (d - c)))
 
   -- all columns
   pub last-all : (c : ℕ) → c ≡ 0 → map (infimumAll n) (lastOf c) ≡ treatmentGenerators n k (columnsFrom n levels first d)
@@ -502,19 +499,19 @@ beside {As} {Bs} sub S F m = go (List·Memᴰ·append-cases As m)
     go (inr k) = Memᴰ·append-right Bs k
 
 -- from one place earlier on there is a column more
-pub members-before : (n : ℕ) (b : List ℕ) (e m : ℕ) → 0 < e → e ≤ m → columnsFrom n b (e - 1) (m - (e - 1)) ≡ columnIn n b (e - 1) ∷ columnsFrom n b e (m - e)
+pub members-before : (n : ℕ) (b : List ℕ) (e m : ℕ) → 0 < e → e ≤ m → columnsFrom n b (e - 1) (m - (e - 1)) ≡ columnAt n b (e - 1) ∷ columnsFrom n b e (m - e)
 unfolding columnsFrom
 members-before n b e m some h =
     let p : m - (e - 1) ≡ suc (m - e) = omega arith in
     let q : suc (e - 1) ≡ e = omega arith in
-    ap (columnsFrom n b (e - 1)) p ∙ ap (λ (x : ℕ). columnIn n b (e - 1) ∷ columnsFrom n b x (m - e)) q
+    ap (columnsFrom n b (e - 1)) p ∙ ap (λ (x : ℕ). columnAt n b (e - 1) ∷ columnsFrom n b x (m - e)) q
 
 -- each column of a buffer is a member
-pub column-member : (n : ℕ) → n ≤ 240 → (b : List ℕ) (e m : ℕ) → e < m → columnIn n b e ∈ membersOf n b m
+pub column-member : (n : ℕ) → n ≤ 240 → (b : List ℕ) (e m : ℕ) → e < m → columnAt n b e ∈ membersOf n b m
 column-member n small b e m h = Memᴰ·cast (sym (member-is n small b m e h)) (member-in (membersOf n b m) e (rw (length-members n small b m) h))
 
 module _ (n : ℕ) (As : List Column) (store counts : List ℕ) (size : ℕ) (b : Begun n As store counts size) (F : Column)
-    (r : ℕ) (after counts′ : List ℕ) (p : Placed n (membersOf n store size) F r after counts′) where
+    (r : ℕ) (after counts′ : List ℕ) (p : PlacedMember n (membersOf n store size) F r after counts′) where
   abbrev S : Family
   S = membersOf n store size
 
@@ -525,7 +522,7 @@ module _ (n : ℕ) (As : List Column) (store counts : List ℕ) (size : ℕ) (b 
   pub begun-next : number F ≡ F → (r ≡ 32 → ⊥) → Begun n (As ++ F ∷ []) after counts′ (grownTo size r)
   begun-next numbered d = by-cases (ltb size 32) (λ e. begun-more n As store counts size b (ltb-true size 32 e) F numbered r after counts′ p) (λ e. go (ltb-false size 32 e) p)
     where
-      go : 32 ≤ size → Placed n S F r after counts′ → Begun n (As ++ F ∷ []) after counts′ (grownTo size r)
+      go : 32 ≤ size → PlacedMember n S F r after counts′ → Begun n (As ++ F ∷ []) after counts′ (grownTo size r)
       go h (full e l m) = absurd (d e)
       go h (new e l m k q) = absurd (let w : 32 ≤ r = omega (arith, ends) in omega arith)
       go h (old l m k e) =
@@ -567,7 +564,7 @@ module _ (n : ℕ) (As : List Column) (store counts : List ℕ) (size : ℕ) (b 
   pub begun-over : r ≡ 32 → (Gs : List Column) → ((G : Column) → G ∈ As → G ∈ Gs) → F ∈ Gs → close onlySupremum Gs ≡ tooMany
   begun-over e Gs sub i = go p
     where
-      go : Placed n S F r after counts′ → close onlySupremum Gs ≡ tooMany
+      go : PlacedMember n S F r after counts′ → close onlySupremum Gs ≡ tooMany
       go (old l m k q) = absurd (let w : 32 < size = omega (arith, ends) in omega (arith, b .held .few))
       go (new q l m k w) = absurd (let z : 32 < 32 = omega arith in omega arith)
       go (full q l m) = found-over onlySupremum Gs S record { distinct = b .distinct; only = λ G j. given (sub G (b .only G j)) } F (given i) m (omega arith)
@@ -618,8 +615,8 @@ unfolding columnsFrom
 columns-plots n small b i zero h F j = absurd (List·Memᴰ·not-nil j)
 columns-plots n small b i (suc m) h F j = go (columns-plots n small b (suc i) m (omega arith) F) (List·Memᴰ·cases-cons j)
   where
-    go : (F ∈ columnsFrom n b (suc i) m → length F ≡ n) → (F ≡ columnIn n b i) ⊎ (F ∈ columnsFrom n b (suc i) m) → length F ≡ n
-    go f (inl e) = ap length e ∙ length-part n i b small (omega arith)
+    go : (F ∈ columnsFrom n b (suc i) m → length F ≡ n) → (F ≡ columnAt n b i) ⊎ (F ∈ columnsFrom n b (suc i) m) → length F ≡ n
+    go f (inl e) = ap length e ∙ length-part n i b (omega arith)
     go f (inr k) = f k
 
 -- the same of the members of a buffer

@@ -20,7 +20,7 @@ use Rattle.rules.proofs.Extremes.{length-up}
 use Rattle.rules.proofs.ClassCount.{at-up}
 use Rattle.rules.proofs.Sums.{sum, sum-ext, sum-scale, label-plot, count-by-class}
 use Rattle.rules.proofs.Orthogonality.{same-test, orthogonal-by-plots, classes-size}
-use Rattle.design.specs.Points.{Points, onPlots}
+use Rattle.design.specs.Points.{Points, pointsOnPlots}
 use Rattle.design.proofs.PointLaws.{point-less, many-labels, label-at, point-plot, length-plots, at-plots, infimum-plots, supremum-plots}
 
 -- ---- counts as sums over numbers from 1 on
@@ -83,14 +83,14 @@ module _ {n m : ℕ} {p : Column} (P : Points n m p) (even : Uniform n p) where
       ∙ ap (λ (x : ℕ). size * x) (ap (λ s. sum s (λ g. bit (q (g - 1)))) labels-up ∙ count-up m q)
 
   -- the class of a plot has the plots of its point's class
-  sizes-plots : (F : Column) (u : ℕ) → u < n → classSize n (onPlots p F) u ≡ size * classSize m F (at p u - 1)
+  sizes-plots : (F : Column) (u : ℕ) → u < n → classSize n (pointsOnPlots p F) u ≡ size * classSize m F (at p u - 1)
   unfolding classSize
   sizes-plots F u h =
       count-same n _ _ (λ v hv. ap₂ eqb (at-plots P F u h) (at-plots P F v hv))
       ∙ count-plots (λ x. same F (at p u - 1) x)
 
   -- the sizes of two classes of a plot
-  product-plots : (F G : Column) (u : ℕ) → u < n → classSize n (onPlots p F) u * classSize n (onPlots p G) u ≡ size * size * (classSize m F (at p u - 1) * classSize m G (at p u - 1))
+  product-plots : (F G : Column) (u : ℕ) → u < n → classSize n (pointsOnPlots p F) u * classSize n (pointsOnPlots p G) u ≡ size * size * (classSize m F (at p u - 1) * classSize m G (at p u - 1))
   product-plots F G u h = ap₂ _*_ (sizes-plots F u h) (sizes-plots G u h) ∙ mul-mul-mul-comm size (classSize m F (at p u - 1)) size (classSize m G (at p u - 1))
 
   -- a point has a plot at least
@@ -102,24 +102,24 @@ module _ {n m : ℕ} {p : Column} (P : Points n m p) (even : Uniform n p) where
       go (inr k) = k
 
   -- columns of points are orthogonal exactly when they are as columns of plots
-  pub orthogonal-plots : (F G : Column) → length F ≡ m → length G ≡ m → orthogonal n (onPlots p F) (onPlots p G) ≡ orthogonal m F G
+  pub orthogonal-plots : (F G : Column) → length F ≡ m → length G ≡ m → orthogonal n (pointsOnPlots p F) (pointsOnPlots p G) ≡ orthogonal m F G
   orthogonal-plots F G lF lG =
-      same-test (orthogonal n (onPlots p F) (onPlots p G)) (orthogonal m F G)
+      same-test (orthogonal n (pointsOnPlots p F) (pointsOnPlots p G)) (orthogonal m F G)
       (λ e. orthogonal-test m F G .1 (points .1 (λ x h. on-points (plots .0 (orthogonal-test n _ _ .0 e)) x h (point-plot P x h))))
       (λ e. orthogonal-test n _ _ .1 (plots .1 (λ u h. bounds u h ∙ ap (λ (x : ℕ). size * size * x) (points .0 (orthogonal-test m F G .0 e) (at p u - 1) (point-less P u h)) ∙ sym (product-plots F G u h))))
     where
-      plots : Orthogonal n (onPlots p F) (onPlots p G) ↔ ((u : ℕ) → u < n → classSize n (infimum (onPlots p F) (onPlots p G)) u * classSize n (supremum (onPlots p F) (onPlots p G)) u ≡ classSize n (onPlots p F) u * classSize n (onPlots p G) u)
-      plots = orthogonal-by-plots n (onPlots p F) (onPlots p G) (length-plots P F) (length-plots P G)
+      plots : Orthogonal n (pointsOnPlots p F) (pointsOnPlots p G) ↔ ((u : ℕ) → u < n → classSize n (infimum (pointsOnPlots p F) (pointsOnPlots p G)) u * classSize n (supremum (pointsOnPlots p F) (pointsOnPlots p G)) u ≡ classSize n (pointsOnPlots p F) u * classSize n (pointsOnPlots p G) u)
+      plots = orthogonal-by-plots n (pointsOnPlots p F) (pointsOnPlots p G) (length-plots P F) (length-plots P G)
 
       points : Orthogonal m F G ↔ ((x : ℕ) → x < m → classSize m (infimum F G) x * classSize m (supremum F G) x ≡ classSize m F x * classSize m G x)
       points = orthogonal-by-plots m F G lF lG
 
-      bounds : (u : ℕ) → u < n → classSize n (infimum (onPlots p F) (onPlots p G)) u * classSize n (supremum (onPlots p F) (onPlots p G)) u ≡ size * size * (classSize m (infimum F G) (at p u - 1) * classSize m (supremum F G) (at p u - 1))
+      bounds : (u : ℕ) → u < n → classSize n (infimum (pointsOnPlots p F) (pointsOnPlots p G)) u * classSize n (supremum (pointsOnPlots p F) (pointsOnPlots p G)) u ≡ size * size * (classSize m (infimum F G) (at p u - 1) * classSize m (supremum F G) (at p u - 1))
       bounds u h =
           ap₂ (λ (A B : Column). classSize n A u * classSize n B u) (infimum-plots P F G lF lG) (supremum-plots P F G lF lG)
           ∙ product-plots (infimum F G) (supremum F G) u h
 
-      on-points : ((u : ℕ) → u < n → classSize n (infimum (onPlots p F) (onPlots p G)) u * classSize n (supremum (onPlots p F) (onPlots p G)) u ≡ classSize n (onPlots p F) u * classSize n (onPlots p G) u)
+      on-points : ((u : ℕ) → u < n → classSize n (infimum (pointsOnPlots p F) (pointsOnPlots p G)) u * classSize n (supremum (pointsOnPlots p F) (pointsOnPlots p G)) u ≡ classSize n (pointsOnPlots p F) u * classSize n (pointsOnPlots p G) u)
           → (x : ℕ) → x < m → (u : ℕ) × (u < n) × (at p u ≡ suc x) → classSize m (infimum F G) x * classSize m (supremum F G) x ≡ classSize m F x * classSize m G x
       on-points sizes x h (u, hu, e) =
           let s : 0 < size = size-some (omega arith) in

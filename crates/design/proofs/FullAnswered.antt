@@ -18,7 +18,7 @@ use Rattle.design.proofs.Answered.{held-over, held-on}
 use Rattle.design.proofs.Search.{cross-found}
 use Rattle.design.specs.Search.{crossFirst, crossSecond}
 use Rattle.design.specs.Closings.{closedIn}
-use Rattle.design.specs.Judging.{Tells, Listed, unlisted, listed}
+use Rattle.design.specs.Judging.{MarksTell, Listed, unlisted, listed}
 use Rattle.design.specs.Treatments.{orthogonalAt, Numbered}
 use Rattle.design.proofs.Asked.{numbered-made}
 use mathlib.Core.Path.{_≡_, refl, sym, ap, _∙_, subst, ap₂}
@@ -189,10 +189,10 @@ module _ (n k : ℕ) (Ts : List Column) (on : (T : Column) → T ∈ Ts → leng
     first-numbered (listed S is q h s t) d = numbered-made n small after r (room-after S is q h s) h (subst (WellMade n) (sym (same S is q h s)) (first-made n k Ts on S is))
 
     -- the marks tell which are orthogonal
-    pub first-tells : Listed n false (treatmentGenerators n k Ts) before after marks order r → (r ≡ 33 → ⊥) → Tells (orthogonal n) (membersOf n after r) order marks r
+    pub first-tells : Listed n false (treatmentGenerators n k Ts) before after marks order r → (r ≡ 33 → ⊥) → MarksTell (orthogonal n) (membersOf n after r) order marks r
     unfolding firstTreatmentFamily
     first-tells (unlisted q t s) d = absurd (d q)
-    first-tells (listed S is q h s t) d = subst (λ (T : Family). Tells (orthogonal n) T order marks r) (sym (same S is q h s)) t
+    first-tells (listed S is q h s t) d = subst (λ (T : Family). MarksTell (orthogonal n) T order marks r) (sym (same S is q h s)) t
 
     -- what is written next covers it
     pub first-covered : (P : Family) → ((F : Column) → F ∈ P → length F ≡ n) → equality n ∈ P → Listed n false (treatmentGenerators n k Ts) before after marks order r

@@ -13,7 +13,7 @@ use borrow.Author.Tests.{eqb-true, eqb-false}
 use Rattle.rules.specs.Factor.{Column, at, Finer, classes, infimum, universal}
 use Rattle.rules.proofs.Bounds.{finer-trans, infimum-left, infimum-right}
 use Rattle.rules.proofs.Numbering.{by-cases}
-use Rattle.design.specs.Points.{Points, Ranged, onPlots}
+use Rattle.design.specs.Points.{Points, Ranged, pointsOnPlots}
 use Rattle.design.proofs.Judge.{getD-map}
 use Rattle.design.proofs.PointLaws.{points-universal, points-more}
 use Rattle.design.proofs.Pasted.{in-range}
@@ -75,8 +75,8 @@ gathered-plot n p F column u h r f l all y e v k = by-cases (eqb (at p v) (at p 
         ∙ all v (omega (arith, d))
 
 -- all plots
-pub gathered-plots : (n : ℕ) (p F column : Column) → Ranged n (take n p) → length F ≡ n → ((v : ℕ) → v < n → at column (at p v - 1) ≡ at F v) → onPlots (take n p) column ≡ F
-unfolding onPlots
+pub gathered-plots : (n : ℕ) (p F column : Column) → Ranged n (take n p) → length F ≡ n → ((v : ℕ) → v < n → at column (at p v - 1) ≡ at F v) → pointsOnPlots (take n p) column ≡ F
+unfolding pointsOnPlots
 gathered-plots n p F column r l all =
     let f : ℕ → ℕ = λ x. at column (x - 1) in
     let len : length (map f (take n p)) ≡ n = length-map (take n p) f ∙ r .0 in

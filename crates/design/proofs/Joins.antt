@@ -20,10 +20,10 @@ use Rattle.rules.proofs.Numbering.{by-cases}
 use Rattle.rules.proofs.Bounds.{supremum-left}
 use Rattle.rules.proofs.Between.{between-supremum, between-test, between-supremum-right, between-test-right}
 use Rattle.rules.proofs.Buffer.{length-members, member-is}
-use Rattle.design.specs.State.{columnIn, Held, Placed, full, old, new, grownTo, Begun}
+use Rattle.design.specs.State.{columnAt, Held, PlacedMember, full, old, new, grownTo, Begun}
 use Rattle.design.specs.Treatments.{Placing, exceeded, begun, orthogonalAt, Numbered}
-use Rattle.design.specs.Crossing.{Counted, Below, heldOf, Growing, Grown, Join, Joins, Tested, Entered, nowhere, somewhere, Chosen}
-use Rattle.design.proofs.Asked.{length-column}
+use Rattle.design.specs.Crossing.{Counted, FinerBits, heldOf, Growing, Grown, Join, Joins, Tested, Entered, nowhere, somewhere, ChosenJoin}
+use Rattle.factor.proofs.Lent.{length-part}
 use Rattle.design.proofs.Choosing.{zero-at}
 use Rattle.design.proofs.Placing.{placeIn, placed-full, placed-old, grown-old}
 use Rattle.design.proofs.Suprema.{insertAll-more, begun-placed, over-placed, placing-over, placing-begun}
@@ -85,7 +85,7 @@ module _ (n : ℕ) (small : n ≤ 240) (b : List ℕ) (size : ℕ) where
       let h : length (membersOf n b size) ≤ size = omega (arith, length-members n small b size) in
       drop-of-length-le (membersOf n b size) h
 
-  one-left : (j : ℕ) → j < size → membersFrom j ≡ columnIn n b j ∷ membersFrom (j + 1)
+  one-left : (j : ℕ) → j < size → membersFrom j ≡ columnAt n b j ∷ membersFrom (j + 1)
   one-left j h =
       drop-cons (membersOf n b size) j [] (rw (length-members n small b size) h)
       ∙ ap₂ (λ (F : Column) (S : Family). F ∷ S) (member-is n small b size j h) (ap (λ (k : ℕ). drop k (membersOf n b size)) (sym (add-one j)))
@@ -100,10 +100,10 @@ module _ (n : ℕ) (small : n ≤ 240) (b : List ℕ) (size : ℕ) where
     row-none = rw none-left (append-nil As)
 
     -- a supremum more
-    pub row-more : (j : ℕ) → j < size → {store counts : List ℕ} {r : ℕ} → Placing n (rowFrom (j + 1) ++ supremum F (columnIn n b j) ∷ []) store counts r → Placing n (rowFrom j) store counts r
+    pub row-more : (j : ℕ) → j < size → {store counts : List ℕ} {r : ℕ} → Placing n (rowFrom (j + 1) ++ supremum F (columnAt n b j) ∷ []) store counts r → Placing n (rowFrom j) store counts r
     unfolding productsOf onlySupremum
     row-more j h {store} {counts} {r} p =
-        subst (λ (S : Family). Placing n (As ++ productsOf onlySupremum F S) store counts r) (sym (one-left j h)) (placing-before As (productsOf onlySupremum F (membersFrom (j + 1))) (supremum F (columnIn n b j)) p)
+        subst (λ (S : Family). Placing n (As ++ productsOf onlySupremum F S) store counts r) (sym (one-left j h)) (placing-before As (productsOf onlySupremum F (membersFrom (j + 1))) (supremum F (columnAt n b j)) p)
 
   module _ (S : Family) where
     -- the suprema of the members from place i on with those of S
@@ -115,14 +115,14 @@ module _ (n : ℕ) (small : n ≤ 240) (b : List ℕ) (size : ℕ) where
     rows-none = rw none-left
 
     -- a row more
-    pub rows-more : (i : ℕ) → i < size → {store counts : List ℕ} {r : ℕ} → Placing n (rowsFrom (i + 1) ++ productsOf onlySupremum (columnIn n b i) S) store counts r → Placing n (rowsFrom i) store counts r
+    pub rows-more : (i : ℕ) → i < size → {store counts : List ℕ} {r : ℕ} → Placing n (rowsFrom (i + 1) ++ productsOf onlySupremum (columnAt n b i) S) store counts r → Placing n (rowsFrom i) store counts r
     unfolding products
     rows-more i h {store} {counts} {r} p =
-        subst (λ (P : Family). Placing n (products onlySupremum P S) store counts r) (sym (one-left i h)) (placing-flip (rowsFrom (i + 1)) (productsOf onlySupremum (columnIn n b i) S) p)
+        subst (λ (P : Family). Placing n (products onlySupremum P S) store counts r) (sym (one-left i h)) (placing-flip (rowsFrom (i + 1)) (productsOf onlySupremum (columnAt n b i) S) p)
 
 -- ---- members that are counted
 
-pub counted-members : (n : ℕ) (family counts : List ℕ) (size : ℕ) → Numbered n family size → ((i : ℕ) → i < size → getD counts i 0 ≡ classes (columnIn n family i)) → Counted n family counts size
+pub counted-members : (n : ℕ) (family counts : List ℕ) (size : ℕ) → Numbered n family size → ((i : ℕ) → i < size → getD counts i 0 ≡ classes (columnAt n family i)) → Counted n family counts size
 counted-members n family counts size m c i h = record { room = m .room; place = omega (arith, m .few); numbered = m .numbered i h; count = c i h }
 
 -- ---- a column added
@@ -143,7 +143,7 @@ over-adds : (n : ℕ) (store counts : List ℕ) (size : ℕ) (F : Column) (after
 over-adds n store counts size F after counts′ e As p = exceeded refl (le-trans (placing-over n As store counts size e p) (insertAll-more As (As ++ F ∷ []) (λ G m. Memᴰ·append-left _ m)))
 
 module _ (n : ℕ) (store counts : List ℕ) (size : ℕ) (g : Growing n store counts size) (F : Column) (numbered : number F ≡ F) where
-  module _ (less : size < 32) (p : ℕ) (after counts′ : List ℕ) (w : Placed n (membersOf n store size) F p after counts′) where
+  module _ (less : size < 32) (p : ℕ) (after counts′ : List ℕ) (w : PlacedMember n (membersOf n store size) F p after counts′) where
     room-held : Held n store counts size
     room-held = held-room n store counts size g less
 
@@ -151,7 +151,7 @@ module _ (n : ℕ) (store counts : List ℕ) (size : ℕ) (g : Growing n store c
     pub room-place : p < 32
     room-place = go w
       where
-        go : Placed n (membersOf n store size) F p after counts′ → p < 32
+        go : PlacedMember n (membersOf n store size) F p after counts′ → p < 32
         go (full e l m) = absurd (let q : 32 ≡ size = sym l ∙ size-members room-held in omega arith)
         go (old l m k e) = omega (arith, size-members room-held)
         go (new e l m k q) = l
@@ -267,7 +267,7 @@ module _ {n : ℕ} {plot first : List ℕ} where
   }
 
   -- a pair more
-  pub joins-more : {store joins : List ℕ} {size : ℕ} (i j q : ℕ) → i < 32 → j < 32 → Join n (columnIn n plot i) (columnIn n first j) store size q → Joins n plot first store size joins → Joins n plot first store size (set joins (32 * i + j) (suc q))
+  pub joins-more : {store joins : List ℕ} {size : ℕ} (i j q : ℕ) → i < 32 → j < 32 → Join n (columnAt n plot i) (columnAt n first j) store size q → Joins n plot first store size joins → Joins n plot first store size (set joins (32 * i + j) (suc q))
   joins-more {store} {joins} {size} i j q hi hj w t = record {
     cells = length-set joins (32 * i + j) (suc q) ∙ t .cells;
     sound = λ a b p ha hb e. by-cases (eqb (32 * a + b) (32 * i + j))
@@ -275,7 +275,7 @@ module _ {n : ℕ} {plot first : List ℕ} where
         (λ s. t .sound a b p ha hb (sym (getD-set-other joins (32 * i + j) (32 * a + b) (suc q) 0 (eqb-false (32 * a + b) (32 * i + j) s)) ∙ e));
   }
     where
-      here : (a b p : ℕ) → 32 * a + b ≡ 32 * i + j → b < 32 → getD (set joins (32 * i + j) (suc q)) (32 * a + b) 0 ≡ suc p → Join n (columnIn n plot a) (columnIn n first b) store size p
+      here : (a b p : ℕ) → 32 * a + b ≡ 32 * i + j → b < 32 → getD (set joins (32 * i + j) (suc q)) (32 * a + b) 0 ≡ suc p → Join n (columnAt n plot a) (columnAt n first b) store size p
       here a b p s hb e =
           let ea : a ≡ i = omega arith in
           let eb : b ≡ j = omega arith in
@@ -284,8 +284,8 @@ module _ {n : ℕ} {plot first : List ℕ} where
           rw (ea, eb, ep) w
 
   -- a pair whose supremum is added
-  pub joins-entered : {store after counts joins joins′ : List ℕ} {size r : ℕ} (i j : ℕ) → i < 32 → j < 32 → Grown n store size after counts r → Entered n (supremum (columnIn n plot i) (columnIn n first j)) after (heldOf r) joins (32 * i + j) joins′
-      → orthogonal n (columnIn n plot i) (columnIn n first j) ≡ true → Joins n plot first store (heldOf size) joins → Joins n plot first after (heldOf r) joins′
+  pub joins-entered : {store after counts joins joins′ : List ℕ} {size r : ℕ} (i j : ℕ) → i < 32 → j < 32 → Grown n store size after counts r → Entered n (supremum (columnAt n plot i) (columnAt n first j)) after (heldOf r) joins (32 * i + j) joins′
+      → orthogonal n (columnAt n plot i) (columnAt n first j) ≡ true → Joins n plot first store (heldOf size) joins → Joins n plot first after (heldOf r) joins′
   joins-entered {after = after} {r = r} i j hi hj g (nowhere e) o t = subst (Joins n plot first after (heldOf r)) (sym e) (joins-kept g t)
   joins-entered {after = after} {r = r} i j hi hj g (somewhere q l is e) o t = subst (Joins n plot first after (heldOf r)) (sym e) (joins-more i j q hi hj record { less = l; is = is; test = o } (joins-kept g t))
 
@@ -293,17 +293,17 @@ module _ {n : ℕ} {plot first : List ℕ} where
 
 module _ {n : ℕ} {store : List ℕ} {size q : ℕ} {F G : Column} (lF : length F ≡ n) (lG : length G ≡ n) where
   -- a factor is finer than its suprema
-  pub join-above : Join n F G store size q → Finer n F (columnIn n store q)
+  pub join-above : Join n F G store size q → Finer n F (columnAt n store q)
   join-above w = subst (Finer n F) (sym (w .is)) (supremum-left n F G lF lG)
 
   -- from a finer plot member
-  pub join-plot : (F′ : Column) → length F′ ≡ n → Finer n F′ F → Finer n F (columnIn n store q) → Join n F′ G store size q → Join n F G store size q
+  pub join-plot : (F′ : Column) → length F′ ≡ n → Finer n F′ F → Finer n F (columnAt n store q) → Join n F′ G store size q → Join n F G store size q
   join-plot F′ lF′ f u w =
       let v : Finer n F (supremum F′ G) = subst (Finer n F) (w .is) u in
       record { less = w .less; is = w .is ∙ sym (between-supremum n F′ F G lF′ lF lG f v); test = between-test n F′ F G lF′ lF lG f v (w .test) }
 
   -- from a finer treatment member
-  pub join-treatment : (G′ : Column) → length G′ ≡ n → Finer n G′ G → Finer n G (columnIn n store q) → Join n F G′ store size q → Join n F G store size q
+  pub join-treatment : (G′ : Column) → length G′ ≡ n → Finer n G′ G → Finer n G (columnAt n store q) → Join n F G′ store size q → Join n F G store size q
   join-treatment G′ lG′ f u w =
       let v : Finer n G (supremum F G′) = subst (Finer n G) (w .is) u in
       record { less = w .less; is = w .is ∙ sym (between-supremum-right n F G′ G lF lG′ lG f v); test = between-test-right n F G′ G lF lG′ lG f v (w .test) }
@@ -320,7 +320,7 @@ joined-adds n store counts size g F G q numbered w As p = by-cases (eqb size 33)
         let held : Held n store counts size = subst (Held n store counts) e (g .held) in
         let l : q < size = omega (arith, w .less) in
         let m : q < length (membersOf n store size) = rw (size-members held) l in
-        let there : Placed n (membersOf n store size) (supremum F G) q store counts = old m (member-column held q l ∙ w .is) (rw (size-members held) held) (ap (membersOf n store) (size-members held)) in
+        let there : PlacedMember n (membersOf n store size) (supremum F G) q store counts = old m (member-column held q l ∙ w .is) (rw (size-members held) held) (ap (membersOf n store) (size-members held)) in
         let same : grownTo size q ≡ size = grown-old size q (λ z. omega arith) in
         begun (subst (Begun n (As ++ supremum F G ∷ []) store counts) same (begun-placed n store counts size held (supremum F G) q store counts As (placing-begun n As store counts size d p) numbered (λ z. omega (arith, held .few)) there))
 
@@ -328,16 +328,16 @@ joined-adds n store counts size g F G q numbered w As p = by-cases (eqb size 33)
 
 module _ (n : ℕ) (plot first store counts : List ℕ) (size : ℕ) (joins : List ℕ) (small : n ≤ 240) (room-plot : 7680 ≤ length plot) (room-first : 7680 ≤ length first) (g : Growing n store counts size) (t : Joins n plot first store (heldOf size) joins) where
   abbrev P : ℕ → Column
-  P k = columnIn n plot k
+  P k = columnAt n plot k
 
   abbrev T : ℕ → Column
-  T k = columnIn n first k
+  T k = columnAt n first k
 
   length-plot : (k : ℕ) → k < 32 → length (P k) ≡ n
-  length-plot k h = length-column n k plot (omega arith)
+  length-plot k h = length-part n k plot (omega arith)
 
   length-first : (k : ℕ) → k < 32 → length (T k) ≡ n
-  length-first k h = length-column n k first (omega arith)
+  length-first k h = length-part n k first (omega arith)
 
   -- a cell is a place, from 1, or 0
   pub cell-most : (i j : ℕ) → i < 32 → j < 32 → getD joins (32 * i + j) 0 ≤ 32
@@ -348,11 +348,11 @@ module _ (n : ℕ) (plot first store counts : List ℕ) (size : ℕ) (joins : Li
       go (suc q) e = omega (arith, t .sound i j q hi hj e .less)
 
   -- the number of classes of a supremum is known
-  counted : {F G : Column} {q : ℕ} → Join n F G store (heldOf size) q → (q < 32) × (getD counts q 0 ≡ classes (columnIn n store q))
+  counted : {F G : Column} {q : ℕ} → Join n F G store (heldOf size) q → (q < 32) × (getD counts q 0 ≡ classes (columnAt n store q))
   counted {q = q} w = (omega (arith, w .less), g .held .counted q (w .less))
 
   module _ (i j word : ℕ) (hi : i < 32) (hj : j < 32) where
-    module _ (b : Below n plot word i) where
+    module _ (b : FinerBits n plot word i) where
       at-plot : (k : ℕ) → getD joins (j + 32 * k) 0 ≡ getD joins (32 * k + j) 0
       at-plot k = ap (λ (c : ℕ). getD joins c 0) (add-comm j (32 * k))
 
@@ -362,34 +362,34 @@ module _ (n : ℕ) (plot first store counts : List ℕ) (size : ℕ) (joins : Li
           let h : k < 32 = b k e .0 in
           (omega arith, rw (at-plot k) (cell-most k j h hj))
 
-      module _ (r : ℕ) (c : (r ≡ 0) ⊎ Chosen joins j 32 word r) where
+      module _ (r : ℕ) (c : (r ≡ 0) ⊎ ChosenJoin joins j 32 word r) where
         pub plot-most : r ≤ 32
         plot-most = go c
           where
-            go : (r ≡ 0) ⊎ Chosen joins j 32 word r → r ≤ 32
+            go : (r ≡ 0) ⊎ ChosenJoin joins j 32 word r → r ≤ 32
             go (inl e) = omega arith
             go (inr w) = rw (w .cell) at (plot-cells (w .place) (w .marked) .1)
 
         module _ (q : ℕ) (e : r ≡ suc q) where
-          pub plot-counted : (q < 32) × (getD counts q 0 ≡ classes (columnIn n store q))
+          pub plot-counted : (q < 32) × (getD counts q 0 ≡ classes (columnAt n store q))
           plot-counted = go c
             where
-              go : (r ≡ 0) ⊎ Chosen joins j 32 word r → (q < 32) × (getD counts q 0 ≡ classes (columnIn n store q))
+              go : (r ≡ 0) ⊎ ChosenJoin joins j 32 word r → (q < 32) × (getD counts q 0 ≡ classes (columnAt n store q))
               go (inl z) = absurd (omega arith)
               go (inr w) = counted (t .sound (w .place) j q (b (w .place) (w .marked) .0) hj (sym (at-plot (w .place)) ∙ w .cell ∙ e))
 
           -- where plot member i is finer than the supremum, it is its own
-          pub plot-follows : Finer n (P i) (columnIn n store q) → Join n (P i) (T j) store (heldOf size) q
+          pub plot-follows : Finer n (P i) (columnAt n store q) → Join n (P i) (T j) store (heldOf size) q
           plot-follows f = go c
             where
-              go : (r ≡ 0) ⊎ Chosen joins j 32 word r → Join n (P i) (T j) store (heldOf size) q
+              go : (r ≡ 0) ⊎ ChosenJoin joins j 32 word r → Join n (P i) (T j) store (heldOf size) q
               go (inl z) = absurd (omega arith)
               go (inr w) =
                   let k = w .place in
                   let h : k < 32 = b k (w .marked) .0 in
                   join-plot (length-plot i hi) (length-first j hj) (P k) (length-plot k h) (b k (w .marked) .1) f (t .sound k j q h hj (sym (at-plot k) ∙ w .cell ∙ e))
 
-    module _ (b : Below n first word j) where
+    module _ (b : FinerBits n first word j) where
       at-first : (k : ℕ) → getD joins (32 * i + 1 * k) 0 ≡ getD joins (32 * i + k) 0
       at-first k = ap (λ (c : ℕ). getD joins (32 * i + c) 0) (one-mul k)
 
@@ -399,38 +399,38 @@ module _ (n : ℕ) (plot first store counts : List ℕ) (size : ℕ) (joins : Li
           let h : k < 32 = b k e .0 in
           (omega arith, rw (at-first k) (cell-most i k hi h))
 
-      module _ (r : ℕ) (c : (r ≡ 0) ⊎ Chosen joins (32 * i) 1 word r) where
+      module _ (r : ℕ) (c : (r ≡ 0) ⊎ ChosenJoin joins (32 * i) 1 word r) where
         pub first-most : r ≤ 32
         first-most = go c
           where
-            go : (r ≡ 0) ⊎ Chosen joins (32 * i) 1 word r → r ≤ 32
+            go : (r ≡ 0) ⊎ ChosenJoin joins (32 * i) 1 word r → r ≤ 32
             go (inl e) = omega arith
             go (inr w) = rw (w .cell) at (first-cells (w .place) (w .marked) .1)
 
         module _ (q : ℕ) (e : r ≡ suc q) where
-          joined : (w : Chosen joins (32 * i) 1 word r) → Join n (P i) (T (w .place)) store (heldOf size) q
+          joined : (w : ChosenJoin joins (32 * i) 1 word r) → Join n (P i) (T (w .place)) store (heldOf size) q
           joined w = t .sound i (w .place) q hi (b (w .place) (w .marked) .0) (sym (at-first (w .place)) ∙ w .cell ∙ e)
 
-          pub first-counted : (q < 32) × (getD counts q 0 ≡ classes (columnIn n store q))
+          pub first-counted : (q < 32) × (getD counts q 0 ≡ classes (columnAt n store q))
           first-counted = go c
             where
-              go : (r ≡ 0) ⊎ Chosen joins (32 * i) 1 word r → (q < 32) × (getD counts q 0 ≡ classes (columnIn n store q))
+              go : (r ≡ 0) ⊎ ChosenJoin joins (32 * i) 1 word r → (q < 32) × (getD counts q 0 ≡ classes (columnAt n store q))
               go (inl z) = absurd (omega arith)
               go (inr w) = counted (joined w)
 
           -- plot member i is finer than the supremum
-          pub first-above : Finer n (P i) (columnIn n store q)
+          pub first-above : Finer n (P i) (columnAt n store q)
           first-above = go c
             where
-              go : (r ≡ 0) ⊎ Chosen joins (32 * i) 1 word r → Finer n (P i) (columnIn n store q)
+              go : (r ≡ 0) ⊎ ChosenJoin joins (32 * i) 1 word r → Finer n (P i) (columnAt n store q)
               go (inl z) = absurd (omega arith)
               go (inr w) = join-above (length-plot i hi) (length-first (w .place) (b (w .place) (w .marked) .0)) (joined w)
 
           -- where treatment member j is finer than the supremum, it is its own
-          pub first-follows : Finer n (T j) (columnIn n store q) → Join n (P i) (T j) store (heldOf size) q
+          pub first-follows : Finer n (T j) (columnAt n store q) → Join n (P i) (T j) store (heldOf size) q
           first-follows f = go c
             where
-              go : (r ≡ 0) ⊎ Chosen joins (32 * i) 1 word r → Join n (P i) (T j) store (heldOf size) q
+              go : (r ≡ 0) ⊎ ChosenJoin joins (32 * i) 1 word r → Join n (P i) (T j) store (heldOf size) q
               go (inl z) = absurd (omega arith)
               go (inr w) =
                   let k = w .place in

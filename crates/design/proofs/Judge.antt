@@ -27,9 +27,9 @@ use Rattle.rules.proofs.Questions.{question-10, plot-length}
 use Rattle.rules.proofs.Made.{WellMade, plot-made}
 use Rattle.rules.proofs.PlotInfima.{plotInfima, infima-given, infima-many, infima-whole, suprema-made, same-family}
 use Rattle.rules.proofs.WorkList.{length-sorted, member-in}
-use Rattle.design.specs.State.{columnIn, makeOf, markOf, marked, Work, Sorted}
+use Rattle.design.specs.State.{columnAt, makeOf, pairMark, marked, Work, Sorted}
 use Rattle.design.specs.Search.{firstPairOf}
-use Rattle.design.specs.Judging.{apartAt, Tells, Listed, unlisted, listed, PlotListed, by-counts, by-tests, Judging}
+use Rattle.design.specs.Judging.{apartAt, MarksTell, Listed, unlisted, listed, PlotListed, by-counts, by-tests, Judging}
 use Rattle.design.specs.Closings.{closedIn, Ready}
 use Rattle.design.specs.Treatments.{Numbered}
 use Rattle.design.proofs.Asked.{numbered-made}
@@ -55,7 +55,7 @@ distinct-places S d i zero h k e = absurd (not-suc-le-zero h)
 -- ---- marks
 
 -- the order of the two does not matter
-mark-sym : (infima : Bool) (n : ℕ) (F G : Column) → length F ≡ n → length G ≡ n → markOf infima n F G ≡ markOf infima n G F
+mark-sym : (infima : Bool) (n : ℕ) (F G : Column) → length F ≡ n → length G ≡ n → pairMark infima n F G ≡ pairMark infima n G F
 mark-sym true n F G lF lG = ap₂ eqb (ap₂ _*_ (ap classes (infimum-comm n F G lF lG)) (ap classes (supremum-comm n F G lF lG))) (mul-comm (classes F) (classes G))
 mark-sym false n F G lF lG =
     same-test (orthogonal n F G) (orthogonal n G F)
@@ -98,31 +98,31 @@ module _ {n : ℕ} {infima : Bool} {Gs : List Column} {store counts marks order 
   plots k h = member-length (w .held) (memberAt S k) (member-in S k (rw len h))
 
   -- the marks of two members, in whichever order they were found
-  marks-are : (a b : ℕ) → a < size → b < size → (a ≡ b → ⊥) → marked marks a b ≡ markOf infima n (memberAt S a) (memberAt S b)
+  marks-are : (a b : ℕ) → a < size → b < size → (a ≡ b → ⊥) → marked marks a b ≡ pairMark infima n (memberAt S a) (memberAt S b)
   marks-are a b ha hb ne =
       by-cases (ltb a b)
       (λ e. let h = ltb-true a b e in marked-below marks a b h ∙ w .rows b a h hb ∙ mark-sym infima n (memberAt S b) (memberAt S a) (plots b hb) (plots a ha))
       (λ e. let h = ltb-false a b e in marked-above marks a b h ∙ w .rows a b (lt-of-le-ne h (λ q. ne (sym q))) ha)
 
   -- the first pair without a mark
-  marks-find : (apartAt order marks size .first ≡ firstPair (markOf infima n) 1 P .first) × (apartAt order marks size .second ≡ firstPair (markOf infima n) 1 P .second)
+  marks-find : (apartAt order marks size .first ≡ firstPair (pairMark infima n) 1 P .first) × (apartAt order marks size .second ≡ firstPair (pairMark infima n) 1 P .second)
   unfolding apartAt
-  marks-find = subst (λ (m : ℕ). (firstPairOf test m .first ≡ firstPair (markOf infima n) 1 P .first) × (firstPairOf test m .second ≡ firstPair (markOf infima n) 1 P .second)) lenP (pair-found (markOf infima n) test P same)
+  marks-find = subst (λ (m : ℕ). (firstPairOf test m .first ≡ firstPair (pairMark infima n) 1 P .first) × (firstPairOf test m .second ≡ firstPair (pairMark infima n) 1 P .second)) lenP (pair-found (pairMark infima n) test P same)
     where
       test : ℕ → ℕ → Bool
       test i j = marked marks (getD order i 0) (getD order j 0)
 
-      same : (i j : ℕ) → i < j → j < length P → test i j ≡ markOf infima n (getD P i []) (getD P j [])
+      same : (i j : ℕ) → i < j → j < length P → test i j ≡ pairMark infima n (getD P i []) (getD P j [])
       same i j h k =
           let kj : j < size = rw lenP at k in
           rw (place-is i (omega arith), place-is j kj) (marks-are (getD order i 0) (getD order j 0) (entry-less i (omega arith)) (entry-less j kj) (different i j h kj))
 
   -- the marks tell the members that the test tells apart
-  marks-tell : Tells (markOf infima n) P order marks size
+  marks-tell : MarksTell (pairMark infima n) P order marks size
   marks-tell = record { places = λ i h. omega (arith, entry-less i h, w .held .few); first = marks-find .0; second = marks-find .1 }
 
   -- the family is written
-  pub family-listed : (Hs : List Column) {before after : List ℕ} → close (makeOf infima) Hs ≡ family P → after ≡ written before 0 (map (λ (i : ℕ). columnIn n store i) (take size order)) → Listed n infima Hs before after marks order size
+  pub family-listed : (Hs : List Column) {before after : List ℕ} → close (makeOf infima) Hs ≡ family P → after ≡ written before 0 (map (λ (i : ℕ). columnAt n store i) (take size order)) → Listed n infima Hs before after marks order size
   family-listed Hs {before} is e = listed P is (sym lenP) (w .held .few) (e ∙ ap (written before 0) (sorted-columns n (w .held .most) store size order (w .held .few) s)) marks-tell
 
 -- ---- the plot family as it is written
@@ -141,7 +141,7 @@ module _ (n : ℕ) (small : n ≤ 240) (some : 1 ≤ n) (Fs : List Column) (on :
         (subst (WellMade n) (sym held-members) (plot-made n Fs on S is))
 
     -- what questions 9 and 10 need to know
-    judging : Tells byCounts S order marks r → Judging n r after order marks
+    judging : MarksTell byCounts S order marks r → Judging n r after order marks
     judging t = record {
       some = some;
       most = small;
@@ -150,11 +150,11 @@ module _ (n : ℕ) (small : n ≤ 240) (some : 1 ≤ n) (Fs : List Column) (on :
       tells = λ z. rw held-members (told (rw held-members at z));
     }
       where
-        told : firstFailing (uniform n) 1 S ≡ 0 → Tells (orthogonal n) S order marks r
+        told : firstFailing (uniform n) 1 S ≡ 0 → MarksTell (orthogonal n) S order marks r
         told z = let f = question-10 n Fs on S is some z in record { places = t .places; first = t .first ∙ ap (λ (p : Places). p .first) (sym f); second = t .second ∙ ap (λ (p : Places). p .second) (sym f) }
 
     -- the same by marks that tell it of themselves
-    judging-tests : Tells (orthogonal n) S order marks r → Judging n r after order marks
+    judging-tests : MarksTell (orthogonal n) S order marks r → Judging n r after order marks
     judging-tests t = record {
       some = some;
       most = small;

@@ -21,14 +21,14 @@ use Rattle.rules.proofs.Numbering.{by-cases}
 use Rattle.rules.proofs.Bits.{bit-none}
 use Rattle.rules.proofs.Classes.{finer-test}
 use Rattle.rules.proofs.Bounds.{finer-trans, infimum-left, infimum-right, supremum-left, supremum-right}
-use Rattle.design.specs.State.{columnIn, toldFiner, noted, Held, Known, NamesCoarser, names, Follows, follows}
+use Rattle.design.specs.State.{columnAt, toldFiner, noted, Held, Known, NamesCoarser, names, Follows, follows}
 use Rattle.design.proofs.Extremes.{one-class-coarsest, all-classes-finest}
 use Rattle.design.proofs.Work.{member-column, held-length, size-members, Stood, column-kept, PairAt}
 
 -- ---- bits
 
 -- one of two tests passed
-or-cases : (a b : Bool) → a || b ≡ true → (a ≡ true) ⊎ (b ≡ true)
+pub or-cases : (a b : Bool) → a || b ≡ true → (a ≡ true) ⊎ (b ≡ true)
 or-cases true b e = inl refl
 or-cases false b e = inr e
 
@@ -81,7 +81,7 @@ pub noted-words : (above : List ℕ) (a b : ℕ) → length above ≡ 32 → len
 noted-words above a b l = length-set above a (bitOr (getD above a 0) (bitOr (getD above b 0) (1 * 2 ^ b % 2 ^ 32))) ∙ l
 
 -- a member that is finer than another is finer than all that this one is known to be finer than
-pub known-noted : {n : ℕ} {store above : List ℕ} {size a b : ℕ} → size ≤ 32 → a < size → b < size → Finer n (columnIn n store a) (columnIn n store b) → Known n store above size → Known n store (noted above a b) size
+pub known-noted : {n : ℕ} {store above : List ℕ} {size a b : ℕ} → size ≤ 32 → a < size → b < size → Finer n (columnAt n store a) (columnAt n store b) → Known n store above size → Known n store (noted above a b) size
 known-noted {n} {store} {above} {size} {a} {b} few ha hb f known = record {
   words = noted-words above a b (known .words);
   sound = λ c d e. by-cases (eqb c a) (λ q. at c d (eqb-true c a q) e) (λ q. known .sound c d (ap (λ (w : ℕ). bitAt w d) (sym (getD-set-other above a c word 0 (eqb-false c a q))) ∙ e));
@@ -91,10 +91,10 @@ known-noted {n} {store} {above} {size} {a} {b} few ha hb f known = record {
     word = bitOr (getD above a 0) (bitOr (getD above b 0) (1 * 2 ^ b % 2 ^ 32))
 
     Sound : ℕ → ℕ → Type 0
-    Sound c d = (c < size) × (d < size) × Finer n (columnIn n store c) (columnIn n store d)
+    Sound c d = (c < size) × (d < size) × Finer n (columnAt n store c) (columnAt n store d)
 
     over : (d : ℕ) → Sound b d → Sound a d
-    over d s = (ha, s .1, finer-trans n (columnIn n store a) (columnIn n store b) (columnIn n store d) f (s .2))
+    over d s = (ha, s .1, finer-trans n (columnAt n store a) (columnAt n store b) (columnAt n store d) f (s .2))
 
     here : (d : ℕ) → d ≡ b → Sound a d
     here d q = subst (λ (k : ℕ). Sound a k) (sym q) (ha, hb, f)
@@ -114,7 +114,7 @@ known-noted {n} {store} {above} {size} {a} {b} few ha hb f known = record {
 pub known-grown : {n : ℕ} {F : Column} {r : ℕ} {store counts above store′ counts′ : List ℕ} {size size′ : ℕ} → Held n store counts size → Stood n (membersOf n store size) F r store′ counts′ size′ → Known n store above size → Known n store′ above size′
 known-grown {n} {store = store} {store′ = store′} {size = size} {size′ = size′} held s known = record {
   words = known .words;
-  sound = λ a b e. let k = known .sound a b e in (up a (k .0), up b (k .1), subst (λ (F : Column). Finer n F (columnIn n store′ b)) (sym (column-kept held s a (k .0))) (subst (λ (G : Column). Finer n (columnIn n store a) G) (sym (column-kept held s b (k .1))) (k .2)));
+  sound = λ a b e. let k = known .sound a b e in (up a (k .0), up b (k .1), subst (λ (F : Column). Finer n F (columnAt n store′ b)) (sym (column-kept held s a (k .0))) (subst (λ (G : Column). Finer n (columnAt n store a) G) (sym (column-kept held s b (k .1))) (k .2)));
 }
   where
     up : (k : ℕ) → k < size → k < size′
@@ -122,35 +122,35 @@ known-grown {n} {store = store} {store′ = store′} {size = size} {size′ = s
 
 module _ {n : ℕ} {store counts : List ℕ} {size i j : ℕ} (held : Held n store counts size) (hi : i < size) (hj : j < size) where
   -- where it is known that a member is finer than another, it is
-  pub told-order : {above : List ℕ} → Known n store above size → toldFiner n (getD counts i 0) (getD counts j 0) (getD above i 0) j ≡ true → finer n (columnIn n store i) (columnIn n store j) ≡ true
+  pub told-order : {above : List ℕ} → Known n store above size → toldFiner n (getD counts i 0) (getD counts j 0) (getD above i 0) j ≡ true → finer n (columnAt n store i) (columnAt n store j) ≡ true
   told-order known e = ⊎-elim
-      (λ q. one-class-coarsest n _ (columnIn n store i) (held-length held j hj) (held .some) (sym (held .counted j hj) ∙ eqb-true _ _ q))
+      (λ q. one-class-coarsest n _ (columnAt n store i) (held-length held j hj) (held .some) (sym (held .counted j hj) ∙ eqb-true _ _ q))
       (λ q. ⊎-elim
-      (λ r. all-classes-finest n _ (columnIn n store j) (held-length held i hi) (sym (held .counted i hi) ∙ eqb-true _ _ r))
-      (λ r. finer-test n (columnIn n store i) (columnIn n store j) .1 (known .sound i j r .2))
+      (λ r. all-classes-finest n _ (columnAt n store j) (held-length held i hi) (sym (held .counted i hi) ∙ eqb-true _ _ r))
+      (λ r. finer-test n (columnAt n store i) (columnAt n store j) .1 (known .sound i j r .2))
       (or-cases _ _ q))
       (or-cases _ _ e)
 
   -- what an operation makes of the two members stands at place p
-  column-made : (op : Column → Column → Column) {p : ℕ} → PairAt op (membersOf n store size) i j p → op (columnIn n store i) (columnIn n store j) ≡ columnIn n store p
+  column-made : (op : Column → Column → Column) {p : ℕ} → PairAt op (membersOf n store size) i j p → op (columnAt n store i) (columnAt n store j) ≡ columnAt n store p
   column-made op {p} a = sym (ap₂ op (member-column held i hi) (member-column held j hj)) ∙ sym (a .is) ∙ member-column held p (omega (arith, a .less, size-members held))
 
   -- both members are finer than their supremum
   pub known-supremum : {above : List ℕ} {q : ℕ} → PairAt supremum (membersOf n store size) i j q → Known n store above size → Known n store (noted (noted above i q) j q) size
   known-supremum {q = q} a known =
       let hq : q < size = omega (arith, a .less, size-members held) in
-      known-noted (held .few) hj hq (subst (Finer n (columnIn n store j)) (column-made supremum a) (supremum-right n (columnIn n store i) (columnIn n store j) (held-length held i hi) (held-length held j hj)))
-      (known-noted (held .few) hi hq (subst (Finer n (columnIn n store i)) (column-made supremum a) (supremum-left n (columnIn n store i) (columnIn n store j) (held-length held i hi) (held-length held j hj))) known)
+      known-noted (held .few) hj hq (subst (Finer n (columnAt n store j)) (column-made supremum a) (supremum-right n (columnAt n store i) (columnAt n store j) (held-length held i hi) (held-length held j hj)))
+      (known-noted (held .few) hi hq (subst (Finer n (columnAt n store i)) (column-made supremum a) (supremum-left n (columnAt n store i) (columnAt n store j) (held-length held i hi) (held-length held j hj))) known)
 
   -- their infimum is finer than both
   pub known-infimum : {above : List ℕ} {p : ℕ} → PairAt infimum (membersOf n store size) i j p → Known n store above size → Known n store (noted (noted above p i) p j) size
   known-infimum {p = p} a known =
       let hp : p < size = omega (arith, a .less, size-members held) in
-      known-noted (held .few) hp hj (subst (λ (F : Column). Finer n F (columnIn n store j)) (column-made infimum a) (infimum-right n (columnIn n store i) (columnIn n store j) (held-length held i hi) (held-length held j hj)))
-      (known-noted (held .few) hp hi (subst (λ (F : Column). Finer n F (columnIn n store i)) (column-made infimum a) (infimum-left n (columnIn n store i) (columnIn n store j) (held-length held i hi) (held-length held j hj))) known)
+      known-noted (held .few) hp hj (subst (λ (F : Column). Finer n F (columnAt n store j)) (column-made infimum a) (infimum-right n (columnAt n store i) (columnAt n store j) (held-length held i hi) (held-length held j hj)))
+      (known-noted (held .few) hp hi (subst (λ (F : Column). Finer n F (columnAt n store i)) (column-made infimum a) (infimum-left n (columnAt n store i) (columnAt n store j) (held-length held i hi) (held-length held j hj))) known)
 
 -- an entry that names a member known to be coarser than j, of a member known to be finer than j: the supremum follows
 pub known-follows : {n : ℕ} {store counts marks above : List ℕ} {size i j e : ℕ} → Held n store counts size → Known n store above size → j < size
     → (y : ℕ) → y < j → bitAt (getD above y 0) j ≡ true → NamesCoarser n counts above size j e → e ≡ getD marks (32 * i + y) 0 → Follows n store marks size i j e
 known-follows {n} {store} {j = j} held known hj y hy bit (names q f hq t) e =
-    follows y q hy e f hq (known .sound y j bit .2) (finer-test n (columnIn n store j) (columnIn n store q) .0 (told-order held hj hq known t))
+    follows y q hy e f hq (known .sound y j bit .2) (finer-test n (columnAt n store j) (columnAt n store q) .0 (told-order held hj hq known t))

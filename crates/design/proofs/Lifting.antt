@@ -18,8 +18,8 @@ use Rattle.rules.proofs.Numbering.{length-number}
 use Rattle.rules.proofs.Extremes.{number-equality}
 use Rattle.rules.proofs.Closing.{close-too-many}
 use Rattle.rules.proofs.WorkList.{member-in, Found, found-more, found-over}
-use Rattle.design.specs.State.{columnIn, Held, Placed, full, old, new, grownTo, Begun, makeOf, markOf, markedRow, Work}
-use Rattle.design.specs.Points.{Points, onPlots, Gathered}
+use Rattle.design.specs.State.{columnAt, Held, PlacedMember, full, old, new, grownTo, Begun, makeOf, pairMark, markedRow, Work}
+use Rattle.design.specs.Points.{Points, pointsOnPlots, Gathered}
 use Rattle.design.proofs.Common.{column-length}
 use Rattle.design.proofs.PointLaws.{plots-apart, classes-plots, number-plots, infimum-plots, supremum-plots, counts-plots, plots-few, plots-part, points-some, points-most}
 use Rattle.design.proofs.EvenPoints.{orthogonal-plots}
@@ -40,43 +40,43 @@ length-map f [] = refl
 length-map f (F ∷ S) = ap suc (length-map f S)
 
 -- the columns of one table, made by a function from those of another
-pub columns-map : (f : Column → Column) (n m : ℕ) (a b : List ℕ) (k c e : ℕ) → ((i : ℕ) → i < k → columnIn n a (c + i) ≡ f (columnIn m b (e + i))) → columnsFrom n a c k ≡ map f (columnsFrom m b e k)
+pub columns-map : (f : Column → Column) (n m : ℕ) (a b : List ℕ) (k c e : ℕ) → ((i : ℕ) → i < k → columnAt n a (c + i) ≡ f (columnAt m b (e + i))) → columnsFrom n a c k ≡ map f (columnsFrom m b e k)
 unfolding columnsFrom
 columns-map f n m a b zero c e h = refl
 columns-map f n m a b (suc k) c e h = ap₂ (λ (F : Column) (S : Family). F ∷ S) (first (h 0 (omega arith))) (columns-map f n m a b k (suc c) (suc e) (λ i l. next i (h (suc i) (omega arith))))
   where
-    first : columnIn n a (c + 0) ≡ f (columnIn m b (e + 0)) → columnIn n a c ≡ f (columnIn m b e)
+    first : columnAt n a (c + 0) ≡ f (columnAt m b (e + 0)) → columnAt n a c ≡ f (columnAt m b e)
     first q = let x : c + 0 ≡ c = omega arith in let y : e + 0 ≡ e = omega arith in rw (x, y) at q
 
-    next : (i : ℕ) → columnIn n a (c + suc i) ≡ f (columnIn m b (e + suc i)) → columnIn n a (suc c + i) ≡ f (columnIn m b (suc e + i))
+    next : (i : ℕ) → columnAt n a (c + suc i) ≡ f (columnAt m b (e + suc i)) → columnAt n a (suc c + i) ≡ f (columnAt m b (suc e + i))
     next i q = let x : c + suc i ≡ suc c + i = omega arith in let y : e + suc i ≡ suc e + i = omega arith in rw (x, y) at q
 
 -- the columns Gs of plots are E, and those that the columns Fs of points make
 pub record Generates (n m : ℕ) (p : Column) (Fs Gs : List Column) : Type 0 where
   pub plots : (F : Column) → F ∈ Fs → length F ≡ m
-  pub only : (F : Column) → F ∈ Fs → onPlots p F ∈ Gs
-  pub given : (G : Column) → G ∈ Gs → (G ≡ equality n) ⊎ ((F : Column) × (F ∈ Fs) × (onPlots p F ≡ G))
+  pub only : (F : Column) → F ∈ Fs → pointsOnPlots p F ∈ Gs
+  pub given : (G : Column) → G ∈ Gs → (G ≡ equality n) ⊎ ((F : Column) × (F ∈ Fs) × (pointsOnPlots p F ≡ G))
   pub equal : equality n ∈ Gs
 
 -- ---- what columns of points make
 
 module _ {n m : ℕ} {p : Column} (P : Points n m p) where
   -- a column of a table as one of points
-  pub plots-column : (own : List ℕ) (i : ℕ) → m ≤ 240 → onPlots p (columnIn 240 own i) ≡ onPlots p (columnIn m own i)
-  plots-column own i h = sym (plots-part P (columnIn 240 own i)) ∙ ap (onPlots p) (take-take m 240 _ h)
+  pub plots-column : (own : List ℕ) (i : ℕ) → m ≤ 240 → pointsOnPlots p (columnAt 240 own i) ≡ pointsOnPlots p (columnAt m own i)
+  plots-column own i h = sym (plots-part P (columnAt 240 own i)) ∙ ap (pointsOnPlots p) (take-take m 240 _ h)
 
   -- two columns make the same on points and on plots
-  make-plots : (infima : Bool) (F G H : Column) → length F ≡ m → length G ≡ m → H ∈ makeOf infima F G → onPlots p H ∈ makeOf infima (onPlots p F) (onPlots p G)
+  make-plots : (infima : Bool) (F G H : Column) → length F ≡ m → length G ≡ m → H ∈ makeOf infima F G → pointsOnPlots p H ∈ makeOf infima (pointsOnPlots p F) (pointsOnPlots p G)
   unfolding both onlySupremum
   make-plots true F G H lF lG k =
       ⊎-elim
-      (λ e. List·Memᴰ·head (ap (onPlots p) e ∙ sym (infimum-plots P F G lF lG)))
-      (λ j. List·Memᴰ·tail (List·Memᴰ·head (ap (onPlots p) (List·Memᴰ·eq-of-singleton j) ∙ sym (supremum-plots P F G lF lG))))
+      (λ e. List·Memᴰ·head (ap (pointsOnPlots p) e ∙ sym (infimum-plots P F G lF lG)))
+      (λ j. List·Memᴰ·tail (List·Memᴰ·head (ap (pointsOnPlots p) (List·Memᴰ·eq-of-singleton j) ∙ sym (supremum-plots P F G lF lG))))
       (List·Memᴰ·cases-cons k)
-  make-plots false F G H lF lG k = List·Memᴰ·head (ap (onPlots p) (List·Memᴰ·eq-of-singleton k) ∙ sym (supremum-plots P F G lF lG))
+  make-plots false F G H lF lG k = List·Memᴰ·head (ap (pointsOnPlots p) (List·Memᴰ·eq-of-singleton k) ∙ sym (supremum-plots P F G lF lG))
 
   -- what they make on plots is made on points
-  make-points : (infima : Bool) (F G H : Column) → length F ≡ m → length G ≡ m → H ∈ makeOf infima (onPlots p F) (onPlots p G) → (K : Column) × (K ∈ makeOf infima F G) × (onPlots p K ≡ H)
+  make-points : (infima : Bool) (F G H : Column) → length F ≡ m → length G ≡ m → H ∈ makeOf infima (pointsOnPlots p F) (pointsOnPlots p G) → (K : Column) × (K ∈ makeOf infima F G) × (pointsOnPlots p K ≡ H)
   unfolding both onlySupremum
   make-points true F G H lF lG k =
       ⊎-elim
@@ -96,42 +96,42 @@ module _ {n m : ℕ} {p : Column} (P : Points n m p) where
   make-length false F G H lF lG k = ap length (List·Memᴰ·eq-of-singleton k) ∙ length-supremum′ m F G lF lG
 
   -- different columns of points are different columns of plots
-  distinct-plots : (S : Family) → Distinct S → ((F : Column) → F ∈ S → length F ≡ m) → Distinct (map (onPlots p) S)
+  distinct-plots : (S : Family) → Distinct S → ((F : Column) → F ∈ S → length F ≡ m) → Distinct (map (pointsOnPlots p) S)
   distinct-plots [] none-left on = none-left
-  distinct-plots (F ∷ S) (apart d e) on = apart (λ k. go (Memᴰ·of-map (onPlots p) S k)) (distinct-plots S e (λ G k. on G (List·Memᴰ·tail k)))
+  distinct-plots (F ∷ S) (apart d e) on = apart (λ k. go (Memᴰ·of-map (pointsOnPlots p) S k)) (distinct-plots S e (λ G k. on G (List·Memᴰ·tail k)))
     where
-      go : (G : Column) × (G ∈ S) × (onPlots p G ≡ onPlots p F) → ⊥
+      go : (G : Column) × (G ∈ S) × (pointsOnPlots p G ≡ pointsOnPlots p F) → ⊥
       go (G, k, q) = d (subst (λ (H : Column). H ∈ S) (plots-apart P G F (on G (List·Memᴰ·tail k)) (on F (List·Memᴰ·head refl)) q) k)
 
-  module _ (infima : Bool) {Fs Gs : List Column} (points : (F : Column) → F ∈ Fs → length F ≡ m) (among : (F : Column) → F ∈ Fs → onPlots p F ∈ Gs) where
+  module _ (infima : Bool) {Fs Gs : List Column} (points : (F : Column) → F ∈ Fs → length F ≡ m) (among : (F : Column) → F ∈ Fs → pointsOnPlots p F ∈ Gs) where
     -- what is made on points has a label for each
     made-length : (F : Column) → Made (makeOf infima) Fs F → length F ≡ m
     made-length F (given k) = points F k
     made-length H (made {F} {G} a b k) = make-length infima F G H (made-length F a) (made-length G b) k
 
     -- what is made on points is made on plots
-    made-plots : (F : Column) → Made (makeOf infima) Fs F → Made (makeOf infima) Gs (onPlots p F)
+    made-plots : (F : Column) → Made (makeOf infima) Fs F → Made (makeOf infima) Gs (pointsOnPlots p F)
     made-plots F (given k) = given (among F k)
     made-plots H (made {F} {G} a b k) = made (made-plots F a) (made-plots G b) (make-plots infima F G H (made-length F a) (made-length G b) k)
 
     -- the same of a list of what is made
-    all-plots : (S : Family) → ((F : Column) → F ∈ S → Made (makeOf infima) Fs F) → (H : Column) → H ∈ map (onPlots p) S → Made (makeOf infima) Gs H
-    all-plots S f H k = go (Memᴰ·of-map (onPlots p) S k)
+    all-plots : (S : Family) → ((F : Column) → F ∈ S → Made (makeOf infima) Fs F) → (H : Column) → H ∈ map (pointsOnPlots p) S → Made (makeOf infima) Gs H
+    all-plots S f H k = go (Memᴰ·of-map (pointsOnPlots p) S k)
       where
-        go : (F : Column) × (F ∈ S) × (onPlots p F ≡ H) → Made (makeOf infima) Gs H
+        go : (F : Column) × (F ∈ S) × (pointsOnPlots p F ≡ H) → Made (makeOf infima) Gs H
         go (F, j, q) = subst (Made (makeOf infima) Gs) q (made-plots F (f F j))
 
     -- too many on points are too many on plots
     made-over : close (makeOf infima) Fs ≡ tooMany → close (makeOf infima) Gs ≡ tooMany
     made-over e =
-        close-too-many (makeOf infima) Gs .1 (λ few. close-too-many (makeOf infima) Fs .0 e (λ S d f. rw (← length-map (onPlots p) S) (few (map (onPlots p) S) (distinct-plots S d (λ F k. made-length F (f F k))) (all-plots S f))))
+        close-too-many (makeOf infima) Gs .1 (λ few. close-too-many (makeOf infima) Fs .0 e (λ S d f. rw (← length-map (pointsOnPlots p) S) (few (map (pointsOnPlots p) S) (distinct-plots S d (λ F k. made-length F (f F k))) (all-plots S f))))
 
     -- ---- the members once they are on the plots
 
     module _ {own counts marks : List ℕ} {r : ℕ} (w : Work m infima Fs own counts marks r r 0) (some : 1 ≤ n) (small : n ≤ 240) (store : List ℕ) (room : length store ≡ 7680)
-        (spread : (i : ℕ) → i < r → columnIn n store i ≡ onPlots p (columnIn 240 own i)) where
+        (spread : (i : ℕ) → i < r → columnAt n store i ≡ pointsOnPlots p (columnAt 240 own i)) where
       -- a member on points, and as a column of plots
-      spread-column : (i : ℕ) → i < r → columnIn n store i ≡ onPlots p (columnIn m own i)
+      spread-column : (i : ℕ) → i < r → columnAt n store i ≡ pointsOnPlots p (columnAt m own i)
       spread-column i h = spread i h ∙ plots-column own i (w .held .most)
 
       -- the members on points
@@ -140,12 +140,12 @@ module _ {n m : ℕ} {p : Column} (P : Points n m p) where
 
       -- they as columns of plots
       abbrev T : Family
-      T = map (onPlots p) (membersOf m own r)
+      T = map (pointsOnPlots p) (membersOf m own r)
 
       -- they are the members on plots
       plots-members : membersOf n store r ≡ T
       unfolding membersOf
-      plots-members = columns-map (onPlots p) n m store own r 0 0 (λ i h. let e : 0 + i ≡ i = omega arith in rw e (spread-column i h))
+      plots-members = columns-map (pointsOnPlots p) n m store own r 0 0 (λ i h. let e : 0 + i ≡ i = omega arith in rw e (spread-column i h))
 
       -- the members on points have a label for each point
       on : (F : Column) → F ∈ S → length F ≡ m
@@ -153,7 +153,7 @@ module _ {n m : ℕ} {p : Column} (P : Points n m p) where
 
       -- there are as many on plots
       sizeT : length T ≡ r
-      sizeT = length-map (onPlots p) S ∙ size-members (w .held)
+      sizeT = length-map (pointsOnPlots p) S ∙ size-members (w .held)
 
       -- they are held
       held-plots : Held n store counts r
@@ -163,7 +163,7 @@ module _ {n m : ℕ} {p : Column} (P : Points n m p) where
         room = room;
         places = w .held .places;
         few = w .held .few;
-        counted = λ i h. w .held .counted i h ∙ sym (ap classes (spread-column i h) ∙ classes-plots P (columnIn m own i) (column-length m own i (w .held .most) (w .held .room) (omega (arith, w .held .few))));
+        counted = λ i h. w .held .counted i h ∙ sym (ap classes (spread-column i h) ∙ classes-plots P (columnAt m own i) (column-length m own i (w .held .most) (w .held .room) (omega (arith, w .held .few))));
       }
 
       -- they are found
@@ -172,18 +172,18 @@ module _ {n m : ℕ} {p : Column} (P : Points n m p) where
 
       -- they are numbered
       numbered-plots : (F : Column) → F ∈ T → number F ≡ F
-      numbered-plots F k = go (Memᴰ·of-map (onPlots p) S k)
+      numbered-plots F k = go (Memᴰ·of-map (pointsOnPlots p) S k)
         where
-          go : (G : Column) × (G ∈ S) × (onPlots p G ≡ F) → number F ≡ F
-          go (G, j, e) = ap number (sym e) ∙ number-plots P G (on G j) ∙ ap (onPlots p) (w .numbered G j) ∙ e
+          go : (G : Column) × (G ∈ S) × (pointsOnPlots p G ≡ F) → number F ≡ F
+          go (G, j, e) = ap number (sym e) ∙ number-plots P G (on G j) ∙ ap (pointsOnPlots p) (w .numbered G j) ∙ e
 
       -- the columns that the family starts from are among them
-      given-plots : (F : Column) → F ∈ Fs → onPlots p F ∈ T
-      given-plots F k = Memᴰ·map (onPlots p) (w .given F k)
+      given-plots : (F : Column) → F ∈ Fs → pointsOnPlots p F ∈ T
+      given-plots F k = Memᴰ·map (pointsOnPlots p) (w .given F k)
 
       -- a member by its place, and as a column of plots
-      member-plots : (i : ℕ) → i < r → memberAt T i ≡ onPlots p (memberAt S i)
-      member-plots i h = map-member (onPlots p) S i (omega (arith, size-members (w .held)))
+      member-plots : (i : ℕ) → i < r → memberAt T i ≡ pointsOnPlots p (memberAt S i)
+      member-plots i h = map-member (pointsOnPlots p) S i (omega (arith, size-members (w .held)))
 
       -- a member by its place has a label for each point
       member-points : (i : ℕ) → i < r → length (memberAt S i) ≡ m
@@ -193,15 +193,15 @@ module _ {n m : ℕ} {p : Column} (P : Points n m p) where
       combined-plots : (b a : ℕ) → a < b → b < r → (H : Column) → H ∈ makeOf infima (memberAt T b) (memberAt T a) → H ∈ T
       combined-plots b a ab br H k = go (make-points infima (memberAt S b) (memberAt S a) H (member-points b br) (member-points a (omega arith)) (rw (member-plots b br, member-plots a (omega arith)) at k))
         where
-          go : (K : Column) × (K ∈ makeOf infima (memberAt S b) (memberAt S a)) × (onPlots p K ≡ H) → H ∈ T
-          go (K, j, e) = subst (λ (X : Column). X ∈ T) e (Memᴰ·map (onPlots p) (w .combined .rows b a ab br K j))
+          go : (K : Column) × (K ∈ makeOf infima (memberAt S b) (memberAt S a)) × (pointsOnPlots p K ≡ H) → H ∈ T
+          go (K, j, e) = subst (λ (X : Column). X ∈ T) e (Memᴰ·map (pointsOnPlots p) (w .combined .rows b a ab br K j))
 
       -- their marks are those of the points, where two columns have the same mark on points and on plots
-      rows-plots : ((F G : Column) → length F ≡ m → length G ≡ m → markOf infima n (onPlots p F) (onPlots p G) ≡ markOf infima m F G)
-          → (b a : ℕ) → a < b → b < r → markedRow marks b a ≡ markOf infima n (memberAt T b) (memberAt T a)
+      rows-plots : ((F G : Column) → length F ≡ m → length G ≡ m → pairMark infima n (pointsOnPlots p F) (pointsOnPlots p G) ≡ pairMark infima m F G)
+          → (b a : ℕ) → a < b → b < r → markedRow marks b a ≡ pairMark infima n (memberAt T b) (memberAt T a)
       rows-plots same b a ab br =
           w .rows b a ab br
-          ∙ sym (ap₂ (markOf infima n) (member-plots b br) (member-plots a (omega arith)) ∙ same (memberAt S b) (memberAt S a) (member-points b br) (member-points a (omega arith)))
+          ∙ sym (ap₂ (pairMark infima n) (member-plots b br) (member-plots a (omega arith)) ∙ same (memberAt S b) (memberAt S a) (member-points b br) (member-points a (omega arith)))
 
   -- ---- with infima, and E
 
@@ -211,7 +211,7 @@ module _ {n m : ℕ} {p : Column} (P : Points n m p) where
     points-over = made-over true (g .plots) (g .only)
 
     module _ {own counts marks : List ℕ} {r : ℕ} (w : Work m true Fs own counts marks r r 0) (few : m < n) (small : n ≤ 240) (store : List ℕ) (room : length store ≡ 7680)
-        (spread : (i : ℕ) → i < r → columnIn n store i ≡ onPlots p (columnIn 240 own i)) where
+        (spread : (i : ℕ) → i < r → columnAt n store i ≡ pointsOnPlots p (columnAt 240 own i)) where
       -- there are plots
       some-plots : 1 ≤ n
       some-plots = omega arith
@@ -222,7 +222,7 @@ module _ {n m : ℕ} {p : Column} (P : Points n m p) where
 
       -- they as columns of plots
       abbrev R : Family
-      R = map (onPlots p) (membersOf m own r)
+      R = map (pointsOnPlots p) (membersOf m own r)
 
       -- they are the members on plots
       members-are : membersOf n store r ≡ R
@@ -234,9 +234,9 @@ module _ {n m : ℕ} {p : Column} (P : Points n m p) where
 
       -- E is not among them
       not-equality : equality n ∈ R → ⊥
-      not-equality k = go (Memᴰ·of-map (onPlots p) (membersOf m own r) k)
+      not-equality k = go (Memᴰ·of-map (pointsOnPlots p) (membersOf m own r) k)
         where
-          go : (F : Column) × (F ∈ membersOf m own r) × (onPlots p F ≡ equality n) → ⊥
+          go : (F : Column) × (F ∈ membersOf m own r) × (pointsOnPlots p F ≡ equality n) → ⊥
           go (F, j, q) = plots-few P F (member-length (w .held) F j) few q
 
       -- they are found
@@ -244,7 +244,7 @@ module _ {n m : ℕ} {p : Column} (P : Points n m p) where
       found = found-plots true (g .plots) (g .only) w some-plots small store room spread
 
       -- there is no room for E
-      pub equality-over : {q : ℕ} {store′ counts′ : List ℕ} → Placed n (membersOf n store r) (equality n) q store′ counts′ → q ≡ 32 → close both Gs ≡ tooMany
+      pub equality-over : {q : ℕ} {store′ counts′ : List ℕ} → PlacedMember n (membersOf n store r) (equality n) q store′ counts′ → q ≡ 32 → close both Gs ≡ tooMany
       equality-over (full e l f) z = found-over both Gs R found (equality n) (given (g .equal)) not-equality (omega (arith, ap length members-are))
       equality-over (old h is held same) z = absurd (omega (arith, w .held .few, ap length members-are, sizeR))
       equality-over (new e h f held same) z = absurd (omega arith)
@@ -285,39 +285,39 @@ module _ {n m : ℕ} {p : Column} (P : Points n m p) where
           numbered F (inl k) = numbered-plots true (g .plots) (g .only) w some-plots small store room spread F k
           numbered F (inr k) = let e = List·Memᴰ·eq-of-singleton k in ap number e ∙ number-equality n ∙ sym e
 
-          given-member : (G : Column) → (G ≡ equality n) ⊎ ((F : Column) × (F ∈ Fs) × (onPlots p F ≡ G)) → G ∈ R ++ equality n ∷ []
+          given-member : (G : Column) → (G ≡ equality n) ⊎ ((F : Column) × (F ∈ Fs) × (pointsOnPlots p F ≡ G)) → G ∈ R ++ equality n ∷ []
           given-member G (inl e) = Memᴰ·append-right R (List·Memᴰ·head e)
           given-member G (inr (F, k, e)) = Memᴰ·append-left _ (subst (λ (X : Column). X ∈ R) e (given-plots true (g .plots) (g .only) w some-plots small store room spread F k))
 
   -- ---- suprema of columns of points
 
   -- too many on points are too many on plots
-  pub suprema-over : {Fs : List Column} → ((F : Column) → F ∈ Fs → length F ≡ m) → close onlySupremum Fs ≡ tooMany → close onlySupremum (map (onPlots p) Fs) ≡ tooMany
-  suprema-over points = made-over false points (λ F k. Memᴰ·map (onPlots p) k)
+  pub suprema-over : {Fs : List Column} → ((F : Column) → F ∈ Fs → length F ≡ m) → close onlySupremum Fs ≡ tooMany → close onlySupremum (map (pointsOnPlots p) Fs) ≡ tooMany
+  suprema-over points = made-over false points (λ F k. Memᴰ·map (pointsOnPlots p) k)
 
   -- with as many plots each, what is closed on points is closed on plots
   pub spread-work : Uniform n p → {Fs : List Column} {own counts marks : List ℕ} {r : ℕ} → Work m false Fs own counts marks r r 0 → 1 ≤ n → n ≤ 240 → (store : List ℕ) → length store ≡ 7680
-      → ((i : ℕ) → i < r → columnIn n store i ≡ onPlots p (columnIn 240 own i)) → ((F : Column) → F ∈ Fs → length F ≡ m) → Work n false (map (onPlots p) Fs) store counts marks r r 0
+      → ((i : ℕ) → i < r → columnAt n store i ≡ pointsOnPlots p (columnAt 240 own i)) → ((F : Column) → F ∈ Fs → length F ≡ m) → Work n false (map (pointsOnPlots p) Fs) store counts marks r r 0
   spread-work even {Fs} {own} {counts} {marks} {r} w some small store room spread points = record {
     held = held-plots false points among w some small store room spread;
     cells = w .cells;
     numbered = rw all (numbered-plots false points among w some small store room spread);
     found = rw all (found-plots false points among w some small store room spread);
-    given = rw all (λ G k. given-member G (Memᴰ·of-map (onPlots p) Fs k));
+    given = rw all (λ G k. given-member G (Memᴰ·of-map (pointsOnPlots p) Fs k));
     combined = record { rows = rw all (combined-plots false points among w some small store room spread); row = λ a h. absurd (not-suc-le-zero h) };
     rows = rw all (rows-plots false points among w some small store room spread (orthogonal-plots P even));
     row = λ a h. absurd (not-suc-le-zero h);
     joins = λ a h. absurd (not-suc-le-zero h);
   }
     where
-      among : (F : Column) → F ∈ Fs → onPlots p F ∈ map (onPlots p) Fs
-      among F k = Memᴰ·map (onPlots p) k
+      among : (F : Column) → F ∈ Fs → pointsOnPlots p F ∈ map (pointsOnPlots p) Fs
+      among F k = Memᴰ·map (pointsOnPlots p) k
 
-      all : membersOf n store r ≡ map (onPlots p) (membersOf m own r)
+      all : membersOf n store r ≡ map (pointsOnPlots p) (membersOf m own r)
       all = plots-members false points among w some small store room spread
 
-      given-member : (G : Column) → (F : Column) × (F ∈ Fs) × (onPlots p F ≡ G) → G ∈ map (onPlots p) (membersOf m own r)
-      given-member G (F, k, e) = subst (λ (X : Column). X ∈ map (onPlots p) (membersOf m own r)) e (given-plots false points among w some small store room spread F k)
+      given-member : (G : Column) → (F : Column) × (F ∈ Fs) × (pointsOnPlots p F ≡ G) → G ∈ map (pointsOnPlots p) (membersOf m own r)
+      given-member G (F, k, e) = subst (λ (X : Column). X ∈ map (pointsOnPlots p) (membersOf m own r)) e (given-plots false points among w some small store room spread F k)
 
 -- ---- members are gathered one by one
 
@@ -343,8 +343,8 @@ gathered-same {n} {m} {p} {S} {own} {counts} {r} g F e = record {
 }
 
 -- the column X of points, which is the column F of plots, is placed
-pub gathered-more : {n m : ℕ} {p : Column} {S : Family} {own counts : List ℕ} {r : ℕ} → Points n m p → Gathered n m p S own counts r → r < 32 → (X F : Column) → length X ≡ m → onPlots p X ≡ F → number F ≡ F
-    → (q : ℕ) (own′ counts′ : List ℕ) → Placed m (membersOf m own r) X q own′ counts′ → Gathered n m p (S ++ F ∷ []) own′ counts′ (grownTo r q)
+pub gathered-more : {n m : ℕ} {p : Column} {S : Family} {own counts : List ℕ} {r : ℕ} → Points n m p → Gathered n m p S own counts r → r < 32 → (X F : Column) → length X ≡ m → pointsOnPlots p X ≡ F → number F ≡ F
+    → (q : ℕ) (own′ counts′ : List ℕ) → PlacedMember m (membersOf m own r) X q own′ counts′ → Gathered n m p (S ++ F ∷ []) own′ counts′ (grownTo r q)
 gathered-more {n} {m} {p} {S} {own} {counts} {r} P g less X F l e numbered q own′ counts′ placed = record {
   held = a .held;
   distinct = rw (a .members) (a .distinct (g .distinct));
@@ -364,11 +364,11 @@ gathered-more {n} {m} {p} {S} {own} {counts} {r} P g less X F l e numbered q own
     as-numbered G (inl k) = g .numbered G k
     as-numbered G (inr z) = rw z same
 
-    as-given : (G : Column) → (G ∈ membersOf m own r) ⊎ (G ≡ X) → onPlots p G ∈ S ++ F ∷ []
+    as-given : (G : Column) → (G ∈ membersOf m own r) ⊎ (G ≡ X) → pointsOnPlots p G ∈ S ++ F ∷ []
     as-given G (inl k) = Memᴰ·append-left _ (g .only G k)
-    as-given G (inr z) = Memᴰ·append-right S (List·Memᴰ·head (ap (onPlots p) z ∙ e))
+    as-given G (inr z) = Memᴰ·append-right S (List·Memᴰ·head (ap (pointsOnPlots p) z ∙ e))
 
-    still : {G : Column} → (H : Column) × (H ∈ membersOf m own r) × (onPlots p H ≡ G) → (H : Column) × (H ∈ membersOf m own′ (grownTo r q)) × (onPlots p H ≡ G)
+    still : {G : Column} → (H : Column) × (H ∈ membersOf m own r) × (pointsOnPlots p H ≡ G) → (H : Column) × (H ∈ membersOf m own′ (grownTo r q)) × (pointsOnPlots p H ≡ G)
     still (H, k, z) = (H, rw (a .members) (a .stays H k), z)
 
 -- ---- the members gathered
@@ -382,7 +382,7 @@ module _ {n m : ℕ} {p : Column} (store counts : List ℕ) (start : ℕ) {own c
   pub gathered-generates : {Gs : List Column} → equality n ∈ membersOf n store start → Begun n Gs store counts start → Generates n m p (membersOf m own r) Gs
   gathered-generates e b = record {
     plots = member-length (g .held);
-    only = λ F k. b .only (onPlots p F) (g .only F k);
+    only = λ F k. b .only (pointsOnPlots p F) (g .only F k);
     given = λ G k. g .given G (b .given G k);
     equal = b .only (equality n) e;
   }

@@ -1,11 +1,11 @@
--- Laws of members put in order: the order of two members, a place among those in order, and entries that are shifted for it.
+-- Laws of members put in order: a place among those in order, and entries that are shifted for it.
 -- Assumes nothing.
-use Rattle.rules.specs.Factor.{Column, classes}
-use Rattle.rules.specs.Family.{Family, _∈_, Distinct, apart, alike, smaller, before, insert, insertAll, membersOf, written}
+use Rattle.rules.specs.Factor.{Column}
+use Rattle.rules.specs.Family.{Family, _∈_, Distinct, apart, before, insert, insertAll, membersOf, written}
 use Rattle.rules.specs.Relation.{memberAt}
 use Rattle.rules.proofs.WorkList.{member-in}
-use Rattle.rules.proofs.Numbering.{by-cases}
-use Rattle.rules.proofs.Members.{alike-sound, insert-before, insert-after, insertAll-only}
+use Rattle.rules.proofs.Columns.{unlike}
+use Rattle.rules.proofs.Members.{insert-before, insert-after, insertAll-only}
 use Rattle.rules.proofs.Buffer.{length-members, member-is}
 use mathlib.Core.Path.{_≡_, refl, sym, ap, ap₂, _∙_}
 use mathlib.Core.Logic.{_⊎_, inl, inr}
@@ -15,25 +15,9 @@ use Prim.Native.Nat.{ℕ, zero, suc, _+_, _*_, _-_, _≤_, _<_, zero-le, suc-le-
 use native.Mathlib.Nat.{not-suc-le-zero, le-of-suc-le-suc, le-of-lt, le-of-eq, lt-of-lt-of-le, sub-zero, zero-add, add-zero}
 use native.Mathlib.Numerals.{add-one}
 use native.Mathlib.Omega.{arith}
-use lib.Dec.{ltb}
 use lib.ListN.{length, getD, take, drop, set, length-drop, length-append, List·getD-append, take-append-drop}
 use lib.Seq.{take-suc, drop-cons, append-snoc, set-at, length-take-le, getD-take, take-at, take-take, take-all, paste}
-use borrow.Author.Tests.{eq-eqb, ne-eqb}
-use Rattle.design.specs.State.{columnIn, Held, RankOf, Sorted}
-
--- ---- the order of two members
-
-module _ (F G : Column) where
-  pub before-tied : classes F ≡ classes G → before F G ≡ smaller F G
-  unfolding before
-  before-tied e = rw (eq-eqb (classes F) (classes G) e, before)
-
-  pub before-counted : (classes F ≡ classes G → ⊥) → before F G ≡ ltb (classes F) (classes G)
-  unfolding before
-  before-counted e = rw (ne-eqb (classes F) (classes G) e, before)
-
-unlike : (F G : Column) → (F ≡ G → ⊥) → alike F G ≡ false
-unlike F G n = by-cases (alike F G) (λ e. absurd (n (alike-sound F G e))) (λ e. e)
+use Rattle.design.specs.State.{columnAt, Held, RankOf, Sorted}
 
 -- ---- entries shifted to make room
 
@@ -200,7 +184,7 @@ sorted-start n store size order e = record { entries = e; below = λ p h. absurd
 
 module _ (n : ℕ) (small : n ≤ 240) (store : List ℕ) (size : ℕ) where
   -- a member more
-  pub sorted-turn : size ≤ 32 → Distinct (membersOf n store size) → (order : List ℕ) (i r : ℕ) → i < size → SortedTo n store size order i → RankOf n store order (columnIn n store i) i r
+  pub sorted-turn : size ≤ 32 → Distinct (membersOf n store size) → (order : List ℕ) (i r : ℕ) → i < size → SortedTo n store size order i → RankOf n store order (columnAt n store i) i r
       → SortedTo n store size (take r order ++ i ∷ take (i - r) (drop r order) ++ drop (i + 1) order) (i + 1)
   sorted-turn few distinct order i r h w rank = record { entries = length-put order i r (rank .most) fits ∙ w .entries; below = smaller-entries; members = inserted }
     where
@@ -222,10 +206,10 @@ module _ (n : ℕ) (small : n ≤ 240) (store : List ℕ) (size : ℕ) where
       sizeT : length T ≡ i
       sizeT = length-of-map f (take i order) ∙ first
 
-      is : (k : ℕ) → k < size → f k ≡ columnIn n store k
+      is : (k : ℕ) → k < size → f k ≡ columnAt n store k
       is k l = member-is n small store size k l
 
-      at : (p : ℕ) → p < i → memberAt T p ≡ columnIn n store (getD order p 0)
+      at : (p : ℕ) → p < i → memberAt T p ≡ columnAt n store (getD order p 0)
       at p l =
           map-at f (take i order) p (rw first l)
           ∙ ap f (getD-take i order p 0 l)
@@ -272,11 +256,11 @@ module _ (n : ℕ) (small : n ≤ 240) (store : List ℕ) (size : ℕ) where
       }
 
   -- the columns in their order
-  pub sorted-columns : (order : List ℕ) → size ≤ 32 → Sorted (membersOf n store size) order → map (λ (i : ℕ). columnIn n store i) (take size order) ≡ insertAll (membersOf n store size) []
+  pub sorted-columns : (order : List ℕ) → size ≤ 32 → Sorted (membersOf n store size) order → map (λ (i : ℕ). columnAt n store i) (take size order) ≡ insertAll (membersOf n store size) []
   sorted-columns order few w =
       let l = length-members n small store size in
       let first : length (take size order) ≡ size = length-take-le size order (omega (arith, w .entries)) in
-      map-agrees (λ (i : ℕ). columnIn n store i) (λ (i : ℕ). memberAt (membersOf n store size) i) (take size order) size
+      map-agrees (λ (i : ℕ). columnAt n store i) (λ (i : ℕ). memberAt (membersOf n store size) i) (take size order) size
       (λ p h. rw (getD-take size order p 0 (rw first at h)) (rw l at (w .places p (rw l (rw first at h)))))
       (λ k h. sym (member-is n small store size k h))
       ∙ ap (λ (k : ℕ). map (λ (i : ℕ). memberAt (membersOf n store size) i) (take k order)) (sym l)
@@ -295,10 +279,10 @@ written-snoc b k (A ∷ As) F =
     ∙ ap (λ (j : ℕ). take (240 * j) c ++ F ++ drop (240 * j + length F) c) e
 
 -- the member at place p of the order is written after those before it
-pub write-turn : (n : ℕ) (store order b : List ℕ) (p : ℕ) → p < length order → length (columnIn n store (getD order p 0)) ≡ n
-    → paste (written b 0 (map (λ (i : ℕ). columnIn n store i) (take p order))) (240 * p) (columnIn n store (getD order p 0)) n ≡ written b 0 (map (λ (i : ℕ). columnIn n store i) (take (p + 1) order))
+pub write-turn : (n : ℕ) (store order b : List ℕ) (p : ℕ) → p < length order → length (columnAt n store (getD order p 0)) ≡ n
+    → paste (written b 0 (map (λ (i : ℕ). columnAt n store i) (take p order))) (240 * p) (columnAt n store (getD order p 0)) n ≡ written b 0 (map (λ (i : ℕ). columnAt n store i) (take (p + 1) order))
 write-turn n store order b p h len =
-    let f : ℕ → Column = λ i. columnIn n store i in
+    let f : ℕ → Column = λ i. columnAt n store i in
     let F : Column = f (getD order p 0) in
     let As : Family = map f (take p order) in
     let c : List ℕ = written b 0 As in

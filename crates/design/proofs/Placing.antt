@@ -9,7 +9,7 @@ use native.Mathlib.Nat.{lt-irrefl}
 use native.Mathlib.Numerals.{add-one}
 use native.Mathlib.Omega.{arith}
 use lib.Dec.{ltb}
-use lib.ListN.{length, getD, take, drop, set, length-set, drop-of-length-le, List·getD-append}
+use lib.ListN.{length, getD, drop, set, length-set, drop-of-length-le, List·getD-append}
 use lib.Seq.{paste, drop-cons, take-length, getD-set-same, getD-set-other, getD-at}
 use borrow.Author.Tests.{eq-eqb, ne-eqb, ltb-true, ltb-false}
 use Rattle.rules.specs.Factor.{Column, classes, indexOf}
@@ -19,19 +19,13 @@ use Rattle.rules.proofs.Numbering.{by-cases, place-yes, place-no, Has, has-getD
 use Rattle.rules.proofs.Members.{alike-sound, alike-self}
 use Rattle.rules.proofs.WorkList.{place-of}
 use Rattle.rules.proofs.Buffer.{put, length-put, length-members, member-is, members-add}
-use Rattle.design.specs.State.{columnIn, Held, Placed, full, old, new, grownTo}
+use Rattle.design.specs.State.{columnAt, Held, PlacedMember, full, old, new, grownTo}
 
 -- ---- the search for a column
 
 -- columns with different numbers of classes are not alike
 pub unlike-counts : (G F : Column) → (classes G ≡ classes F → ⊥) → alike G F ≡ false
 unlike-counts G F n = by-cases (alike G F) (λ e. absurd (n (ap classes (alike-sound G F e)))) (λ e. e)
-
--- the column as a part of the store
-pub part-column : (n : ℕ) (store : List ℕ) (i : ℕ) → take (240 * i + n - 240 * i) (drop (240 * i) store) ≡ columnIn n store i
-part-column n store i =
-    let e : 240 * i + n - 240 * i ≡ n = omega arith in
-    rw e
 
 module _ (S : Family) (F : Column) where
   -- where F first stands
@@ -95,10 +89,10 @@ module _ (n : ℕ) (store counts : List ℕ) (size : ℕ) (h : Held n store coun
     longer : membersOf n more (suc size) ≡ S ++ F ∷ []
     longer = members-add n (h .most) store size F l fits
 
-    column-more : (i : ℕ) → i < suc size → columnIn n more i ≡ getD (S ++ F ∷ []) i []
+    column-more : (i : ℕ) → i < suc size → columnAt n more i ≡ getD (S ++ F ∷ []) i []
     column-more i k = sym (member-is n (h .most) more (suc size) i k) ∙ ap (λ (T : Family). getD T i []) longer
 
-    counted-more : (i : ℕ) → i < suc size → (b : Bool) → ltb i size ≡ b → getD (set counts size (classes F)) i 0 ≡ classes (columnIn n more i)
+    counted-more : (i : ℕ) → i < suc size → (b : Bool) → ltb i size ≡ b → getD (set counts size (classes F)) i 0 ≡ classes (columnAt n more i)
     counted-more i k true e =
         let q : i < size = ltb-true i size e in
         getD-set-other counts size i (classes F) 0 (λ p. lt-irrefl size (rw p at q))
@@ -130,24 +124,24 @@ module _ (n : ℕ) (store counts : List ℕ) (size : ℕ) (h : Held n store coun
         go (inr e) = e
 
     -- r is past the last place that a family has
-    pub placed-full : r ≡ 32 → Placed n S F r store counts
+    pub placed-full : r ≡ 32 → PlacedMember n S F r store counts
     placed-full e =
         let q : placeIn S F ≡ length S = at-end (λ k. let w : placeIn S F < length S = k in omega (arith, h .few, ends)) in
         full e (omega arith) (not-found S F q)
 
     -- r is a member's place
-    pub placed-old : (r ≡ size → ⊥) → Placed n S F r store counts
+    pub placed-old : (r ≡ size → ⊥) → PlacedMember n S F r store counts
     placed-old d = go (has-or-new alike alike-sound alike-self S F)
       where
-        go : Has alike alike-sound alike-self S F ⊎ (placeIn S F ≡ length S) → Placed n S F r store counts
+        go : Has alike alike-sound alike-self S F ⊎ (placeIn S F ≡ length S) → PlacedMember n S F r store counts
         go (inl k) = old (rw found k) (rw found (getD-place alike alike-sound alike-self S F [] k)) (rw ends h) (ap (membersOf n store) ends)
         go (inr e) = absurd (d (found ∙ e ∙ ends))
 
     -- r is the place after the last member
-    pub placed-new : r ≡ size → (r ≡ 32 → ⊥) → (after : List ℕ) → after ≡ paste store (240 * size) F (length F) → (count : ℕ) → count ≡ classes F → Placed n S F r after (set counts size count)
+    pub placed-new : r ≡ size → (r ≡ 32 → ⊥) → (after : List ℕ) → after ≡ paste store (240 * size) F (length F) → (count : ℕ) → count ≡ classes F → PlacedMember n S F r after (set counts size count)
     placed-new e d after p count q =
         let less : size < 32 = omega (arith, h .few) in
-        subst (λ (t : List ℕ). Placed n S F r t (set counts size count)) (sym (p ∙ paste-put n (h .most) store size F l))
+        subst (λ (t : List ℕ). PlacedMember n S F r t (set counts size count)) (sym (p ∙ paste-put n (h .most) store size F l))
         (new (e ∙ sym ends) (rw e less) (not-found S F (sym found ∙ e ∙ sym ends)) (rw (e, q) (held-more less)) (rw e (longer less)))
 
 -- ---- the size

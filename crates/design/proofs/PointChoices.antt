@@ -12,8 +12,8 @@ use Rattle.rules.specs.Closing.{choices, infimumAll, treatmentGenerators, Chose
 use Rattle.rules.proofs.Extremes.{length-universal}
 use Rattle.rules.proofs.Families.{choices-chosen}
 use Rattle.rules.proofs.Made.{chosen-on}
-use Rattle.design.specs.State.{columnIn}
-use Rattle.design.specs.Points.{Points, onPlots}
+use Rattle.design.specs.State.{columnAt}
+use Rattle.design.specs.Points.{Points, pointsOnPlots}
 use Rattle.design.proofs.PointLaws.{point-less, length-plots, at-plots, infimum-plots}
 use Rattle.design.proofs.Lifting.{columns-map, plots-column}
 
@@ -42,33 +42,33 @@ map-either f g h (C ∷ Cs) e = ap₂ (λ (F : Column) (S : List Column). F ∷ 
 
 module _ {n m : ℕ} {p : Column} (P : Points n m p) where
   -- U of points is U of plots
-  universal-plots : onPlots p (universal m) ≡ universal n
+  universal-plots : pointsOnPlots p (universal m) ≡ universal n
   unfolding universal
   universal-plots =
-      ext-getD 0 (onPlots p (universal m)) (universal n) (length-plots P (universal m) ∙ sym (length-universal n))
+      ext-getD 0 (pointsOnPlots p (universal m)) (universal n) (length-plots P (universal m) ∙ sym (length-universal n))
       (λ u h. let hu : u < n = rw (length-plots P (universal m)) at h in at-plots P (universal m) u hu ∙ getD-replicate m (at p u - 1) 1 0 (point-less P u hu) ∙ sym (getD-replicate n u 1 0 hu))
 
   -- the infimum of a choice
-  chosen-plots : {C Fs : List Column} → Chosen C Fs → ((F : Column) → F ∈ Fs → length F ≡ m) → infimumAll n (map (onPlots p) C) ≡ onPlots p (infimumAll m C)
+  chosen-plots : {C Fs : List Column} → Chosen C Fs → ((F : Column) → F ∈ Fs → length F ≡ m) → infimumAll n (map (pointsOnPlots p) C) ≡ pointsOnPlots p (infimumAll m C)
   unfolding infimumAll
   chosen-plots none-of on = sym universal-plots
   chosen-plots (skipping c) on = chosen-plots c (λ F k. on F (List·Memᴰ·tail k))
   chosen-plots (taking {T = T} {C = C} c) on =
-      ap (infimum (onPlots p T)) (chosen-plots c (λ F k. on F (List·Memᴰ·tail k)))
+      ap (infimum (pointsOnPlots p T)) (chosen-plots c (λ F k. on F (List·Memᴰ·tail k)))
       ∙ infimum-plots P T (infimumAll m C) (on T (List·Memᴰ·head refl)) (chosen-on m c (λ F k. on F (List·Memᴰ·tail k)))
 
   -- the infima of the choices
-  pub generators-plots : (k : ℕ) (Ts Fs : List Column) → Ts ≡ map (onPlots p) Fs → ((F : Column) → F ∈ Fs → length F ≡ m) → treatmentGenerators n k Ts ≡ map (onPlots p) (treatmentGenerators m k Fs)
+  pub generators-plots : (k : ℕ) (Ts Fs : List Column) → Ts ≡ map (pointsOnPlots p) Fs → ((F : Column) → F ∈ Fs → length F ≡ m) → treatmentGenerators n k Ts ≡ map (pointsOnPlots p) (treatmentGenerators m k Fs)
   unfolding treatmentGenerators
   generators-plots k Ts Fs e on =
       ap (λ (Xs : List Column). map (infimumAll n) (choices k Xs)) e
-      ∙ ap (map (infimumAll n)) (choices-map (onPlots p) k Fs)
-      ∙ map-either (onPlots p) (infimumAll n) (infimumAll m) (choices k Fs) (λ C c. chosen-plots (choices-chosen k Fs C c .0) on)
+      ∙ ap (map (infimumAll n)) (choices-map (pointsOnPlots p) k Fs)
+      ∙ map-either (pointsOnPlots p) (infimumAll n) (infimumAll m) (choices k Fs) (λ C c. chosen-plots (choices-chosen k Fs C c .0) on)
 
   -- the treatment columns of a table, where another has them as columns of points from its first column on
-  pub columns-plots : (levels own : List ℕ) (d : ℕ) → m ≤ 240 → ((c : ℕ) → c < d → onPlots p (columnIn 240 own c) ≡ columnIn n levels (6 + c)) → columnsFrom n levels 6 d ≡ map (onPlots p) (columnsFrom m own 0 d)
+  pub columns-plots : (levels own : List ℕ) (d : ℕ) → m ≤ 240 → ((c : ℕ) → c < d → pointsOnPlots p (columnAt 240 own c) ≡ columnAt n levels (6 + c)) → columnsFrom n levels 6 d ≡ map (pointsOnPlots p) (columnsFrom m own 0 d)
   columns-plots levels own d small same =
-      columns-map (onPlots p) n m levels own d 6 0 (λ c h. let e : 0 + c ≡ c = omega arith in rw e (sym (same c h) ∙ plots-column P own c small))
+      columns-map (pointsOnPlots p) n m levels own d 6 0 (λ c h. let e : 0 + c ≡ c = omega arith in rw e (sym (same c h) ∙ plots-column P own c small))
 
 -- the infima of choices of columns on m points are on m points
 pub generators-on : (m k : ℕ) (Fs : List Column) → ((F : Column) → F ∈ Fs → length F ≡ m) → (G : Column) → G ∈ treatmentGenerators m k Fs → length G ≡ m

@@ -20,7 +20,7 @@ use Rattle.rules.proofs.Bounds.{numbered-equal, length-infimum′, infimum-same
 use Rattle.rules.proofs.Extremes.{length-universal, number-universal}
 use Rattle.rules.proofs.ClassCount.{classes-universal, classes-equality, classes-most}
 use Rattle.rules.proofs.Orthogonality.{byCounts}
-use Rattle.design.specs.Points.{Points, Ranged, onPlots}
+use Rattle.design.specs.Points.{Points, Ranged, pointsOnPlots}
 use Rattle.design.proofs.Judge.{getD-map}
 
 -- ---- labels under a map
@@ -55,8 +55,8 @@ at-before : (F : Column) (x y : ℕ) → y ≡ suc x → at F (y - 1) ≡ at F x
 at-before F x y e = ap (at F) (omega arith)
 
 -- a column of points has a label for each plot
-pub plots-length : (p F : Column) → length (onPlots p F) ≡ length p
-unfolding onPlots
+pub plots-length : (p F : Column) → length (pointsOnPlots p F) ≡ length p
+unfolding pointsOnPlots
 plots-length p F = length-map p (λ (x : ℕ). at F (x - 1))
 
 module _ {n m : ℕ} {p : Column} (P : Points n m p) where
@@ -124,35 +124,35 @@ module _ {n m : ℕ} {p : Column} (P : Points n m p) where
   -- ---- columns of points as columns of plots
 
   -- it is on these plots
-  pub length-plots : (F : Column) → length (onPlots p F) ≡ n
+  pub length-plots : (F : Column) → length (pointsOnPlots p F) ≡ n
   length-plots F = plots-length p F ∙ P .on
 
   -- a plot has the label of its point
-  pub at-plots : (F : Column) (u : ℕ) → u < n → at (onPlots p F) u ≡ at F (at p u - 1)
-  unfolding onPlots
+  pub at-plots : (F : Column) (u : ℕ) → u < n → at (pointsOnPlots p F) u ≡ at F (at p u - 1)
+  unfolding pointsOnPlots
   at-plots F u h = getD-map (λ (x : ℕ). at F (x - 1)) p 0 u (rw (P .on) h)
 
   -- the first plot of a point has its label
-  at-plot : (F : Column) (x : ℕ) → x < m → at (onPlots p F) (plot x) ≡ at F x
+  at-plot : (F : Column) (x : ℕ) → x < m → at (pointsOnPlots p F) (plot x) ≡ at F x
   at-plot F x h = at-plots F (plot x) (plot-is x h .0) ∙ at-before F x (at p (plot x)) (plot-is x h .1)
 
   -- two plots share a class exactly when their points do
-  pub same-plots : (F : Column) (u v : ℕ) → u < n → v < n → Same (onPlots p F) u v ↔ Same F (at p u - 1) (at p v - 1)
+  pub same-plots : (F : Column) (u v : ℕ) → u < n → v < n → Same (pointsOnPlots p F) u v ↔ Same F (at p u - 1) (at p v - 1)
   same-plots F u v hu hv = (λ e. sym (at-plots F u hu) ∙ e ∙ at-plots F v hv, λ e. at-plots F u hu ∙ e ∙ sym (at-plots F v hv))
 
   -- the order among columns of points is that of the columns of plots
-  plots-finer : (F G : Column) → Finer m F G → Finer n (onPlots p F) (onPlots p G)
+  plots-finer : (F G : Column) → Finer m F G → Finer n (pointsOnPlots p F) (pointsOnPlots p G)
   plots-finer F G fine u v hu hv e = same-plots G u v hu hv .1 (fine (at p u - 1) (at p v - 1) (point-less u hu) (point-less v hv) (same-plots F u v hu hv .0 e))
 
   -- different columns of points are different columns of plots
-  pub plots-apart : (F G : Column) → length F ≡ m → length G ≡ m → onPlots p F ≡ onPlots p G → F ≡ G
+  pub plots-apart : (F G : Column) → length F ≡ m → length G ≡ m → pointsOnPlots p F ≡ pointsOnPlots p G → F ≡ G
   plots-apart F G lF lG e =
       ext-getD 0 F G (lF ∙ sym lG) (λ x h. sym (at-plot F x (rw lF at h)) ∙ ap (λ (H : Column). at H (plot x)) e ∙ at-plot G x (rw lF at h))
 
   -- labels past the last point do not matter
-  pub plots-part : (F : Column) → onPlots p (take m F) ≡ onPlots p F
+  pub plots-part : (F : Column) → pointsOnPlots p (take m F) ≡ pointsOnPlots p F
   plots-part F =
-      ext-getD 0 (onPlots p (take m F)) (onPlots p F) (length-plots (take m F) ∙ sym (length-plots F))
+      ext-getD 0 (pointsOnPlots p (take m F)) (pointsOnPlots p F) (length-plots (take m F) ∙ sym (length-plots F))
       (λ u h. let hu : u < n = rw (length-plots (take m F)) at h in at-plots (take m F) u hu ∙ getD-take m F (at p u - 1) 0 (point-less u hu) ∙ sym (at-plots F u hu))
 
   -- ---- classes and numbers
@@ -168,30 +168,30 @@ module _ {n m : ℕ} {p : Column} (P : Points n m p) where
       lengths = length-map (labels eqb [] p) (λ (x : ℕ). at F (x - 1))
 
   -- plots have the labels of points, in the same order
-  labels-plots : (F : Column) → length F ≡ m → labels eqb [] (onPlots p F) ≡ labels eqb [] F
-  unfolding onPlots labels
+  labels-plots : (F : Column) → length F ≡ m → labels eqb [] (pointsOnPlots p F) ≡ labels eqb [] F
+  unfolding pointsOnPlots labels
   labels-plots F l = labels-map (λ (x : ℕ). at F (x - 1)) p [] ∙ ap (λ (xs : List ℕ). labels eqb [] xs) (points-labels F l)
 
   -- there are as many classes of plots as of points
-  pub classes-plots : (F : Column) → length F ≡ m → classes (onPlots p F) ≡ classes F
+  pub classes-plots : (F : Column) → length F ≡ m → classes (pointsOnPlots p F) ≡ classes F
   unfolding classes
   classes-plots F l = ap (λ (s : List ℕ). length s) (labels-plots F l)
 
   -- plots are numbered as their points are
-  pub number-plots : (F : Column) → length F ≡ m → number (onPlots p F) ≡ onPlots p (number F)
+  pub number-plots : (F : Column) → length F ≡ m → number (pointsOnPlots p F) ≡ pointsOnPlots p (number F)
   unfolding number
   number-plots F l =
-      ext-getD 0 (number (onPlots p F)) (onPlots p (number F)) (length-number (onPlots p F) ∙ length-plots F ∙ sym (length-plots (number F)))
-      (λ u h. each u (rw (length-number (onPlots p F), length-plots F) at h))
+      ext-getD 0 (number (pointsOnPlots p F)) (pointsOnPlots p (number F)) (length-number (pointsOnPlots p F) ∙ length-plots F ∙ sym (length-plots (number F)))
+      (λ u h. each u (rw (length-number (pointsOnPlots p F), length-plots F) at h))
     where
-      each : (u : ℕ) → u < n → at (number (onPlots p F)) u ≡ at (onPlots p (number F)) u
+      each : (u : ℕ) → u < n → at (number (pointsOnPlots p F)) u ≡ at (pointsOnPlots p (number F)) u
       each u h =
-          numbering-at eqb eqb-true eqb-self (onPlots p F) [] u 0 (rw (length-plots F) h)
+          numbering-at eqb eqb-true eqb-self (pointsOnPlots p F) [] u 0 (rw (length-plots F) h)
           ∙ ap₂ (λ (s : List ℕ) (y : ℕ). suc (indexOf eqb s y)) (labels-plots F l) (at-plots F u h)
           ∙ sym (at-plots (number F) u h ∙ numbering-at eqb eqb-true eqb-self F [] (at p u - 1) 0 (rw l (point-less u h)))
 
   -- where there are fewer points than plots, no column of points is E
-  pub plots-few : (F : Column) → length F ≡ m → m < n → onPlots p F ≡ equality n → ⊥
+  pub plots-few : (F : Column) → length F ≡ m → m < n → pointsOnPlots p F ≡ equality n → ⊥
   plots-few F l h e =
       let c : classes F ≡ n = sym (classes-plots F l) ∙ ap classes e ∙ classes-equality n in
       let k = classes-most F in
@@ -200,8 +200,8 @@ module _ {n m : ℕ} {p : Column} (P : Points n m p) where
   -- ---- infimum and supremum
 
   -- a numbered column of plots, equivalent to a numbered column of points, is that column
-  equal-plots : (S F : Column) → length S ≡ n → length F ≡ m → number S ≡ S → number F ≡ F → Equivalent n S (onPlots p F) → S ≡ onPlots p F
-  equal-plots S F lS lF nS nF e = sym nS ∙ numbered-equal n S (onPlots p F) lS (length-plots F) e ∙ number-plots F lF ∙ ap (onPlots p) nF
+  equal-plots : (S F : Column) → length S ≡ n → length F ≡ m → number S ≡ S → number F ≡ F → Equivalent n S (pointsOnPlots p F) → S ≡ pointsOnPlots p F
+  equal-plots S F lS lF nS nF e = sym nS ∙ numbered-equal n S (pointsOnPlots p F) lS (length-plots F) e ∙ number-plots F lF ∙ ap (pointsOnPlots p) nF
 
   -- the labels of a column of plots at the first plot of each point
   firsts : Column → Column
@@ -213,15 +213,15 @@ module _ {n m : ℕ} {p : Column} (P : Points n m p) where
   at-firsts S x h = getD-map (λ (y : ℕ). at S (indexOf eqb p y)) (labels eqb [] p) 0 x (rw many-labels h) ∙ ap (λ (y : ℕ). at S (indexOf eqb p y)) (label-at x h)
 
   -- a factor coarser than a column of points, taken at the first plots, is coarser than it on the points
-  firsts-finer : (F S : Column) → Finer n (onPlots p F) S → Finer m F (firsts S)
+  firsts-finer : (F S : Column) → Finer n (pointsOnPlots p F) S → Finer m F (firsts S)
   firsts-finer F S fine x y hx hy e =
       at-firsts S x hx ∙ fine (plot x) (plot y) (plot-is x hx .0) (plot-is y hy .0) (at-plot F x hx ∙ e ∙ sym (at-plot F y hy)) ∙ sym (at-firsts S y hy)
 
   module _ (F G : Column) (lF : length F ≡ m) (lG : length G ≡ m) where
     -- the infimum of plots is that of their points
-    pub infimum-plots : infimum (onPlots p F) (onPlots p G) ≡ onPlots p (infimum F G)
+    pub infimum-plots : infimum (pointsOnPlots p F) (pointsOnPlots p G) ≡ pointsOnPlots p (infimum F G)
     infimum-plots =
-        equal-plots (infimum (onPlots p F) (onPlots p G)) (infimum F G) (length-infimum′ n _ _ (length-plots F) (length-plots G)) (length-infimum′ m F G lF lG)
+        equal-plots (infimum (pointsOnPlots p F) (pointsOnPlots p G)) (infimum F G) (length-infimum′ n _ _ (length-plots F) (length-plots G)) (length-infimum′ m F G lF lG)
         (number-infimum _ _ (length-plots F ∙ sym (length-plots G))) (number-infimum F G (lF ∙ sym lG)) record {
           to = λ u v hu hv e. let s = infimum-same′ n _ _ (length-plots F) (length-plots G) u v hu hv .0 e in
               same-plots (infimum F G) u v hu hv .1 (infimum-same′ m F G lF lG (at p u - 1) (at p v - 1) (point-less u hu) (point-less v hv) .1 (same-plots F u v hu hv .0 (s .0), same-plots G u v hu hv .0 (s .1)));
@@ -230,30 +230,30 @@ module _ {n m : ℕ} {p : Column} (P : Points n m p) where
         }
 
     -- the supremum of plots, at their first plots, is coarser than that of the points
-    supremum-firsts : Finer m (supremum F G) (firsts (supremum (onPlots p F) (onPlots p G)))
+    supremum-firsts : Finer m (supremum F G) (firsts (supremum (pointsOnPlots p F) (pointsOnPlots p G)))
     supremum-firsts =
-        supremum-least m F G lF lG (firsts (supremum (onPlots p F) (onPlots p G)))
+        supremum-least m F G lF lG (firsts (supremum (pointsOnPlots p F) (pointsOnPlots p G)))
         (firsts-finer F _ (supremum-left n _ _ (length-plots F) (length-plots G)))
         (firsts-finer G _ (supremum-right n _ _ (length-plots F) (length-plots G)))
 
     -- a plot and the first plot of its point share a class
-    supremum-first : (u : ℕ) → u < n → at (supremum (onPlots p F) (onPlots p G)) u ≡ at (firsts (supremum (onPlots p F) (onPlots p G))) (at p u - 1)
+    supremum-first : (u : ℕ) → u < n → at (supremum (pointsOnPlots p F) (pointsOnPlots p G)) u ≡ at (firsts (supremum (pointsOnPlots p F) (pointsOnPlots p G))) (at p u - 1)
     supremum-first u h =
         supremum-left n _ _ (length-plots F) (length-plots G) u (plot (at p u - 1)) h (plot-is (at p u - 1) (point-less u h) .0)
         (at-plots F u h ∙ sym (at-plot F (at p u - 1) (point-less u h)))
         ∙ sym (at-firsts _ (at p u - 1) (point-less u h))
 
     -- the supremum of plots is that of their points
-    pub supremum-plots : supremum (onPlots p F) (onPlots p G) ≡ onPlots p (supremum F G)
+    pub supremum-plots : supremum (pointsOnPlots p F) (pointsOnPlots p G) ≡ pointsOnPlots p (supremum F G)
     supremum-plots =
-        equal-plots (supremum (onPlots p F) (onPlots p G)) (supremum F G) (length-supremum′ n _ _ (length-plots F) (length-plots G)) (length-supremum′ m F G lF lG)
+        equal-plots (supremum (pointsOnPlots p F) (pointsOnPlots p G)) (supremum F G) (length-supremum′ n _ _ (length-plots F) (length-plots G)) (length-supremum′ m F G lF lG)
         (number-supremum _ _ (length-plots F ∙ sym (length-plots G))) (number-supremum F G (lF ∙ sym lG)) record {
-          to = supremum-least n _ _ (length-plots F) (length-plots G) (onPlots p (supremum F G)) (plots-finer F (supremum F G) (supremum-left m F G lF lG)) (plots-finer G (supremum F G) (supremum-right m F G lF lG));
+          to = supremum-least n _ _ (length-plots F) (length-plots G) (pointsOnPlots p (supremum F G)) (plots-finer F (supremum F G) (supremum-left m F G lF lG)) (plots-finer G (supremum F G) (supremum-right m F G lF lG));
           from = λ u v hu hv e. supremum-first u hu ∙ supremum-firsts (at p u - 1) (at p v - 1) (point-less u hu) (point-less v hv) (same-plots (supremum F G) u v hu hv .0 e) ∙ sym (supremum-first v hv);
         }
 
     -- the numbers of classes tell the same of plots as of points
-    pub counts-plots : byCounts (onPlots p F) (onPlots p G) ≡ byCounts F G
+    pub counts-plots : byCounts (pointsOnPlots p F) (pointsOnPlots p G) ≡ byCounts F G
     counts-plots =
         ap₂ eqb
         (ap₂ _*_ (ap classes infimum-plots ∙ classes-plots (infimum F G) (length-infimum′ m F G lF lG)) (ap classes supremum-plots ∙ classes-plots (supremum F G) (length-supremum′ m F G lF lG)))

@@ -7,8 +7,8 @@ use Prim.Native.Nat.{ℕ, zero, suc, _+_, _*_, _-_, _≤_, _<_}
 use native.Mathlib.Nat.{not-suc-le-zero, le-of-suc-le-suc, add-zero, zero-add}
 use native.Mathlib.Numerals.{add-one}
 use native.Mathlib.Omega.{arith}
-use lib.ListN.{length, take, drop, replicate, length-append, length-drop, length-map}
-use lib.Seq.{length-take-le, take-all, take-at}
+use lib.ListN.{length, take, drop, replicate, length-append, length-map}
+use lib.Seq.{take-all, take-at}
 use Rattle.rules.specs.Factor.{Column, number, classes, universal, upFrom, equality}
 use Rattle.rules.specs.Family.{Family, _∈_, Distinct, none-left, columnsFrom, membersOf}
 use Rattle.rules.specs.Closing.{plotGenerators}
@@ -17,8 +17,9 @@ use Rattle.rules.proofs.Buffer.{length-columns, columns-snoc, length-members}
 use Rattle.rules.proofs.Numbering.{length-number}
 use Rattle.rules.proofs.ClassCount.{classes-number, classes-most}
 use Rattle.factor.specs.Lent.{plotsOf, overlay}
-use Rattle.design.specs.State.{columnIn, Held, Placed, full, old, new, grownTo, Begun}
-use Rattle.design.proofs.Placing.{grown-new, grown-old, part-column}
+use Rattle.design.specs.State.{columnAt, Held, PlacedMember, full, old, new, grownTo, Begun}
+use Rattle.design.proofs.Placing.{grown-new, grown-old}
+use Rattle.factor.proofs.Lent.{part-of, length-part}
 
 -- ---- E
 
@@ -59,7 +60,7 @@ module _ (n : ℕ) (store counts : List ℕ) (size : ℕ) (h : Held n store coun
     pub placed : F ∈ family
 
   -- what placing answers, where there is room
-  pub after-placed : (r : ℕ) (after counts′ : List ℕ) → Placed n S F r after counts′ → After r after counts′
+  pub after-placed : (r : ℕ) (after counts′ : List ℕ) → PlacedMember n S F r after counts′ → After r after counts′
   after-placed r after counts′ (full e l m) = absurd (impossible l)
     where
       impossible : length S ≡ 32 → ⊥
@@ -110,7 +111,7 @@ begun-none n store counts h = record {
 }
 
 module _ (n : ℕ) (As : List Column) (store counts : List ℕ) (size : ℕ) (b : Begun n As store counts size) (less : size < 32) (F : Column) (numbered : number F ≡ F)
-    (r : ℕ) (after counts′ : List ℕ) (p : Placed n (membersOf n store size) F r after counts′) where
+    (r : ℕ) (after counts′ : List ℕ) (p : PlacedMember n (membersOf n store size) F r after counts′) where
   -- a column more
   pub begun-more : Begun n (As ++ F ∷ []) after counts′ (grownTo size r)
   begun-more =
@@ -137,13 +138,13 @@ module _ (n : ℕ) (As : List Column) (store counts : List ℕ) (size : ℕ) (b 
       is-placed a G (inr i) = Memᴰ·cast (List·Memᴰ·eq-of-singleton i) (a .placed)
 
 -- the first column of all
-pub first-placed : (n : ℕ) (store counts : List ℕ) → Held n store counts 0 → (F : Column) (r : ℕ) (after counts′ : List ℕ) → Placed n (membersOf n store 0) F r after counts′ → grownTo 0 r ≡ 1
+pub first-placed : (n : ℕ) (store counts : List ℕ) → Held n store counts 0 → (F : Column) (r : ℕ) (after counts′ : List ℕ) → PlacedMember n (membersOf n store 0) F r after counts′ → grownTo 0 r ≡ 1
 first-placed n store counts h F r after counts′ p = go p
   where
     ends-0 : length (membersOf n store 0) ≡ 0
     ends-0 = length-members n (h .most) store 0
 
-    go : Placed n (membersOf n store 0) F r after counts′ → grownTo 0 r ≡ 1
+    go : PlacedMember n (membersOf n store 0) F r after counts′ → grownTo 0 r ≡ 1
     go (full e l m) = absurd (let q : 32 ≡ 0 = sym l ∙ ends-0 in omega arith)
     go (old l m k e) = absurd (let q : r < 0 = rw ends-0 at l in omega arith)
     go (new e l m k q) = grown-new 0 r (e ∙ ends-0)
@@ -151,10 +152,10 @@ first-placed n store counts h F r after counts′ p = go p
 -- ---- columns lent as parts of arrays
 
 -- the contract of placing reads the number of plots from the lent column: here it is n
-pub placed-on : (n : ℕ) (store : List ℕ) (size : ℕ) (X F : Column) (r : ℕ) (after counts′ : List ℕ) → X ≡ F → length F ≡ n → Placed (length X) (membersOf (length X) store size) X r after counts′
-    → Placed n (membersOf n store size) F r after counts′
+pub placed-on : (n : ℕ) (store : List ℕ) (size : ℕ) (X F : Column) (r : ℕ) (after counts′ : List ℕ) → X ≡ F → length F ≡ n → PlacedMember (length X) (membersOf (length X) store size) X r after counts′
+    → PlacedMember n (membersOf n store size) F r after counts′
 placed-on n store size X F r after counts′ e l p =
-    subst (λ (k : ℕ). Placed k (membersOf k store size) F r after counts′) l (subst (λ (Y : Column). Placed (length Y) (membersOf (length Y) store size) Y r after counts′) e p)
+    subst (λ (k : ℕ). PlacedMember k (membersOf k store size) F r after counts′) l (subst (λ (Y : Column). PlacedMember (length Y) (membersOf (length Y) store size) Y r after counts′) e p)
 
 -- the same of a store
 pub held-on : (n : ℕ) (store counts : List ℕ) (size : ℕ) (X F : Column) → X ≡ F → length F ≡ n → Held n store counts size → Held (length X) store counts size
@@ -177,13 +178,13 @@ module _ (n c : ℕ) (levels : List ℕ) (small : n ≤ 240) (fits : 240 * c + 2
   lentColumn = take (240 * c + n - 240 * c) (drop (240 * c) levels)
 
   abbrev G : Column
-  G = columnIn n levels c
+  G = columnAt n levels c
 
   length-column : length G ≡ n
-  length-column = length-take-le n (drop (240 * c) levels) (rw length-drop (omega arith))
+  length-column = length-part n c levels (omega arith)
 
   lent-plots : plotsOf lentColumn ≡ G
-  lent-plots = ap plotsOf (part-column n levels c) ∙ take-all 240 G (rw length-column small)
+  lent-plots = ap plotsOf (part-of n c levels) ∙ take-all 240 G (rw length-column small)
 
   -- it is on n plots
   pub length-numbered : length (number G) ≡ n
@@ -220,12 +221,12 @@ module _ (n : ℕ) (levels : List ℕ) where
   first-none = refl
 
   -- a plot column more
-  pub first-more : (j : ℕ) → firstOf (j + 1) ≡ firstOf j ++ number (columnIn n levels j) ∷ []
+  pub first-more : (j : ℕ) → firstOf (j + 1) ≡ firstOf j ++ number (columnAt n levels j) ∷ []
   unfolding plotGenerators
   first-more j =
       ap (λ (Fs : List Column). universal n ∷ equality n ∷ map number Fs)
-      (ap (columnsFrom n levels 0) (add-one j) ∙ columns-snoc n levels 0 j ∙ ap (λ (i : ℕ). columnsFrom n levels 0 j ++ columnIn n levels i ∷ []) (zero-add j))
-      ∙ ap (λ (l : List Column). universal n ∷ equality n ∷ l) (map-append number (columnsFrom n levels 0 j) (columnIn n levels j ∷ []))
+      (ap (columnsFrom n levels 0) (add-one j) ∙ columns-snoc n levels 0 j ∙ ap (λ (i : ℕ). columnsFrom n levels 0 j ++ columnAt n levels i ∷ []) (zero-add j))
+      ∙ ap (λ (l : List Column). universal n ∷ equality n ∷ l) (map-append number (columnsFrom n levels 0 j) (columnAt n levels j ∷ []))
 
   -- how many they are
   pub length-first : (j : ℕ) → length (firstOf j) ≡ j + 2

@@ -1,20 +1,16 @@
 -- Laws of the suprema of plot and treatment members: lent members, the suprema row by row, and more of them than a family may have.
 -- Assumes nothing.
-use mathlib.Core.Path.{_≡_, refl, sym, ap, ap₂, _∙_, subst}
+use mathlib.Core.Path.{_≡_, refl, sym, ap, ap₂, _∙_}
 use mathlib.Core.Logic.{_⊎_, inl, inr}
 use mathlib.Core.Bool.{Bool, true, false, _||_}
 use mathlib.Core.List.{List, [], _∷_, _++_, List·Memᴰ·not-nil, List·Memᴰ·append-cases, List·Memᴰ·eq-of-singleton, Memᴰ·cast, Memᴰ·append-left, Memᴰ·append-right}
-use Prim.Native.Nat.{ℕ, suc, _+_, _*_, _-_, _≤_, _<_, max}
-use native.Mathlib.Nat.{le-of-eq, lt-irrefl}
-use native.Mathlib.Numerals.{add-one}
+use Prim.Native.Nat.{ℕ, suc, _+_, _*_, _-_, _≤_, _<_}
 use native.Mathlib.Omega.{arith}
-use lib.Dec.{eqb, ltb}
+use lib.Dec.{eqb}
 use lib.ListN.{length, getD, take, drop, length-append}
-use lib.Seq.{take-all, take-at, length-take-le, getD-take}
-use borrow.Author.Tests.{eqb-true, ltb-true, ltb-false}
-use Rattle.rules.specs.Factor.{Column, at, number, indexOf, classes, supremum, finer, orthogonal}
-use Rattle.rules.proofs.Numbering.{by-cases, eqb-self, has-or-new, has-getD, getD-place}
-use Rattle.rules.proofs.Walk.{Next, next}
+use lib.Seq.{take-at}
+use borrow.Author.Tests.{eqb-true}
+use Rattle.rules.specs.Factor.{Column, at, number, classes, supremum, finer, orthogonal}
 use Rattle.rules.specs.Family.{Family, _∈_, empty, membersOf, insertAll}
 use Rattle.rules.specs.Closing.{onlySupremum, products, finalTreatmentFamily}
 use Rattle.rules.specs.Relation.{memberAt}
@@ -24,31 +20,25 @@ use Rattle.rules.proofs.Closing.{pigeonhole, ascending-distinct}
 use Rattle.rules.proofs.Members.{insertAll-has, insertAll-only, ascending-insertAll, ascending-unique}
 use Rattle.rules.proofs.Supremum.{length-supremum, number-supremum}
 use Rattle.rules.proofs.WorkList.{member-in, distinct-more, length-sorted}
-use Rattle.factor.specs.Lent.{common, onCommon, testCommon, overlay}
-use Rattle.factor.proofs.Lent.{common-all}
-use Rattle.design.specs.State.{columnIn, Held, Placed, full, old, new, grownTo, Begun, Sorted}
+use Rattle.factor.specs.Lent.{onCommon, overlay}
+use Rattle.factor.proofs.Lent.{common-all, part-of, length-part}
+use Rattle.design.specs.State.{columnAt, Held, PlacedMember, full, old, new, grownTo, Begun, Sorted}
 use Rattle.design.specs.Treatments.{Placing, exceeded, begun, knownFiner, Member}
-use Rattle.design.proofs.Asked.{part-is, length-column}
 use Rattle.design.proofs.Extremes.{one-class-coarsest, all-classes-finest, finer-supremum, finer-orthogonal, coarser-supremum, coarser-orthogonal}
+use Rattle.design.proofs.KnownOrder.{or-cases}
 use Rattle.design.proofs.Placing.{grown-new, grown-old}
 use Rattle.design.proofs.Start.{begun-more}
 
 -- ---- lent members
 
--- a test of two columns on n plots looks at them whole
-pub lent-test : {A : Type 0} (test : ℕ → Column → Column → A) (n : ℕ) (F G : Column) → length F ≡ n → length G ≡ n → n ≤ 240 → testCommon test F G ≡ test n F G
-lent-test test n F G a b h =
-    let e : common F G ≡ n = omega arith in
-    ap (λ (k : ℕ). test k (take k F) (take k G)) e ∙ ap₂ (test n) (take-all n F (le-of-eq a)) (take-all n G (le-of-eq b))
-
 module _ (n i j : ℕ) (plot first : List ℕ) (small : n ≤ 240) (a : 240 * i + n ≤ length plot) (b : 240 * j + n ≤ length first) where
   -- the plot member
   abbrev F : Column
-  F = columnIn n plot i
+  F = columnAt n plot i
 
   -- the treatment member
   abbrev G : Column
-  G = columnIn n first j
+  G = columnAt n first j
 
   -- what is made of the two columns as they are lent
   abbrev pub lentSupremum : Column
@@ -56,17 +46,17 @@ module _ (n i j : ℕ) (plot first : List ℕ) (small : n ≤ 240) (a : 240 * i 
 
   -- they are on the same plots
   same : length F ≡ length G
-  same = length-column n i plot a ∙ sym (length-column n j first b)
+  same = length-part n i plot a ∙ sym (length-part n j first b)
 
   -- it is the supremum of the two columns
   lent-whole : lentSupremum ≡ supremum F G
   lent-whole =
-      ap₂ (λ (X Y : Column). onCommon supremum X Y) (part-is n (240 * i) plot) (part-is n (240 * j) first)
-      ∙ common-all supremum F G same (omega (arith, length-column n i plot a))
+      ap₂ (λ (X Y : Column). onCommon supremum X Y) (part-of n i plot) (part-of n j first)
+      ∙ common-all supremum F G same (omega (arith, length-part n i plot a))
 
   -- it is on n plots
   pub length-made : length (supremum F G) ≡ n
-  length-made = length-supremum F G same ∙ length-column n i plot a
+  length-made = length-supremum F G same ∙ length-part n i plot a
 
   -- it is numbered
   pub number-made : number (supremum F G) ≡ supremum F G
@@ -91,51 +81,7 @@ module _ (n i j : ℕ) (plot first : List ℕ) (small : n ≤ 240) (a : 240 * i 
     pub long-made : n ≤ length after
     long-made = rw (written-made, length-append) (omega (arith, length-made))
 
--- ---- the largest label
-
-module _ (F : Column) (numbered : number F ≡ F) (u k : ℕ) (h : u < length F) (counted : k ≡ classes (take u F)) (bound : (j : ℕ) → j < u → at F j ≤ k) where
-  -- the label of plot u is an earlier one, or the next
-  label-next : ((at F u ≤ k) × (classes (take (suc u) F) ≡ k)) ⊎ ((at F u ≡ suc k) × (classes (take (suc u) F) ≡ suc k))
-  unfolding number classes
-  label-next = go (has-or-new eqb eqb-true eqb-self (take u F) (at F u))
-    where
-      len : length (take u F) ≡ u
-      len = length-take-le u F (omega arith)
-
-      step : Next eqb eqb-true eqb-self 0 F u
-      step = next eqb eqb-true eqb-self 0 F u h
-
-      go : (indexOf eqb (take u F) (at F u) < length (take u F)) ⊎ (indexOf eqb (take u F) (at F u) ≡ length (take u F)) → ((at F u ≤ k) × (classes (take (suc u) F) ≡ k)) ⊎ ((at F u ≡ suc k) × (classes (take (suc u) F) ≡ suc k))
-      go (inl l) =
-          let j = indexOf eqb (take u F) (at F u) in
-          let hj : j < u = omega (arith, len) in
-          let e : at F j ≡ at F u = sym (getD-take u F j 0 hj) ∙ getD-place eqb eqb-true eqb-self (take u F) (at F u) 0 l in
-          inl (subst (λ (x : ℕ). x ≤ k) e (bound j hj), step .old j hj e .1 ∙ sym counted)
-      go (inr l) =
-          let w = step .new (λ j hj e. let m = has-getD eqb eqb-true eqb-self (take u F) j 0 (rw len hj) in lt-irrefl (length (take u F)) (rw (getD-take u F j 0 hj ∙ e, l) at m)) in
-          inr (ap (λ (G : Column). at G u) (sym numbered) ∙ w .0 ∙ ap suc (sym counted), w .1 ∙ ap suc (sym counted))
-
-  -- the larger of it and those before
-  pub largest-next : (m : ℕ) → m ≡ max k (at F u) → (m ≡ classes (take (u + 1) F)) × ((j : ℕ) → j < u + 1 → at F j ≤ m)
-  largest-next m e = (go label-next ∙ ap (λ (i : ℕ). classes (take i F)) (sym (add-one u)), λ j l. by-cases (ltb j u) (λ b. below j (ltb-true j u b)) (λ b. here j (ltb-false j u b) l))
-    where
-      go : ((at F u ≤ k) × (classes (take (suc u) F) ≡ k)) ⊎ ((at F u ≡ suc k) × (classes (take (suc u) F) ≡ suc k)) → m ≡ classes (take (suc u) F)
-      go (inl w) = let a : m ≡ k = omega (arith, w .0) in a ∙ sym (w .1)
-      go (inr w) = let a : m ≡ suc k = omega (arith, w .0) in a ∙ sym (w .1)
-
-      below : (j : ℕ) → j < u → at F j ≤ m
-      below j l = omega (arith, bound j l)
-
-      here : (j : ℕ) → u ≤ j → j < u + 1 → at F j ≤ m
-      here j a b =
-          let q : j ≡ u = omega arith in
-          rw q (omega arith)
-
 -- ---- nested members
-
-or-cases : (a b : Bool) → a || b ≡ true → (a ≡ true) ⊎ (b ≡ true)
-or-cases true b e = inl refl
-or-cases false b e = inr e
 
 -- a member lies in its buffer
 pub member-in-buffer : (n i k : ℕ) (family : List ℕ) → n ≤ 240 → Member n family i k → 240 * i + n ≤ length family
@@ -150,28 +96,28 @@ known-order n f g F G some lF lG cF cG e = go (or-cases (eqb g 1) (eqb f n) e)
     go (inr h) = all-classes-finest n F G lF (sym cF ∙ eqb-true f n h)
 
 -- of two members the first is finer
-known-finer : (n i j f g : ℕ) (a b : List ℕ) → 1 ≤ n → n ≤ 240 → Member n a i f → Member n b j g → knownFiner n f g ≡ true → finer n (columnIn n a i) (columnIn n b j) ≡ true
+known-finer : (n i j f g : ℕ) (a b : List ℕ) → 1 ≤ n → n ≤ 240 → Member n a i f → Member n b j g → knownFiner n f g ≡ true → finer n (columnAt n a i) (columnAt n b j) ≡ true
 known-finer n i j f g a b some small p q e =
-    known-order n f g (columnIn n a i) (columnIn n b j) some (length-column n i a (member-in-buffer n i f a small p)) (length-column n j b (member-in-buffer n j g b small q)) (p .count) (q .count) e
+    known-order n f g (columnAt n a i) (columnAt n b j) some (length-part n i a (member-in-buffer n i f a small p)) (length-part n j b (member-in-buffer n j g b small q)) (p .count) (q .count) e
 
 module _ (n i j f g : ℕ) (plot first : List ℕ) (some : 1 ≤ n) (small : n ≤ 240) (p : Member n plot i f) (q : Member n first j g) where
   -- the supremum is the treatment member
-  pub treatment-coarser : knownFiner n f g ≡ true → (true ≡ orthogonal n (columnIn n plot i) (columnIn n first j)) × (columnIn n first j ≡ supremum (columnIn n plot i) (columnIn n first j))
+  pub treatment-coarser : knownFiner n f g ≡ true → (true ≡ orthogonal n (columnAt n plot i) (columnAt n first j)) × (columnAt n first j ≡ supremum (columnAt n plot i) (columnAt n first j))
   treatment-coarser e =
-      let F = columnIn n plot i in
-      let G = columnIn n first j in
-      let lF = length-column n i plot (member-in-buffer n i f plot small p) in
-      let lG = length-column n j first (member-in-buffer n j g first small q) in
+      let F = columnAt n plot i in
+      let G = columnAt n first j in
+      let lF = length-part n i plot (member-in-buffer n i f plot small p) in
+      let lG = length-part n j first (member-in-buffer n j g first small q) in
       let h = known-finer n i j f g plot first some small p q e in
       (sym (finer-orthogonal n F G lF lG h), sym (finer-supremum n F G lF lG h (q .numbered)))
 
   -- the supremum is the plot member
-  pub plot-coarser : knownFiner n g f ≡ true → (true ≡ orthogonal n (columnIn n plot i) (columnIn n first j)) × (columnIn n plot i ≡ supremum (columnIn n plot i) (columnIn n first j))
+  pub plot-coarser : knownFiner n g f ≡ true → (true ≡ orthogonal n (columnAt n plot i) (columnAt n first j)) × (columnAt n plot i ≡ supremum (columnAt n plot i) (columnAt n first j))
   plot-coarser e =
-      let F = columnIn n plot i in
-      let G = columnIn n first j in
-      let lF = length-column n i plot (member-in-buffer n i f plot small p) in
-      let lG = length-column n j first (member-in-buffer n j g first small q) in
+      let F = columnAt n plot i in
+      let G = columnAt n first j in
+      let lF = length-part n i plot (member-in-buffer n i f plot small p) in
+      let lG = length-part n j first (member-in-buffer n j g first small q) in
       let h = known-finer n j i g f first plot some small q p e in
       (sym (coarser-orthogonal n G F lG lF h), sym (coarser-supremum n G F lG lF h (p .numbered)))
 
@@ -209,7 +155,7 @@ module _ (n : ℕ) (store counts : List ℕ) (size : ℕ) (h : Held n store coun
   ends = length-members n (h .most) store size
 
   -- there was room: the store holds what it held, and the column
-  pub held-placed : (r ≡ 32 → ⊥) → Placed n S F r after counts′ → Held n after counts′ (grownTo size r) × (size ≤ grownTo size r)
+  pub held-placed : (r ≡ 32 → ⊥) → PlacedMember n S F r after counts′ → Held n after counts′ (grownTo size r) × (size ≤ grownTo size r)
   held-placed d (full e l m) = absurd (d e)
   held-placed d (old l m k e) =
       let g : grownTo size r ≡ length S = grown-old size r (λ q. omega (arith, ends)) ∙ sym ends in
@@ -220,7 +166,7 @@ module _ (n : ℕ) (store counts : List ℕ) (size : ℕ) (h : Held n store coun
 
   module _ (As : List Column) (b : Begun n As store counts size) where
     -- there was room: the members are the columns As and F
-    pub begun-placed : number F ≡ F → (r ≡ 32 → ⊥) → Placed n S F r after counts′ → Begun n (As ++ F ∷ []) after counts′ (grownTo size r)
+    pub begun-placed : number F ≡ F → (r ≡ 32 → ⊥) → PlacedMember n S F r after counts′ → Begun n (As ++ F ∷ []) after counts′ (grownTo size r)
     begun-placed i d (full e l m) = absurd (d e)
     begun-placed i d (new e l m k q) =
         let less : size < 32 = omega (arith, ends) in
@@ -242,7 +188,7 @@ module _ (n : ℕ) (store counts : List ℕ) (size : ℕ) (h : Held n store coun
         is-placed l m G (inr w) = Memᴰ·cast (List·Memᴰ·eq-of-singleton w ∙ sym m) (member-in S r l)
 
     -- there was none: they are more than 32
-    pub over-placed : r ≡ 32 → Placed n S F r after counts′ → 32 < length (insertAll (As ++ F ∷ []) [])
+    pub over-placed : r ≡ 32 → PlacedMember n S F r after counts′ → 32 < length (insertAll (As ++ F ∷ []) [])
     over-placed d (old l m k e) = absurd (let q : 32 < 32 = omega (arith, ends, h .few) in omega arith)
     over-placed d (new e l m k q) = absurd (let q : 32 < 32 = omega arith in omega arith)
     over-placed d (full e l m) =

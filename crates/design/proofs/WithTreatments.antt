@@ -24,6 +24,7 @@ use Rattle.design.specs.Treatments.{Numbered}
 use Rattle.design.proofs.Asked.{numbered-made}
 use Rattle.design.specs.Answers.{PlotNumbers, plotNumbersOf, FullNumbers, fullNumbersOf, fullLeft, fullRefusing}
 use Rattle.design.specs.Closings.{closedIn, goesOn}
+use Rattle.standing.proofs.CellTable.{and-both}
 use Rattle.design.proofs.Answered.{accepting, held-over, held-on, Limits, limits}
 
 -- ---- the plot design writes no treatment family
@@ -145,10 +146,6 @@ unfolding goesOn withTreatments
 goes-treatments n k Ts a = refl
 
 -- ---- questions 6 and 7
-
-and-both : (a b : Bool) → a && b ≡ true → (a ≡ true) × (b ≡ true)
-and-both true b e = (refl, e)
-and-both false b e = absurd (true≢false (sym e))
 
 pub nonzero-append : (Fs Ts : List Column) → allNonzero (Fs ++ Ts) ≡ allNonzero Fs && allNonzero Ts
 unfolding allNonzero

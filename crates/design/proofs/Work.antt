@@ -26,7 +26,7 @@ use Rattle.rules.proofs.WorkList.{PlaceOf, place-of, member-in, Found, found-mo
 use Rattle.design.proofs.Common.{column-length}
 use Rattle.design.proofs.Extremes.{finer-infimum, finer-supremum, coarser-infimum, coarser-supremum, finer-orthogonal, coarser-orthogonal}
 use Rattle.design.proofs.Placing.{grown-new, grown-old}
-use Rattle.design.specs.State.{columnIn, Held, Placed, full, old, new, grownTo, Begun, makeOf, markOf, markedRow, entryOf, Joins, Work, Follows, unknown, follows, Known, Kept, Advanced, Stepped, over, on, Grows, too-large, whole, more}
+use Rattle.design.specs.State.{columnAt, Held, PlacedMember, full, old, new, grownTo, Begun, makeOf, pairMark, markedRow, entryOf, Joins, Work, Follows, unknown, follows, Known, Kept, Advanced, Stepped, over, on, Grows, too-large, whole, more}
 
 -- ---- members by their places
 
@@ -36,11 +36,11 @@ module _ {n : ℕ} {store counts : List ℕ} {size : ℕ} (held : Held n store c
   size-members = length-members n (held .most) store size
 
   -- a member is the column at its place
-  pub member-column : (i : ℕ) → i < size → memberAt (membersOf n store size) i ≡ columnIn n store i
+  pub member-column : (i : ℕ) → i < size → memberAt (membersOf n store size) i ≡ columnAt n store i
   member-column i h = member-is n (held .most) store size i h
 
   -- the column at a member's place has n plots
-  pub held-length : (i : ℕ) → i < size → length (columnIn n store i) ≡ n
+  pub held-length : (i : ℕ) → i < size → length (columnAt n store i) ≡ n
   held-length i h = column-length n store i (held .most) (held .room) (omega (arith, held .few))
 
   -- each member is a column of n plots
@@ -53,11 +53,11 @@ module _ {n : ℕ} {store counts : List ℕ} {size : ℕ} (held : Held n store c
           ap length (sym (p .is) ∙ member-column (p .place) l) ∙ held-length (p .place) l
 
   -- the column at a member's place is a member
-  pub column-in : (i : ℕ) → i < size → columnIn n store i ∈ membersOf n store size
+  pub column-in : (i : ℕ) → i < size → columnAt n store i ∈ membersOf n store size
   column-in i h = subst (λ (F : Column). F ∈ membersOf n store size) (member-column i h) (member-in (membersOf n store size) i (omega (arith, size-members)))
 
   -- one member more
-  pub members-more : (i : ℕ) → i < size → take (i + 1) (membersOf n store size) ≡ take i (membersOf n store size) ++ columnIn n store i ∷ []
+  pub members-more : (i : ℕ) → i < size → take (i + 1) (membersOf n store size) ≡ take i (membersOf n store size) ++ columnAt n store i ∷ []
   members-more i l =
       ap (λ (k : ℕ). take k (membersOf n store size)) (add-one i)
       ∙ take-suc (membersOf n store size) i [] (rw size-members l)
@@ -79,7 +79,7 @@ last-is : (S : Family) (F : Column) → memberAt (S ++ F ∷ []) (length S) ≡ 
 last-is S F = ap (memberAt (S ++ F ∷ [])) (sym (add-zero (length S))) ∙ getD-append-add S (F ∷ []) 0 []
 
 -- what placing leaves, unless there was no room
-pub stood : {n : ℕ} {S : Family} {F : Column} {r : ℕ} {store counts : List ℕ} (size : ℕ) → length S ≡ size → Placed n S F r store counts → (r ≡ 32 → ⊥) → Stood n S F r store counts (grownTo size r)
+pub stood : {n : ℕ} {S : Family} {F : Column} {r : ℕ} {store counts : List ℕ} (size : ℕ) → length S ≡ size → PlacedMember n S F r store counts → (r ≡ 32 → ⊥) → Stood n S F r store counts (grownTo size r)
 stood size e (full q l f) miss = absurd (miss q)
 stood {n} {S} {F} {r} {store} {counts} size e (old h is held same) miss = subst (Stood n S F r store counts) (sym g) record {
   held = held;
@@ -109,14 +109,14 @@ pub stood-as : {n : ℕ} {S : Family} {F : Column} {r : ℕ} {store counts : Lis
 stood-as {n} {S} {F} {r} {store} {counts} e s = subst (Stood n S F r store counts) (sym e) s
 
 -- the columns of before stay in the store
-pub column-kept : {n : ℕ} {F : Column} {r : ℕ} {store counts store′ counts′ : List ℕ} {size size′ : ℕ} → Held n store counts size → Stood n (membersOf n store size) F r store′ counts′ size′ → (k : ℕ) → k < size → columnIn n store′ k ≡ columnIn n store k
+pub column-kept : {n : ℕ} {F : Column} {r : ℕ} {store counts store′ counts′ : List ℕ} {size size′ : ℕ} → Held n store counts size → Stood n (membersOf n store size) F r store′ counts′ size′ → (k : ℕ) → k < size → columnAt n store′ k ≡ columnAt n store k
 column-kept held s k h = sym (member-column (s .held) k (omega (arith, s .more, size-members held))) ∙ s .keeps k (omega (arith, size-members held)) ∙ member-column held k h
 
 -- ---- the work on the members of a family
 
 -- the pair b, a has its mark
 abbrev Marked : ℕ → Bool → Family → List ℕ → ℕ → ℕ → Type 0
-Marked n infima S marks b a = markedRow marks b a ≡ markOf infima n (memberAt S b) (memberAt S a)
+Marked n infima S marks b a = markedRow marks b a ≡ pairMark infima n (memberAt S b) (memberAt S a)
 
 -- the facts of the work, whatever store the members S are in
 pub record Going (n : ℕ) (infima : Bool) (Gs : List Column) (S : Family) (marks : List ℕ) (i j : ℕ) : Type 0 where
@@ -158,7 +158,7 @@ going-more n infima Gs S F marks i j hi hj p e f g = record {
     same k h = List·getD-append S (F ∷ []) [] k h
 
     kept : (b a : ℕ) → b < length S → a < length S → Marked n infima S marks b a → Marked n infima (S ++ F ∷ []) marks b a
-    kept b a hb ha m = m ∙ sym (ap₂ (markOf infima n) (same b hb) (same a ha))
+    kept b a hb ha m = m ∙ sym (ap₂ (pairMark infima n) (same b hb) (same a ha))
 
     joined : (a : ℕ) → a < length S → (q : ℕ) → (q < length S) × (memberAt S q ≡ supremum (memberAt S i) (memberAt S a))
         → (q < length (S ++ F ∷ [])) × (memberAt (S ++ F ∷ []) q ≡ supremum (memberAt (S ++ F ∷ []) i) (memberAt (S ++ F ∷ []) a))
@@ -166,7 +166,7 @@ going-more n infima Gs S F marks i j hi hj p e f g = record {
 
 -- the pair i, j has its mark: what the table has elsewhere is as it was
 going-step : (n : ℕ) (infima : Bool) (Gs : List Column) (S : Family) (marks : List ℕ) (i j mark : ℕ) → i < 32 → j < i → ((H : Column) → H ∈ makeOf infima (memberAt S i) (memberAt S j) → H ∈ S)
-    → not (eqb mark 0) ≡ markOf infima n (memberAt S i) (memberAt S j) → Joins S i j mark → Going n infima Gs S marks i j → Going n infima Gs S (set marks (32 * i + j) mark) i (suc j)
+    → not (eqb mark 0) ≡ pairMark infima n (memberAt S i) (memberAt S j) → Joins S i j mark → Going n infima Gs S marks i j → Going n infima Gs S (set marks (32 * i + j) mark) i (suc j)
 going-step n infima Gs S marks i j mark hi hj all e k g = record {
   cells = length-set marks (32 * i + j) mark ∙ g .cells;
   numbered = g .numbered;
@@ -293,7 +293,7 @@ module _ {n : ℕ} {infima : Bool} {Gs : List Column} {store counts marks : List
       (s .members))
 
   -- it is new, and there is no room
-  work-over : {F : Column} {r : ℕ} {store′ counts′ : List ℕ} → Made (makeOf infima) Gs F → Placed n S F r store′ counts′ → r ≡ 32 → close (makeOf infima) Gs ≡ tooMany
+  work-over : {F : Column} {r : ℕ} {store′ counts′ : List ℕ} → Made (makeOf infima) Gs F → PlacedMember n S F r store′ counts′ → r ≡ 32 → close (makeOf infima) Gs ≡ tooMany
   work-over {F} p (full q l f) e = found-over (makeOf infima) Gs S (w .found) F p f (omega arith)
   work-over p (old h is held same) e = absurd (omega (arith, size-members (w .held), w .held .few))
   work-over p (new q h f held same) e = absurd (omega arith)
@@ -301,10 +301,10 @@ module _ {n : ℕ} {infima : Bool} {Gs : List Column} {store counts marks : List
   module _ (hi : i < size) (hj : j < i) where
     -- the two members of the pair
     abbrev A : Column
-    A = columnIn n store i
+    A = columnAt n store i
 
     abbrev B : Column
-    B = columnIn n store j
+    B = columnAt n store j
 
     -- both members are columns of n plots
     lA : length A ≡ n
@@ -329,11 +329,11 @@ module _ {n : ℕ} {infima : Bool} {Gs : List Column} {store counts marks : List
     work-supremum s = work-place hi (omega arith) made-supremum (number-supremum A B (lA ∙ sym lB)) s
 
     -- there is no room for the supremum
-    pub over-supremum : {r : ℕ} {store′ counts′ : List ℕ} → Placed n S (supremum A B) r store′ counts′ → r ≡ 32 → close (makeOf infima) Gs ≡ tooMany
+    pub over-supremum : {r : ℕ} {store′ counts′ : List ℕ} → PlacedMember n S (supremum A B) r store′ counts′ → r ≡ 32 → close (makeOf infima) Gs ≡ tooMany
     over-supremum s e = work-over made-supremum s e
 
     -- the pair has its mark
-    work-step : (mark : ℕ) → ((H : Column) → H ∈ makeOf infima (memberAt S i) (memberAt S j) → H ∈ S) → not (eqb mark 0) ≡ markOf infima n (memberAt S i) (memberAt S j) → Joins S i j mark → Work n infima Gs store counts (set marks (32 * i + j) mark) size i (j + 1)
+    work-step : (mark : ℕ) → ((H : Column) → H ∈ makeOf infima (memberAt S i) (memberAt S j) → H ∈ S) → not (eqb mark 0) ≡ pairMark infima n (memberAt S i) (memberAt S j) → Joins S i j mark → Work n infima Gs store counts (set marks (32 * i + j) mark) size i (j + 1)
     work-step mark all e k = rw add-one (work (w .held) (going-step n infima Gs S marks i j mark (omega (arith, w .held .few)) hj all e k (going w)))
 
     -- both members are where they are read
@@ -360,15 +360,15 @@ module _ {n : ℕ} {infima : Bool} {Gs : List Column} {store counts marks : List
 
 module _ {n : ℕ} {Gs : List Column} {store counts marks : List ℕ} {size i j : ℕ} (w : Work n true Gs store counts marks size i j) (hi : i < size) (hj : j < i) where
   -- the infimum of the pair is in the smallest set
-  made-infimum : Made both Gs (infimum (columnIn n store i) (columnIn n store j))
-  made-infimum = made (mA w hi hj) (mB w hi hj) (infimum-in (columnIn n store i) (columnIn n store j))
+  made-infimum : Made both Gs (infimum (columnAt n store i) (columnAt n store j))
+  made-infimum = made (mA w hi hj) (mB w hi hj) (infimum-in (columnAt n store i) (columnAt n store j))
 
   -- the infimum of the pair is placed
-  pub work-infimum : {r : ℕ} {store′ counts′ : List ℕ} {size′ : ℕ} → Stood n (membersOf n store size) (infimum (columnIn n store i) (columnIn n store j)) r store′ counts′ size′ → Work n true Gs store′ counts′ marks size′ i j
-  work-infimum s = work-place w hi (omega arith) made-infimum (number-infimum (columnIn n store i) (columnIn n store j) (lA w hi hj ∙ sym (lB w hi hj))) s
+  pub work-infimum : {r : ℕ} {store′ counts′ : List ℕ} {size′ : ℕ} → Stood n (membersOf n store size) (infimum (columnAt n store i) (columnAt n store j)) r store′ counts′ size′ → Work n true Gs store′ counts′ marks size′ i j
+  work-infimum s = work-place w hi (omega arith) made-infimum (number-infimum (columnAt n store i) (columnAt n store j) (lA w hi hj ∙ sym (lB w hi hj))) s
 
   -- there is no room for the infimum
-  pub over-infimum : {r : ℕ} {store′ counts′ : List ℕ} → Placed n (membersOf n store size) (infimum (columnIn n store i) (columnIn n store j)) r store′ counts′ → r ≡ 32 → close both Gs ≡ tooMany
+  pub over-infimum : {r : ℕ} {store′ counts′ : List ℕ} → PlacedMember n (membersOf n store size) (infimum (columnAt n store i) (columnAt n store j)) r store′ counts′ → r ≡ 32 → close both Gs ≡ tooMany
   over-infimum s e = work-over w made-infimum s e
 
 -- the same pair by other names
@@ -392,12 +392,12 @@ work-done {n} {infima} {Gs} {store} {counts} {marks} {size} w =
 -- ---- the places of a pair
 
 -- a member where it stands once a column is placed
-pub kept-at : {n : ℕ} {F : Column} {r : ℕ} {store counts store′ counts′ : List ℕ} {size size′ : ℕ} → Held n store counts size → Stood n (membersOf n store size) F r store′ counts′ size′ → (k : ℕ) → k < size → memberAt (membersOf n store′ size′) k ≡ columnIn n store k
+pub kept-at : {n : ℕ} {F : Column} {r : ℕ} {store counts store′ counts′ : List ℕ} {size size′ : ℕ} → Held n store counts size → Stood n (membersOf n store size) F r store′ counts′ size′ → (k : ℕ) → k < size → memberAt (membersOf n store′ size′) k ≡ columnAt n store k
 kept-at held s k h = s .keeps k (omega (arith, size-members held)) ∙ member-column held k h
 
 -- it has just been placed
 pub pair-here : {op : Column → Column → Column} {n : ℕ} {store counts : List ℕ} {size i j r : ℕ} {store′ counts′ : List ℕ} {size′ : ℕ} → Held n store counts size → i < size → j < size
-    → Stood n (membersOf n store size) (op (columnIn n store i) (columnIn n store j)) r store′ counts′ size′ → PairAt op (membersOf n store′ size′) i j r
+    → Stood n (membersOf n store size) (op (columnAt n store i) (columnAt n store j)) r store′ counts′ size′ → PairAt op (membersOf n store′ size′) i j r
 pair-here {op} {i = i} {j = j} held hi hj s = record { less = omega (arith, size-members (s .held), s .here); is = s .is ∙ sym (ap₂ op (kept-at held s i hi) (kept-at held s j hj)) }
 
 -- another column has been placed
@@ -422,7 +422,7 @@ entry-joins false a k e = absurd (omega arith)
 
 -- the entry of the pair, whose infimum and supremum have places, is stored
 pub work-both : {n : ℕ} {infima : Bool} {Gs : List Column} {store counts marks : List ℕ} {size i j p q : ℕ} (mark : Bool) → i < size → j < i
-    → PairAt infimum (membersOf n store size) i j p → PairAt supremum (membersOf n store size) i j q → mark ≡ markOf infima n (memberAt (membersOf n store size) i) (memberAt (membersOf n store size) j)
+    → PairAt infimum (membersOf n store size) i j p → PairAt supremum (membersOf n store size) i j q → mark ≡ pairMark infima n (memberAt (membersOf n store size) i) (memberAt (membersOf n store size) j)
     → Work n infima Gs store counts marks size i j → Work n infima Gs store counts (set marks (32 * i + j) (entryOf mark q)) size i (j + 1)
 work-both {infima = infima} {q = q} mark hi hj a b e w = work-step w hi hj (entryOf mark q) (makes-both infima a b) (entry-mark mark q ∙ e) (entry-joins mark b)
 
@@ -445,35 +445,35 @@ module _ {n : ℕ} {infima : Bool} {Gs : List Column} {store counts marks : List
   here k h = omega (arith, size-members (w .held))
 
   -- the first is the finer
-  pub work-left : finer n (columnIn n store i) (columnIn n store j) ≡ true → Work n infima Gs store counts (set marks (32 * i + j) (entryOf true j)) size i (j + 1)
+  pub work-left : finer n (columnAt n store i) (columnAt n store j) ≡ true → Work n infima Gs store counts (set marks (32 * i + j) (entryOf true j)) size i (j + 1)
   work-left e =
       let f = nested-left w hi hj e in
       work-both true hi hj record { less = here i hi; is = f .0 } record { less = here j (omega arith); is = f .1 } (mark infima) w
     where
-      mark : (t : Bool) → true ≡ markOf t n (memberAt (membersOf n store size) i) (memberAt (membersOf n store size) j)
+      mark : (t : Bool) → true ≡ pairMark t n (memberAt (membersOf n store size) i) (memberAt (membersOf n store size) j)
       mark true = let f = nested-left w hi hj e in sym (counts-left (f .0) (f .1))
-      mark false = rw (at-i w hi hj, at-j w hi hj) (sym (finer-orthogonal n (columnIn n store i) (columnIn n store j) (lA w hi hj) (lB w hi hj) e))
+      mark false = rw (at-i w hi hj, at-j w hi hj) (sym (finer-orthogonal n (columnAt n store i) (columnAt n store j) (lA w hi hj) (lB w hi hj) e))
 
   -- the second is the finer
-  pub work-right : finer n (columnIn n store j) (columnIn n store i) ≡ true → Work n infima Gs store counts (set marks (32 * i + j) (entryOf true i)) size i (j + 1)
+  pub work-right : finer n (columnAt n store j) (columnAt n store i) ≡ true → Work n infima Gs store counts (set marks (32 * i + j) (entryOf true i)) size i (j + 1)
   work-right e =
       let f = nested-right w hi hj e in
       work-both true hi hj record { less = here j (omega arith); is = f .0 } record { less = here i hi; is = f .1 } (mark infima) w
     where
-      mark : (t : Bool) → true ≡ markOf t n (memberAt (membersOf n store size) i) (memberAt (membersOf n store size) j)
+      mark : (t : Bool) → true ≡ pairMark t n (memberAt (membersOf n store size) i) (memberAt (membersOf n store size) j)
       mark true = let f = nested-right w hi hj e in sym (counts-right (f .0) (f .1))
-      mark false = rw (at-i w hi hj, at-j w hi hj) (sym (coarser-orthogonal n (columnIn n store j) (columnIn n store i) (lB w hi hj) (lA w hi hj) e))
+      mark false = rw (at-i w hi hj, at-j w hi hj) (sym (coarser-orthogonal n (columnAt n store j) (columnAt n store i) (lB w hi hj) (lA w hi hj) e))
 
 -- ---- a pair whose supremum follows
 
 module _ {n : ℕ} {Gs : List Column} {store counts marks : List ℕ} {size i j : ℕ} (w : Work n false Gs store counts marks size i j) (hi : i < size) (hj : j < i) where
   -- member y is finer than j, and the supremum q of i and y is coarser: it is that of i and j too, and these are orthogonal if i and y are
-  work-between : (y q : ℕ) → y < j → getD marks (32 * i + y) 0 ≡ suc q → q < size → Finer n (columnIn n store y) (columnIn n store j) → Finer n (columnIn n store j) (columnIn n store q)
+  work-between : (y q : ℕ) → y < j → getD marks (32 * i + y) 0 ≡ suc q → q < size → Finer n (columnAt n store y) (columnAt n store j) → Finer n (columnAt n store j) (columnAt n store q)
       → Work n false Gs store counts (set marks (32 * i + j) (suc q)) size i (j + 1)
   work-between y q hy e hq fine below = work-join {q = q} true hi hj record { less = omega (arith, size-members (w .held)); is = here-q ∙ sym (rw (at-i w hi hj, at-j w hi hj) high) } (sym (rw (at-i w hi hj, at-j w hi hj) right)) w
     where
       Y : Column
-      Y = columnIn n store y
+      Y = columnAt n store y
 
       lY : length Y ≡ n
       lY = held-length (w .held) y (omega arith)
@@ -481,18 +481,18 @@ module _ {n : ℕ} {Gs : List Column} {store counts marks : List ℕ} {size i j 
       at-y : memberAt (membersOf n store size) y ≡ Y
       at-y = member-column (w .held) y (omega arith)
 
-      here-q : memberAt (membersOf n store size) q ≡ columnIn n store q
+      here-q : memberAt (membersOf n store size) q ≡ columnAt n store q
       here-q = member-column (w .held) q hq
 
       -- the supremum of i and y
-      old : supremum (A w hi hj) Y ≡ columnIn n store q
+      old : supremum (A w hi hj) Y ≡ columnAt n store q
       old = sym (ap₂ supremum (at-i w hi hj) at-y) ∙ sym (w .joins y hy q e .1) ∙ here-q
 
       under : Finer n (B w hi hj) (supremum (A w hi hj) Y)
       under = subst (Finer n (B w hi hj)) (sym old) below
 
       -- it is that of i and j
-      high : supremum (A w hi hj) (B w hi hj) ≡ columnIn n store q
+      high : supremum (A w hi hj) (B w hi hj) ≡ columnAt n store q
       high = between-supremum-right n (A w hi hj) Y (B w hi hj) (lA w hi hj) lY (lB w hi hj) fine under ∙ old
 
       -- i and y are orthogonal

@@ -6,6 +6,7 @@ use mathlib.Core.List.{List}
 use Prim.Native.Nat.{ℕ, zero, suc, _≤_}
 use lib.Dec.{eqb}
 use lib.ListN.{length}
+use Rattle.rules.specs.Limits.{mostPlots, familyBytes}
 use Rattle.rules.specs.Family.{membersOf}
 use Rattle.rules.specs.Closing.{Closing, tooMany, family}
 use Rattle.rules.specs.Design.{Answer, question11}
@@ -18,8 +19,8 @@ closedIn n memory size = elim (eqb size 33) [ true ↦ tooMany | false ↦ famil
 
 -- a plot family that is not too large is held with what questions 9 and 10 need to know of it
 pub record Ready (n size : ℕ) (plot order marks : List ℕ) : Type 0 where
-  pub most : n ≤ 240
-  pub room : 7680 ≤ length plot
+  pub most : n ≤ mostPlots
+  pub room : familyBytes ≤ length plot
   pub judging : (size ≡ 33 → ⊥) → Judging n size plot order marks
 
 -- questions 8 to 14: an accepted plot family goes on to the first treatment family

@@ -8,6 +8,7 @@ use Prim.Native.Nat.{ℕ, suc, _+_, _*_, _%_, _^_, _≤_, _<_}
 use lib.Bits.{bitOr}
 use lib.Dec.{eqb, ltb}
 use lib.ListN.{length, getD, set, take, drop}
+use Rattle.rules.specs.Limits.{mostPlots, mostMembers, familyBytes}
 use Rattle.rules.specs.Factor.{Column, Finer, number, classes, supremum, orthogonal}
 use Rattle.rules.specs.Family.{Family, _∈_, Distinct, before, membersOf, insertAll}
 use Rattle.rules.specs.Lists.{bitAt}
@@ -15,21 +16,18 @@ use Rattle.rules.specs.Closing.{both, onlySupremum, tooMany, family, close}
 use Rattle.rules.specs.Relation.{memberAt}
 use Rattle.rules.proofs.Orthogonality.{byCounts}
 use Rattle.rules.proofs.WorkList.{Found, Combined}
+pub use Rattle.factor.specs.Lent.{columnAt}
 
 -- ---- members in a store
-
--- the column at place i of a store
-abbrev pub columnIn : ℕ → List ℕ → ℕ → Column
-columnIn n store i = take n (drop (240 * i) store)
 
 -- the store has room, and holds `size` members on n plots with their numbers of classes
 pub record Held (n : ℕ) (store counts : List ℕ) (size : ℕ) : Type 0 where
   pub some : 1 ≤ n
-  pub most : n ≤ 240
-  pub room : length store ≡ 7680
-  pub places : length counts ≡ 32
-  pub few : size ≤ 32
-  pub counted : (i : ℕ) → i < size → getD counts i 0 ≡ classes (columnIn n store i)
+  pub most : n ≤ mostPlots
+  pub room : length store ≡ familyBytes
+  pub places : length counts ≡ mostMembers
+  pub few : size ≤ mostMembers
+  pub counted : (i : ℕ) → i < size → getD counts i 0 ≡ classes (columnAt n store i)
 
 -- a factor with a classes on n plots is known to be finer than or equivalent to one with b, which is member j
 abbrev pub toldFiner : ℕ → ℕ → ℕ → ℕ → ℕ → Bool
@@ -41,17 +39,17 @@ noted above a b = set above a (bitOr (getD above a 0) (bitOr (getD above b 0) (1
 
 -- what is known of the order of members: bit b of word a says that member a is finer than or equivalent to member b
 pub record Known (n : ℕ) (store above : List ℕ) (size : ℕ) : Type 0 where
-  pub words : length above ≡ 32
-  pub sound : (a b : ℕ) → bitAt (getD above a 0) b ≡ true → (a < size) × (b < size) × Finer n (columnIn n store a) (columnIn n store b)
+  pub words : length above ≡ mostMembers
+  pub sound : (a b : ℕ) → bitAt (getD above a 0) b ≡ true → (a < size) × (b < size) × Finer n (columnAt n store a) (columnAt n store b)
 
 -- What placing the column F among the members S answers: r is its place.
-pub data Placed (n : ℕ) (S : Family) (F : Column) (r : ℕ) (store counts : List ℕ) : Type 0 where
+pub data PlacedMember (n : ℕ) (S : Family) (F : Column) (r : ℕ) (store counts : List ℕ) : Type 0 where
   -- it is new, and there is no room
-  full : r ≡ 32 → length S ≡ 32 → (F ∈ S → ⊥) → Placed n S F r store counts
+  full : r ≡ mostMembers → length S ≡ mostMembers → (F ∈ S → ⊥) → PlacedMember n S F r store counts
   -- it is a member
-  old : r < length S → memberAt S r ≡ F → Held n store counts (length S) → membersOf n store (length S) ≡ S → Placed n S F r store counts
+  old : r < length S → memberAt S r ≡ F → Held n store counts (length S) → membersOf n store (length S) ≡ S → PlacedMember n S F r store counts
   -- it is new, and stands at the end
-  new : r ≡ length S → r < 32 → (F ∈ S → ⊥) → Held n store counts (suc r) → membersOf n store (suc r) ≡ S ++ F ∷ [] → Placed n S F r store counts
+  new : r ≡ length S → r < mostMembers → (F ∈ S → ⊥) → Held n store counts (suc r) → membersOf n store (suc r) ≡ S ++ F ∷ [] → PlacedMember n S F r store counts
 
 -- the size once a column stands at a place
 abbrev pub grownTo : ℕ → ℕ → ℕ
@@ -76,13 +74,13 @@ makeOf true = both
 makeOf false = onlySupremum
 
 -- What is kept of two members: with infima, whether numbers of classes are as for two that are orthogonal; else whether they are orthogonal.
-abbrev pub markOf : Bool → ℕ → Column → Column → Bool
-markOf true n = byCounts
-markOf false n = orthogonal n
+abbrev pub pairMark : Bool → ℕ → Column → Column → Bool
+pairMark true n = byCounts
+pairMark false n = orthogonal n
 
 -- the mark of the members b and a < b: an entry that is not 0
 abbrev pub markedRow : List ℕ → ℕ → ℕ → Bool
-markedRow marks b a = not (eqb (getD marks (32 * b + a) 0) 0)
+markedRow marks b a = not (eqb (getD marks (mostMembers * b + a) 0) 0)
 
 -- the entry of a pair whose supremum stands at place q: 0 where the pair has not the mark
 abbrev pub entryOf : Bool → ℕ → ℕ
@@ -105,9 +103,9 @@ pub record Work (n : ℕ) (infima : Bool) (Gs : List Column) (store counts marks
   pub found : Found (makeOf infima) Gs (membersOf n store size)
   pub given : (G : Column) → G ∈ Gs → G ∈ membersOf n store size
   pub combined : Combined (makeOf infima) Gs (membersOf n store size) i j
-  pub rows : (b a : ℕ) → a < b → b < i → markedRow marks b a ≡ markOf infima n (memberAt (membersOf n store size) b) (memberAt (membersOf n store size) a)
-  pub row : (a : ℕ) → a < j → markedRow marks i a ≡ markOf infima n (memberAt (membersOf n store size) i) (memberAt (membersOf n store size) a)
-  pub joins : (a : ℕ) → a < j → Joins (membersOf n store size) i a (getD marks (32 * i + a) 0)
+  pub rows : (b a : ℕ) → a < b → b < i → markedRow marks b a ≡ pairMark infima n (memberAt (membersOf n store size) b) (memberAt (membersOf n store size) a)
+  pub row : (a : ℕ) → a < j → markedRow marks i a ≡ pairMark infima n (memberAt (membersOf n store size) i) (memberAt (membersOf n store size) a)
+  pub joins : (a : ℕ) → a < j → Joins (membersOf n store size) i a (getD marks (mostMembers * i + a) 0)
 
 -- the entry names a member, and it is known that member j is finer than or equivalent to it
 pub data NamesCoarser (n : ℕ) (counts above : List ℕ) (size j entry : ℕ) : Type 0 where
@@ -117,7 +115,7 @@ pub data NamesCoarser (n : ℕ) (counts above : List ℕ) (size j entry : ℕ) :
 -- r is the entry of i and y; 0 where no such member is known.
 pub data Follows (n : ℕ) (store marks : List ℕ) (size i j r : ℕ) : Type 0 where
   unknown : r ≡ 0 → Follows n store marks size i j r
-  follows : (y q : ℕ) → y < j → r ≡ getD marks (32 * i + y) 0 → r ≡ suc q → q < size → Finer n (columnIn n store y) (columnIn n store j) → Finer n (columnIn n store j) (columnIn n store q) → Follows n store marks size i j r
+  follows : (y q : ℕ) → y < j → r ≡ getD marks (mostMembers * i + y) 0 → r ≡ suc q → q < size → Finer n (columnAt n store y) (columnAt n store j) → Finer n (columnAt n store j) (columnAt n store q) → Follows n store marks size i j r
 
 -- what a step leaves, whatever it works towards: 33 where the family is too large, or a store that has not shrunk
 abbrev pub Kept : ℕ → List ℕ → List ℕ → ℕ → ℕ → Type 0
@@ -148,11 +146,11 @@ pub data Grows (n : ℕ) (Gs : List Column) (store counts marks : List ℕ) (siz
 -- the first of the first i places of the order whose member F stands before, or i
 pub record RankOf (n : ℕ) (store order : List ℕ) (F : Column) (i r : ℕ) : Type 0 where
   pub most : r ≤ i
-  pub passed : (p : ℕ) → p < r → before F (columnIn n store (getD order p 0)) ≡ false
-  pub stops : r < i → before F (columnIn n store (getD order r 0)) ≡ true
+  pub passed : (p : ℕ) → p < r → before F (columnAt n store (getD order p 0)) ≡ false
+  pub stops : r < i → before F (columnAt n store (getD order r 0)) ≡ true
 
 -- the first of 32 entries are places of members, and put the members in order
 pub record Sorted (S : Family) (order : List ℕ) : Type 0 where
-  pub entries : length order ≡ 32
+  pub entries : length order ≡ mostMembers
   pub places : (i : ℕ) → i < length S → getD order i 0 < length S
   pub members : map (λ (i : ℕ). memberAt S i) (take (length S) order) ≡ insertAll S []

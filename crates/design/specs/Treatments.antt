@@ -6,10 +6,11 @@ use mathlib.Core.List.{List, [], _∷_, _++_, map}
 use Prim.Native.Nat.{ℕ, zero, suc, _*_, _≤_, _<_}
 use lib.Dec.{eqb, ltb}
 use lib.ListN.{length, getD}
+use Rattle.rules.specs.Limits.{mostPlots, mostMembers, familyBytes}
 use Rattle.rules.specs.Factor.{Column, number, classes, infimum, orthogonal}
 use Rattle.rules.specs.Family.{membersOf, insertAll}
 use Rattle.rules.specs.Closing.{onlySupremum, tooMany, close, infimumAll}
-use Rattle.design.specs.State.{columnIn, Begun}
+use Rattle.design.specs.State.{columnAt, Begun}
 
 -- the choices of fewer than k columns
 unfoldable pub shorter : ℕ → List (List Column) → List (List Column)
@@ -29,7 +30,7 @@ withChoice (suc l) T X = infimum T X
 -- room for how many columns each of 64 choices has, which are at most 6
 pub record Room (n : ℕ) (lengths : List ℕ) : Type 0 where
   pub some : 1 ≤ n
-  pub most : n ≤ 240
+  pub most : n ≤ mostPlots
   pub cells : length lengths ≡ 64
   pub small : (e : ℕ) → getD lengths e 0 ≤ 6
 
@@ -38,7 +39,7 @@ pub record Infima (n : ℕ) (infima lengths : List ℕ) (total : ℕ) (Cs : List
   pub room : Room n lengths
   pub count : length Cs ≡ total
   pub few : total ≤ 64
-  pub fits : 240 * total ≤ length infima
+  pub fits : mostPlots * total ≤ length infima
   pub columns : membersOf n infima total ≡ map (infimumAll n) Cs
   pub sizes : (e : ℕ) → e < total → getD lengths e 0 ≡ length (getD Cs e [])
 
@@ -49,12 +50,12 @@ pub data AllPlaced (n : ℕ) (Gs : List Column) (store counts : List ℕ) (r : �
 
 -- the columns As are placed, or more than 32 of them differ
 pub data Placing (n : ℕ) (As : List Column) (store counts : List ℕ) (r : ℕ) : Type 0 where
-  exceeded : r ≡ 33 → 32 < length (insertAll As []) → Placing n As store counts r
+  exceeded : r ≡ 33 → mostMembers < length (insertAll As []) → Placing n As store counts r
   begun : Begun n As store counts r → Placing n As store counts r
 
 -- plot member i and treatment member j are orthogonal
 abbrev pub orthogonalAt : ℕ → List ℕ → List ℕ → ℕ → ℕ → Bool
-orthogonalAt n plot first i j = orthogonal n (columnIn n plot i) (columnIn n first j)
+orthogonalAt n plot first i j = orthogonal n (columnAt n plot i) (columnAt n first j)
 
 -- on n plots, a factor with a classes is finer than any with b: the latter has one class, or the former one for each plot
 abbrev pub knownFiner : ℕ → ℕ → ℕ → Bool
@@ -62,13 +63,13 @@ knownFiner n a b = eqb b 1 || eqb a n
 
 -- a family buffer has a member on n plots at place i, numbered, with k classes
 pub record Member (n : ℕ) (family : List ℕ) (i k : ℕ) : Type 0 where
-  pub room : 7680 ≤ length family
-  pub place : i < 32
-  pub numbered : number (columnIn n family i) ≡ columnIn n family i
-  pub count : k ≡ classes (columnIn n family i)
+  pub room : familyBytes ≤ length family
+  pub place : i < mostMembers
+  pub numbered : number (columnAt n family i) ≡ columnAt n family i
+  pub count : k ≡ classes (columnAt n family i)
 
 -- a family buffer has `size` members on n plots, numbered
 pub record Numbered (n : ℕ) (family : List ℕ) (size : ℕ) : Type 0 where
-  pub room : 7680 ≤ length family
-  pub few : size ≤ 32
-  pub numbered : (i : ℕ) → i < size → number (columnIn n family i) ≡ columnIn n family i
+  pub room : familyBytes ≤ length family
+  pub few : size ≤ mostMembers
+  pub numbered : (i : ℕ) → i < size → number (columnAt n family i) ≡ columnAt n family i

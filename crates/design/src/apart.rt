@@ -2,26 +2,24 @@
 ghost use mathlib.Core.Path.{_≡_};
 ghost use Prim.Native.Nat.{ℕ, _+_, _*_, _≤_, _<_};
 ghost use lib.ListN.{length};
+ghost use Rattle.rules.specs.Limits.{mostPlots, mostMembers, familyBytes};
 ghost use Rattle.design.specs.Search.{crossFirst, crossSecond};
 ghost use Rattle.design.specs.Treatments.{orthogonalAt, Member};
 ghost use Rattle.design.specs.Crossing.{Counted, Tested};
 use crate::closing::PAIRS;
 use crate::nesting::known_finer;
 use crate::questions::Places;
+use families::member;
 use limits::MEMBERS;
 use limits::PLOTS;
 
 // Whether plot member `i` and treatment member `j` are orthogonal, by a walk over their plots.
 fn walk_orthogonal(plot: &[u8], i: usize, first: &[u8], j: usize, n: usize) -> bool
-    requires { ⌜ (n ≤ 240) × (7680 ≤ length (now plot)) × (7680 ≤ length (now first)) × (i < 32) × (j < 32) ⌝ }
+    requires { ⌜ (n ≤ mostPlots) × (familyBytes ≤ length (now plot)) × (familyBytes ≤ length (now first)) × (i < mostMembers) × (j < mostMembers) ⌝ }
     ensures { λ r. ⌜ r ≡ orthogonalAt n (now (plot .entry)) (now (first .entry)) i j ⌝ }
 {
-    let a = PLOTS * i;
-    let b = PLOTS * j;
-    let c = a + n;
-    let d = b + n;
     let mut column = [0u8; PLOTS];
-    standing::crossing_of(&plot[a..c], &first[b..d], &mut column).orthogonal
+    standing::crossing_of(member(plot, i, n), member(first, j, n), &mut column).orthogonal
 }
 
 // The same, of members with `f` and `g` classes, which may be known: by the table, by the cell `apart` of a pair that is not, or by the
@@ -37,7 +35,7 @@ fn pair_orthogonal(
     joins: &[u8; PAIRS],
     apart: usize,
 ) -> bool
-    requires { ⌜ (1 ≤ n) × (n ≤ 240) × Member n (now plot) i f × Member n (now first) j g × Tested n (now plot) (now first) (now joins) apart i j ⌝ }
+    requires { ⌜ (1 ≤ n) × (n ≤ mostPlots) × Member n (now plot) i f × Member n (now first) j g × Tested n (now plot) (now first) (now joins) apart i j ⌝ }
     ensures { λ r. ⌜ r ≡ orthogonalAt n (now (plot .entry)) (now (first .entry)) i j ⌝ }
 {
     let at = MEMBERS * i + j;
@@ -68,7 +66,7 @@ pub fn first_crossed(
     joins: &[u8; PAIRS],
     apart: usize,
 ) -> Places
-    requires { ⌜ (1 ≤ n) × (n ≤ 240) × («plot_size» ≤ 32) × Counted n (now plot) (now plots) «plot_size» × («first_size» ≤ 32) × Counted n (now first) (now firsts) «first_size» × ((i j : ℕ) → i < 32 → j < 32 → Tested n (now plot) (now first) (now joins) apart i j) ⌝ }
+    requires { ⌜ (1 ≤ n) × (n ≤ mostPlots) × («plot_size» ≤ mostMembers) × Counted n (now plot) (now plots) «plot_size» × («first_size» ≤ mostMembers) × Counted n (now first) (now firsts) «first_size» × ((i j : ℕ) → i < mostMembers → j < mostMembers → Tested n (now plot) (now first) (now joins) apart i j) ⌝ }
     ensures first { λ r. ⌜ r .first ≡ crossFirst (orthogonalAt n (now (plot .entry)) (now (first .entry))) «plot_size» «first_size» ⌝ }
     ensures second { λ r. ⌜ r .second ≡ crossSecond (orthogonalAt n (now (plot .entry)) (now (first .entry))) «first_size» (r .first) ⌝ }
 {

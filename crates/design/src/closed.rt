@@ -4,6 +4,7 @@ ghost use mathlib.Core.Bool.{true};
 ghost use mathlib.Core.List.{List, [], _∷_, _++_};
 ghost use Prim.Native.Nat.{_≤_};
 ghost use lib.ListN.{length};
+ghost use Rattle.rules.specs.Limits.{mostPlots, mostMembers, tableCells, familyBytes};
 ghost use Rattle.rules.specs.Factor.{Column, equality};
 ghost use Rattle.rules.specs.Family.{_∈_, columnsFrom, membersOf};
 ghost use Rattle.rules.specs.Closing.{plotFamily, treatmentGenerators};
@@ -53,7 +54,7 @@ pub fn close_family(
     infima: bool,
     family: &mut [u8],
 ) -> ClosedFamily
-    requires { ⌜ Work n infima (membersOf n (now store) start) (now store) (now counts) (now marks) start from 0 × (from ≤ start) × (7680 ≤ length (now family)) ⌝ }
+    requires { ⌜ Work n infima (membersOf n (now store) start) (now store) (now counts) (now marks) start from 0 × (from ≤ start) × (familyBytes ≤ length (now family)) ⌝ }
     ensures { λ r. ⌜ ((Gs : List Column) → Work n infima Gs (now (store .entry)) (now (counts .entry)) (now (marks .entry)) start from 0 → Listed n infima Gs (now (family .entry)) (now (family .exit)) (now (marks .exit)) (r .order) (r .size)) ⌝ }
 {
     let size = close(store, counts, marks, start, from, n, infima);
@@ -74,7 +75,7 @@ fn place_plot_infima(
     store: &mut [u8],
     counts: &mut [u8; MEMBERS],
 ) -> usize
-    requires { ⌜ (1 ≤ n) × (n ≤ 240) × (c ≤ 6) × (2880 ≤ length (now levels)) × (length (now store) ≡ 7680) × (length (now counts) ≡ 32) ⌝ }
+    requires { ⌜ (1 ≤ n) × (n ≤ mostPlots) × (c ≤ 6) × (tableCells ≤ length (now levels)) × (length (now store) ≡ familyBytes) × (length (now counts) ≡ mostMembers) ⌝ }
     ensures { λ r. ⌜ AllPlaced n (treatmentGenerators n 6 (columnsFrom n (now (levels .entry)) 0 c) ++ equality n ∷ []) (now (store .exit)) (now (counts .exit)) r ⌝ }
 {
     let column = equality(n);
@@ -104,7 +105,7 @@ fn close_by_infima(
     marks: &mut [u8; PAIRS],
     plot: &mut [u8],
 ) -> ClosedFamily
-    requires { ⌜ (1 ≤ n) × (n ≤ 240) × (columns ≤ 6) × (2880 ≤ length (now levels)) × (7680 ≤ length (now plot)) × (length (now store) ≡ 7680) × (length (now counts) ≡ 32) × (length (now marks) ≡ 1024) ⌝ }
+    requires { ⌜ (1 ≤ n) × (n ≤ mostPlots) × (columns ≤ 6) × (tableCells ≤ length (now levels)) × (familyBytes ≤ length (now plot)) × (length (now store) ≡ familyBytes) × (length (now counts) ≡ mostMembers) × (length (now marks) ≡ 1024) ⌝ }
     ensures { λ r. ⌜ PlotListed n (columnsFrom n (now (levels .entry)) 0 columns) (now (plot .entry)) (now (plot .exit)) (now (marks .exit)) (r .order) (r .size) ⌝ }
 {
     let start = place_plot_infima(levels, n, columns, store, counts);
@@ -125,7 +126,7 @@ fn close_by_infima(
 
 // The product of a number and a number of classes.
 pub fn times(a: usize, b: u8) -> usize
-    requires { ⌜ a ≤ 240 ⌝ }
+    requires { ⌜ a ≤ mostPlots ⌝ }
 {
     a * b as usize
 }
@@ -133,7 +134,7 @@ pub fn times(a: usize, b: u8) -> usize
 // Whether three plot columns or more, placed after U and E, look crossed: there are as many plots as combinations of their classes, at
 // least. Then their infima are likely to be the family. Any answer is right; this one is quick.
 fn look_crossed(counts: &[u8; MEMBERS], size: usize, n: usize) -> bool
-    requires { ⌜ (size ≤ 32) × (n ≤ 240) ⌝ }
+    requires { ⌜ (size ≤ mostMembers) × (n ≤ mostPlots) ⌝ }
 {
     if size < CROSSED {
         return false;
@@ -151,7 +152,7 @@ fn look_crossed(counts: &[u8; MEMBERS], size: usize, n: usize) -> bool
 // Whether four plot columns or more, placed after U and E, have few classes: there may be few points then. Any answer is right; this one
 // is quick.
 fn few_classes(counts: &[u8; MEMBERS], size: usize, n: usize) -> bool
-    requires { ⌜ (size ≤ 32) × (n ≤ 240) ⌝ }
+    requires { ⌜ (size ≤ mostMembers) × (n ≤ mostPlots) ⌝ }
 {
     if size < PARTED {
         return false;
@@ -173,7 +174,7 @@ fn close_columns(
     n: usize,
     family: &mut [u8],
 ) -> ClosedFamily
-    requires { ⌜ Begun n (membersOf n (now store) start) (now store) (now counts) start × (equality n ∈ membersOf n (now store) start) × (length (now marks) ≡ 1024) × (7680 ≤ length (now family)) ⌝ }
+    requires { ⌜ Begun n (membersOf n (now store) start) (now store) (now counts) start × (equality n ∈ membersOf n (now store) start) × (length (now marks) ≡ 1024) × (familyBytes ≤ length (now family)) ⌝ }
     ensures { λ r. ⌜ ((Gs : List Column) → Begun n Gs (now (store .entry)) (now (counts .entry)) start → Listed n true Gs (now (family .entry)) (now (family .exit)) (now (marks .exit)) (r .order) (r .size)) ⌝ }
 {
     if !few_classes(counts, start, n) {
@@ -196,7 +197,7 @@ pub fn close_plot_family(
     marks: &mut [u8; PAIRS],
     plot: &mut [u8],
 ) -> ClosedFamily
-    requires { ⌜ (1 ≤ n) × (n ≤ 240) × (columns ≤ 6) × (2880 ≤ length (now levels)) × (7680 ≤ length (now plot)) × (length (now store) ≡ 7680) × (length (now marks) ≡ 1024) ⌝ }
+    requires { ⌜ (1 ≤ n) × (n ≤ mostPlots) × (columns ≤ 6) × (tableCells ≤ length (now levels)) × (familyBytes ≤ length (now plot)) × (length (now store) ≡ familyBytes) × (length (now marks) ≡ 1024) ⌝ }
     ensures family { λ r. ⌜ closedIn n (now (plot .exit)) (r .size) ≡ plotFamily n (columnsFrom n (now (levels .entry)) 0 columns) ⌝ }
     ensures buffer { λ _. ⌜ now (plot .exit) ≡ plotBuffer (now (plot .entry)) (question8 n (plotFamily n (columnsFrom n (now (levels .entry)) 0 columns))) ⌝ }
     ensures tables { λ r. ⌜ Ready n (r .size) (now (plot .exit)) (r .order) (now (marks .exit)) ⌝ }

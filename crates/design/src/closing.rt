@@ -5,11 +5,13 @@ ghost use mathlib.Core.List.{List};
 ghost use Prim.Native.Nat.{ℕ, _+_, _*_, _≤_, _<_};
 ghost use lib.Dec.{eqb};
 ghost use lib.ListN.{length};
+ghost use Rattle.rules.specs.Limits.{mostPlots, mostMembers, familyBytes};
 ghost use Rattle.rules.specs.Factor.{Column, classes, infimum, supremum, finer, orthogonal};
 ghost use Rattle.factor.specs.Lent.{overlay};
-ghost use Rattle.design.specs.State.{columnIn, toldFiner, noted, entryOf, NamesCoarser, Follows, Held, Known, Work, Kept, Advanced, Stepped, Closed, Grows};
+ghost use Rattle.design.specs.State.{columnAt, toldFiner, noted, entryOf, NamesCoarser, Follows, Held, Known, Work, Kept, Advanced, Stepped, Closed, Grows};
 use crate::store::grown;
 use crate::store::place;
+use families::member;
 use limits::MEMBERS;
 use limits::PLOTS;
 use standing::Bounds;
@@ -24,7 +26,7 @@ pub const PAIRS: usize = 1024;
 // Whether it is known that a factor with `a` classes is finer than one with `b`, which is member `j`: none is coarser than a factor
 // with one class, none is finer than one with a class for each plot, and `word` has a bit for each member known to be coarser.
 fn told_finer(n: usize, a: u8, b: u8, word: u32, j: usize) -> bool
-    requires { ⌜ j < 32 ⌝ }
+    requires { ⌜ j < mostMembers ⌝ }
     ensures { λ r. ⌜ r ≡ toldFiner n a b word j ⌝ }
 {
     if b == 1 {
@@ -38,7 +40,7 @@ fn told_finer(n: usize, a: u8, b: u8, word: u32, j: usize) -> bool
 
 // Notes that member `a` is finer than member `b`, and so than all that `b` is known to be finer than.
 fn note_finer(above: &mut [u32; MEMBERS], a: usize, b: usize)
-    requires { ⌜ (length (now above) ≡ 32) × (a < 32) × (b < 32) ⌝ }
+    requires { ⌜ (length (now above) ≡ mostMembers) × (a < mostMembers) × (b < mostMembers) ⌝ }
     ensures { λ _. ⌜ now (above .exit) ≡ noted (now (above .entry)) a b ⌝ }
 {
     let word = above[a];
@@ -48,7 +50,7 @@ fn note_finer(above: &mut [u32; MEMBERS], a: usize, b: usize)
 
 // Notes that member `q` is the supremum of members `i` and `j`.
 fn note_supremum(above: &mut [u32; MEMBERS], i: usize, j: usize, q: usize)
-    requires { ⌜ (length (now above) ≡ 32) × (i < 32) × (j < 32) × (q < 32) ⌝ }
+    requires { ⌜ (length (now above) ≡ mostMembers) × (i < mostMembers) × (j < mostMembers) × (q < mostMembers) ⌝ }
     ensures { λ _. ⌜ now (above .exit) ≡ noted (noted (now (above .entry)) i q) j q ⌝ }
 {
     note_finer(above, i, q);
@@ -57,7 +59,7 @@ fn note_supremum(above: &mut [u32; MEMBERS], i: usize, j: usize, q: usize)
 
 // Notes that member `p` is the infimum of members `i` and `j`.
 fn note_infimum(above: &mut [u32; MEMBERS], i: usize, j: usize, p: usize)
-    requires { ⌜ (length (now above) ≡ 32) × (i < 32) × (j < 32) × (p < 32) ⌝ }
+    requires { ⌜ (length (now above) ≡ mostMembers) × (i < mostMembers) × (j < mostMembers) × (p < mostMembers) ⌝ }
     ensures { λ _. ⌜ now (above .exit) ≡ noted (noted (now (above .entry)) p i) p j ⌝ }
 {
     note_finer(above, p, i);
@@ -66,14 +68,10 @@ fn note_infimum(above: &mut [u32; MEMBERS], i: usize, j: usize, p: usize)
 
 // Whether member `i` is finer than or equivalent to member `j`.
 fn member_finer(store: &[u8], n: usize, i: usize, j: usize) -> bool
-    requires { ⌜ (n ≤ 240) × (length (now store) ≡ 7680) × (i < 32) × (j < 32) ⌝ }
-    ensures { λ r. ⌜ r ≡ finer n (columnIn n (now (store .entry)) i) (columnIn n (now (store .entry)) j) ⌝ }
+    requires { ⌜ (n ≤ mostPlots) × (length (now store) ≡ familyBytes) × (i < mostMembers) × (j < mostMembers) ⌝ }
+    ensures { λ r. ⌜ r ≡ finer n (columnAt n (now (store .entry)) i) (columnAt n (now (store .entry)) j) ⌝ }
 {
-    let a = PLOTS * i;
-    let b = PLOTS * j;
-    let c = a + n;
-    let d = b + n;
-    factor::finer(&store[a..c], &store[b..d])
+    factor::finer(member(store, i, n), member(store, j, n))
 }
 
 // Whether member `i` is found to be finer than member `j`: it is known, or a walk shows it, which is then noted. None is walked that has not
@@ -89,7 +87,7 @@ fn found_finer(
     j: usize,
 ) -> bool
     requires { ⌜ Held n (now store) (now counts) size × (i < size) × (j < size) × Known n (now store) (now above) size ⌝ }
-    ensures finer { λ r. ⌜ (r ≡ true → finer n (columnIn n (now (store .entry)) i) (columnIn n (now (store .entry)) j) ≡ true) ⌝ }
+    ensures finer { λ r. ⌜ (r ≡ true → finer n (columnAt n (now (store .entry)) i) (columnAt n (now (store .entry)) j) ≡ true) ⌝ }
     ensures known { λ _. ⌜ Known n (now (store .entry)) (now (above .exit)) size ⌝ }
 {
     let a = counts[i];
@@ -113,16 +111,12 @@ fn found_finer(
 
 // Writes the supremum of two members; answers its number of classes, and whether they are orthogonal.
 fn member_crossing(store: &[u8], n: usize, i: usize, j: usize, column: &mut [u8; PLOTS]) -> Crossing
-    requires { ⌜ (n ≤ 240) × (length (now store) ≡ 7680) × (i < 32) × (j < 32) ⌝ }
-    ensures supremum { λ r. ⌜ r .supremum ≡ classes (supremum (columnIn n (now (store .entry)) i) (columnIn n (now (store .entry)) j)) ⌝ }
-    ensures orthogonal { λ r. ⌜ r .orthogonal ≡ orthogonal n (columnIn n (now (store .entry)) i) (columnIn n (now (store .entry)) j) ⌝ }
-    ensures above { λ _. ⌜ now (column .exit) ≡ overlay (now (column .entry)) (supremum (columnIn n (now (store .entry)) i) (columnIn n (now (store .entry)) j)) ⌝ }
+    requires { ⌜ (n ≤ mostPlots) × (length (now store) ≡ familyBytes) × (i < mostMembers) × (j < mostMembers) ⌝ }
+    ensures supremum { λ r. ⌜ r .supremum ≡ classes (supremum (columnAt n (now (store .entry)) i) (columnAt n (now (store .entry)) j)) ⌝ }
+    ensures orthogonal { λ r. ⌜ r .orthogonal ≡ orthogonal n (columnAt n (now (store .entry)) i) (columnAt n (now (store .entry)) j) ⌝ }
+    ensures above { λ _. ⌜ now (column .exit) ≡ overlay (now (column .entry)) (supremum (columnAt n (now (store .entry)) i) (columnAt n (now (store .entry)) j)) ⌝ }
 {
-    let a = PLOTS * i;
-    let b = PLOTS * j;
-    let c = a + n;
-    let d = b + n;
-    standing::crossing_of(&store[a..c], &store[b..d], column)
+    standing::crossing_of(member(store, i, n), member(store, j, n), column)
 }
 
 // Writes the infimum and the supremum of two members; answers their numbers of classes.
@@ -134,23 +128,19 @@ fn member_bounds(
     below: &mut [u8; PLOTS],
     above: &mut [u8; PLOTS],
 ) -> Bounds
-    requires { ⌜ (n ≤ 240) × (length (now store) ≡ 7680) × (i < 32) × (j < 32) ⌝ }
-    ensures infimum { λ r. ⌜ r .infimum ≡ classes (infimum (columnIn n (now (store .entry)) i) (columnIn n (now (store .entry)) j)) ⌝ }
-    ensures supremum { λ r. ⌜ r .supremum ≡ classes (supremum (columnIn n (now (store .entry)) i) (columnIn n (now (store .entry)) j)) ⌝ }
-    ensures below { λ _. ⌜ now (below .exit) ≡ overlay (now (below .entry)) (infimum (columnIn n (now (store .entry)) i) (columnIn n (now (store .entry)) j)) ⌝ }
-    ensures above { λ _. ⌜ now (above .exit) ≡ overlay (now (above .entry)) (supremum (columnIn n (now (store .entry)) i) (columnIn n (now (store .entry)) j)) ⌝ }
+    requires { ⌜ (n ≤ mostPlots) × (length (now store) ≡ familyBytes) × (i < mostMembers) × (j < mostMembers) ⌝ }
+    ensures infimum { λ r. ⌜ r .infimum ≡ classes (infimum (columnAt n (now (store .entry)) i) (columnAt n (now (store .entry)) j)) ⌝ }
+    ensures supremum { λ r. ⌜ r .supremum ≡ classes (supremum (columnAt n (now (store .entry)) i) (columnAt n (now (store .entry)) j)) ⌝ }
+    ensures below { λ _. ⌜ now (below .exit) ≡ overlay (now (below .entry)) (infimum (columnAt n (now (store .entry)) i) (columnAt n (now (store .entry)) j)) ⌝ }
+    ensures above { λ _. ⌜ now (above .exit) ≡ overlay (now (above .entry)) (supremum (columnAt n (now (store .entry)) i) (columnAt n (now (store .entry)) j)) ⌝ }
 {
-    let a = PLOTS * i;
-    let b = PLOTS * j;
-    let c = a + n;
-    let d = b + n;
-    standing::bounds_of(&store[a..c], &store[b..d], below, above)
+    standing::bounds_of(member(store, i, n), member(store, j, n), below, above)
 }
 
 // Whether two factors with `a` and `b` classes, whose infimum has `p` and whose supremum `q`, have the mark: those that are orthogonal
 // and have classes of one size make the same product.
 fn same_product(p: usize, q: usize, a: u8, b: u8) -> bool
-    requires { ⌜ (p ≤ 240) × (q ≤ 240) ⌝ }
+    requires { ⌜ (p ≤ mostPlots) × (q ≤ mostPlots) ⌝ }
     ensures { λ r. ⌜ r ≡ eqb (p * q) (a * b) ⌝ }
 {
     p * q == a as usize * b as usize
@@ -158,7 +148,7 @@ fn same_product(p: usize, q: usize, a: u8, b: u8) -> bool
 
 // The entry of a pair whose supremum is member `q`: 1 and its place where the pair has the mark.
 fn entry(mark: bool, q: usize) -> u8
-    requires { ⌜ q < 32 ⌝ }
+    requires { ⌜ q < mostMembers ⌝ }
     ensures { λ r. ⌜ r ≡ entryOf mark q ⌝ }
 {
     if mark {
@@ -236,7 +226,7 @@ fn names_coarser(
     j: usize,
     entry: u8,
 ) -> bool
-    requires { ⌜ (length (now counts) ≡ 32) × (length (now above) ≡ 32) × (size ≤ 32) × (j < size) ⌝ }
+    requires { ⌜ (length (now counts) ≡ mostMembers) × (length (now above) ≡ mostMembers) × (size ≤ mostMembers) × (j < size) ⌝ }
     ensures { λ r. ⌜ (r ≡ true → NamesCoarser n (now (counts .entry)) (now (above .entry)) size j entry) ⌝ }
 {
     if entry == 0 {
@@ -260,7 +250,7 @@ fn known_entry(
     i: usize,
     j: usize,
 ) -> u8
-    requires { ⌜ (length (now counts) ≡ 32) × (length (now above) ≡ 32) × (size ≤ 32) × (i < size) × (j < i) ⌝ }
+    requires { ⌜ (length (now counts) ≡ mostMembers) × (length (now above) ≡ mostMembers) × (size ≤ mostMembers) × (i < size) × (j < i) ⌝ }
     ensures { λ r. ⌜ ((store : List ℕ) → Held n store (now (counts .entry)) size → Known n store (now (above .entry)) size → Follows n store (now (marks .entry)) size i j r) ⌝ }
 {
     for y in 0..j {

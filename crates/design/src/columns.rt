@@ -3,10 +3,11 @@ ghost use mathlib.Core.Path.{_≡_};
 ghost use mathlib.Core.List.{List, [], _∷_, _++_};
 ghost use Prim.Native.Nat.{_+_, _*_, _≤_, _<_};
 ghost use lib.ListN.{length, take};
+ghost use Rattle.rules.specs.Limits.{mostPlots, mostMembers, tableCells, familyBytes};
 ghost use Rattle.rules.specs.Factor.{Column, number, universal, equality};
 ghost use Rattle.rules.specs.Family.{columnsFrom};
 ghost use Rattle.rules.specs.Closing.{plotGenerators};
-ghost use Rattle.design.specs.State.{columnIn, Held, Begun};
+ghost use Rattle.design.specs.State.{columnAt, Held, Begun};
 use crate::store::grown;
 use crate::store::place;
 use limits::Level;
@@ -15,7 +16,7 @@ use limits::PLOTS;
 
 // The equality factor on `n` plots.
 pub fn equality(n: usize) -> [u8; PLOTS]
-    requires { ⌜ n ≤ 240 ⌝ }
+    requires { ⌜ n ≤ mostPlots ⌝ }
     ensures { λ r. ⌜ take n r ≡ equality n ⌝ }
 {
     let mut column = [0u8; PLOTS];
@@ -27,7 +28,7 @@ pub fn equality(n: usize) -> [u8; PLOTS]
 
 // Places U and E as the first members; answers how many they are.
 fn place_extremes(store: &mut [u8], counts: &mut [u8; MEMBERS], n: usize) -> usize
-    requires { ⌜ (1 ≤ n) × (n ≤ 240) × (length (now store) ≡ 7680) × (length (now counts) ≡ 32) ⌝ }
+    requires { ⌜ (1 ≤ n) × (n ≤ mostPlots) × (length (now store) ≡ familyBytes) × (length (now counts) ≡ mostMembers) ⌝ }
     ensures { λ r. ⌜ Begun n (universal n ∷ equality n ∷ []) (now (store .exit)) (now (counts .exit)) r ⌝ }
 {
     let ones = [1u8; PLOTS];
@@ -46,9 +47,9 @@ fn place_column(
     size: usize,
     n: usize,
 ) -> usize
-    requires { ⌜ Held n (now store) (now counts) size × (size < 32) × (240 * c + 240 ≤ length (now levels)) ⌝ }
+    requires { ⌜ Held n (now store) (now counts) size × (size < mostMembers) × (mostPlots * c + mostPlots ≤ length (now levels)) ⌝ }
     ensures kept { λ r. ⌜ Held n (now (store .exit)) (now (counts .exit)) r × (r ≤ size + 1) ⌝ }
-    ensures begun { λ r. ⌜ ((As : List Column) → Begun n As (now (store .entry)) (now (counts .entry)) size → Begun n (As ++ number (columnIn n (now (levels .entry)) c) ∷ []) (now (store .exit)) (now (counts .exit)) r) ⌝ }
+    ensures begun { λ r. ⌜ ((As : List Column) → Begun n As (now (store .entry)) (now (counts .entry)) size → Begun n (As ++ number (columnAt n (now (levels .entry)) c) ∷ []) (now (store .exit)) (now (counts .exit)) r) ⌝ }
 {
     let at = PLOTS * c;
     let end = at + n;
@@ -66,7 +67,7 @@ pub fn place_plot_columns(
     counts: &mut [u8; MEMBERS],
     n: usize,
 ) -> usize
-    requires { ⌜ (1 ≤ n) × (n ≤ 240) × (c ≤ 6) × (2880 ≤ length (now levels)) × (length (now store) ≡ 7680) × (length (now counts) ≡ 32) ⌝ }
+    requires { ⌜ (1 ≤ n) × (n ≤ mostPlots) × (c ≤ 6) × (tableCells ≤ length (now levels)) × (length (now store) ≡ familyBytes) × (length (now counts) ≡ mostMembers) ⌝ }
     ensures { λ r. ⌜ Begun n (plotGenerators n (columnsFrom n (now (levels .entry)) 0 c)) (now (store .exit)) (now (counts .exit)) r ⌝ }
 {
     let mut size = place_extremes(store, counts, n);

@@ -5,13 +5,14 @@ ghost use mathlib.Core.Bool.{true, false};
 ghost use mathlib.Core.List.{List, [], _∷_, _++_};
 ghost use Prim.Native.Nat.{ℕ, _-_, _/_, _≤_, _<_};
 ghost use lib.ListN.{length, getD};
+ghost use Rattle.rules.specs.Limits.{mostPlots, mostMembers, familyBytes};
 ghost use Rattle.rules.specs.Factor.{Column, number, classes, supremum, orthogonal};
 ghost use Rattle.rules.specs.Family.{membersOf};
 ghost use Rattle.rules.specs.Closing.{onlySupremum, productsOf, products};
-ghost use Rattle.design.specs.State.{columnIn};
+ghost use Rattle.design.specs.State.{columnAt};
 ghost use Rattle.design.specs.Search.{crossFirst, crossSecond};
 ghost use Rattle.design.specs.Treatments.{Placing, orthogonalAt, Member, Numbered};
-ghost use Rattle.design.specs.Crossing.{Counted, Below, heldOf, Growing, Grown, Joins, Failing, Entered};
+ghost use Rattle.design.specs.Crossing.{Counted, FinerBits, heldOf, Growing, Grown, Joins, Failing, Entered};
 use crate::apart::first_crossed;
 use crate::closing::PAIRS;
 use crate::closing::TOO_MANY;
@@ -92,8 +93,8 @@ fn add_member(
 ) -> usize
     requires { ⌜ Growing n (now store) (now counts) size × Member n (now family) i count × (at < 1024) ⌝ }
     ensures grown { λ r. ⌜ Grown n (now (store .entry)) size (now (store .exit)) (now (counts .exit)) r ⌝ }
-    ensures entered { λ r. ⌜ Entered n (columnIn n (now (family .entry)) i) (now (store .exit)) (heldOf r) (now (joins .entry)) at (now (joins .exit)) ⌝ }
-    ensures places { λ r. ⌜ ((As : List Column) → Placing n As (now (store .entry)) (now (counts .entry)) size → Placing n (As ++ columnIn n (now (family .entry)) i ∷ []) (now (store .exit)) (now (counts .exit)) r) ⌝ }
+    ensures entered { λ r. ⌜ Entered n (columnAt n (now (family .entry)) i) (now (store .exit)) (heldOf r) (now (joins .entry)) at (now (joins .exit)) ⌝ }
+    ensures places { λ r. ⌜ ((As : List Column) → Placing n As (now (store .entry)) (now (counts .entry)) size → Placing n (As ++ columnAt n (now (family .entry)) i ∷ []) (now (store .exit)) (now (counts .exit)) r) ⌝ }
 {
     let from = PLOTS * i;
     let end = from + n;
@@ -112,10 +113,10 @@ fn walk_pair(
     size: usize,
     joins: &mut [u8; PAIRS],
 ) -> Pair
-    requires { ⌜ Growing n (now store) (now counts) size × Joins n (now plot) (now first) (now store) (heldOf size) (now joins) × (7680 ≤ length (now plot)) × (7680 ≤ length (now first)) × (i < 32) × (j < 32) ⌝ }
+    requires { ⌜ Growing n (now store) (now counts) size × Joins n (now plot) (now first) (now store) (heldOf size) (now joins) × (familyBytes ≤ length (now plot)) × (familyBytes ≤ length (now first)) × (i < mostMembers) × (j < mostMembers) ⌝ }
     ensures test { λ r. ⌜ r .orthogonal ≡ orthogonalAt n (now (plot .entry)) (now (first .entry)) i j ⌝ }
     ensures kept { λ r. ⌜ Growing n (now (store .exit)) (now (counts .exit)) (r .size) × Joins n (now (plot .entry)) (now (first .entry)) (now (store .exit)) (heldOf (r .size)) (now (joins .exit)) ⌝ }
-    ensures places { λ r. ⌜ (r .orthogonal ≡ true → (As : List Column) → Placing n As (now (store .entry)) (now (counts .entry)) size → Placing n (As ++ supremum (columnIn n (now (plot .entry)) i) (columnIn n (now (first .entry)) j) ∷ []) (now (store .exit)) (now (counts .exit)) (r .size)) ⌝ }
+    ensures places { λ r. ⌜ (r .orthogonal ≡ true → (As : List Column) → Placing n As (now (store .entry)) (now (counts .entry)) size → Placing n (As ++ supremum (columnAt n (now (plot .entry)) i) (columnAt n (now (first .entry)) j) ∷ []) (now (store .exit)) (now (counts .exit)) (r .size)) ⌝ }
 {
     let a = PLOTS * i;
     let b = PLOTS * j;
@@ -150,10 +151,10 @@ fn meet_pair(
     size: usize,
     joins: &mut [u8; PAIRS],
 ) -> Pair
-    requires { ⌜ Growing n (now store) (now counts) size × Joins n (now plot) (now first) (now store) (heldOf size) (now joins) × Member n (now plot) (f .place) (f .count) × Below n (now plot) (f .finer) (f .place) × Member n (now first) (g .place) (g .count) × Below n (now first) (g .finer) (g .place) ⌝ }
+    requires { ⌜ Growing n (now store) (now counts) size × Joins n (now plot) (now first) (now store) (heldOf size) (now joins) × Member n (now plot) (f .place) (f .count) × FinerBits n (now plot) (f .finer) (f .place) × Member n (now first) (g .place) (g .count) × FinerBits n (now first) (g .finer) (g .place) ⌝ }
     ensures test { λ r. ⌜ r .orthogonal ≡ orthogonalAt n (now (plot .entry)) (now (first .entry)) (f .place) (g .place) ⌝ }
     ensures kept { λ r. ⌜ Growing n (now (store .exit)) (now (counts .exit)) (r .size) × Joins n (now (plot .entry)) (now (first .entry)) (now (store .exit)) (heldOf (r .size)) (now (joins .exit)) ⌝ }
-    ensures places { λ r. ⌜ (r .orthogonal ≡ true → (As : List Column) → Placing n As (now (store .entry)) (now (counts .entry)) size → Placing n (As ++ supremum (columnIn n (now (plot .entry)) (f .place)) (columnIn n (now (first .entry)) (g .place)) ∷ []) (now (store .exit)) (now (counts .exit)) (r .size)) ⌝ }
+    ensures places { λ r. ⌜ (r .orthogonal ≡ true → (As : List Column) → Placing n As (now (store .entry)) (now (counts .entry)) size → Placing n (As ++ supremum (columnAt n (now (plot .entry)) (f .place)) (columnAt n (now (first .entry)) (g .place)) ∷ []) (now (store .exit)) (now (counts .exit)) (r .size)) ⌝ }
 {
     let told = following(plot, f, first, g, n, store, counts, size, joins);
     let i = f.place;
@@ -180,10 +181,10 @@ fn cross_pair(
     size: usize,
     joins: &mut [u8; PAIRS],
 ) -> Pair
-    requires { ⌜ Growing n (now store) (now counts) size × Joins n (now plot) (now first) (now store) (heldOf size) (now joins) × Member n (now plot) (f .place) (f .count) × Below n (now plot) (f .finer) (f .place) × Member n (now first) (g .place) (g .count) × Below n (now first) (g .finer) (g .place) ⌝ }
+    requires { ⌜ Growing n (now store) (now counts) size × Joins n (now plot) (now first) (now store) (heldOf size) (now joins) × Member n (now plot) (f .place) (f .count) × FinerBits n (now plot) (f .finer) (f .place) × Member n (now first) (g .place) (g .count) × FinerBits n (now first) (g .finer) (g .place) ⌝ }
     ensures test { λ r. ⌜ r .orthogonal ≡ orthogonalAt n (now (plot .entry)) (now (first .entry)) (f .place) (g .place) ⌝ }
     ensures kept { λ r. ⌜ Growing n (now (store .exit)) (now (counts .exit)) (r .size) × Joins n (now (plot .entry)) (now (first .entry)) (now (store .exit)) (heldOf (r .size)) (now (joins .exit)) ⌝ }
-    ensures places { λ r. ⌜ (r .orthogonal ≡ true → (As : List Column) → Placing n As (now (store .entry)) (now (counts .entry)) size → Placing n (As ++ supremum (columnIn n (now (plot .entry)) (f .place)) (columnIn n (now (first .entry)) (g .place)) ∷ []) (now (store .exit)) (now (counts .exit)) (r .size)) ⌝ }
+    ensures places { λ r. ⌜ (r .orthogonal ≡ true → (As : List Column) → Placing n As (now (store .entry)) (now (counts .entry)) size → Placing n (As ++ supremum (columnAt n (now (plot .entry)) (f .place)) (columnAt n (now (first .entry)) (g .place)) ∷ []) (now (store .exit)) (now (counts .exit)) (r .size)) ⌝ }
 {
     let at = MEMBERS * f.place + g.place;
     if known_finer(n, f.count, g.count) {
@@ -217,11 +218,11 @@ fn cross_row(
     size: usize,
     joins: &mut [u8; PAIRS],
 ) -> Row
-    requires { ⌜ Growing n (now store) (now counts) size × Joins n (now plot) (now first) (now store) (heldOf size) (now joins) × Member n (now plot) (f .place) (f .count) × Below n (now plot) (f .finer) (f .place) × («first_size» ≤ 32) × Counted n (now first) (now firsts) «first_size» × ((k : ℕ) → Below n (now first) (getD (now «finer_firsts») k 0) k) ⌝ }
+    requires { ⌜ Growing n (now store) (now counts) size × Joins n (now plot) (now first) (now store) (heldOf size) (now joins) × Member n (now plot) (f .place) (f .count) × FinerBits n (now plot) (f .finer) (f .place) × («first_size» ≤ mostMembers) × Counted n (now first) (now firsts) «first_size» × ((k : ℕ) → FinerBits n (now first) (getD (now «finer_firsts») k 0) k) ⌝ }
     ensures all { λ r. ⌜ (r .apart ≡ 0 → (j : ℕ) → j < «first_size» → orthogonalAt n (now (plot .entry)) (now (first .entry)) (f .place) j ≡ true) ⌝ }
-    ensures apart { λ r. ⌜ ((r .apart ≡ 0 → ⊥) → ((r .apart - 1) / 32 ≡ f .place) × Failing (orthogonalAt n (now (plot .entry)) (now (first .entry))) «first_size» (r .apart)) ⌝ }
+    ensures apart { λ r. ⌜ ((r .apart ≡ 0 → ⊥) → ((r .apart - 1) / mostMembers ≡ f .place) × Failing (orthogonalAt n (now (plot .entry)) (now (first .entry))) «first_size» (r .apart)) ⌝ }
     ensures kept { λ r. ⌜ Growing n (now (store .exit)) (now (counts .exit)) (r .size) × Joins n (now (plot .entry)) (now (first .entry)) (now (store .exit)) (heldOf (r .size)) (now (joins .exit)) ⌝ }
-    ensures places { λ r. ⌜ (r .apart ≡ 0 → (As : List Column) → Placing n As (now (store .entry)) (now (counts .entry)) size → Placing n (As ++ productsOf onlySupremum (columnIn n (now (plot .entry)) (f .place)) (membersOf n (now (first .entry)) «first_size»)) (now (store .exit)) (now (counts .exit)) (r .size)) ⌝ }
+    ensures places { λ r. ⌜ (r .apart ≡ 0 → (As : List Column) → Placing n As (now (store .entry)) (now (counts .entry)) size → Placing n (As ++ productsOf onlySupremum (columnAt n (now (plot .entry)) (f .place)) (membersOf n (now (first .entry)) «first_size»)) (now (store .exit)) (now (counts .exit)) (r .size)) ⌝ }
 {
     let mut now = size;
     let mut j = first_size;
@@ -253,8 +254,8 @@ fn order_words(
     n: usize,
     other: usize,
 ) -> [u32; MEMBERS]
-    requires { ⌜ (1 ≤ n) × (n ≤ 240) × (size ≤ 32) × Counted n (now family) (now counts) size ⌝ }
-    ensures { λ r. ⌜ ((k : ℕ) → Below n (now (family .entry)) (getD r k 0) k) ⌝ }
+    requires { ⌜ (1 ≤ n) × (n ≤ mostPlots) × (size ≤ mostMembers) × Counted n (now family) (now counts) size ⌝ }
+    ensures { λ r. ⌜ ((k : ℕ) → FinerBits n (now (family .entry)) (getD r k 0) k) ⌝ }
 {
     if other < SOME_MEMBERS {
         return [0u32; MEMBERS];
@@ -275,10 +276,10 @@ fn cross_all(
     counts: &mut [u8; MEMBERS],
     joins: &mut [u8; PAIRS],
 ) -> Row
-    requires { ⌜ Growing n (now store) (now counts) 0 × Joins n (now plot) (now first) (now store) 0 (now joins) × («plot_size» ≤ 32) × Counted n (now plot) (now plots) «plot_size» × («first_size» ≤ 32) × Counted n (now first) (now firsts) «first_size» ⌝ }
+    requires { ⌜ Growing n (now store) (now counts) 0 × Joins n (now plot) (now first) (now store) 0 (now joins) × («plot_size» ≤ mostMembers) × Counted n (now plot) (now plots) «plot_size» × («first_size» ≤ mostMembers) × Counted n (now first) (now firsts) «first_size» ⌝ }
     ensures all { λ r. ⌜ (r .apart ≡ 0 → (i j : ℕ) → i < «plot_size» → j < «first_size» → orthogonalAt n (now (plot .entry)) (now (first .entry)) i j ≡ true) ⌝ }
-    ensures apart { λ r. ⌜ ((r .apart ≡ 0 → ⊥) → ((r .apart - 1) / 32 < «plot_size») × Failing (orthogonalAt n (now (plot .entry)) (now (first .entry))) «first_size» (r .apart)) ⌝ }
-    ensures kept { λ r. ⌜ (length (now (store .exit)) ≡ 7680) × Joins n (now (plot .entry)) (now (first .entry)) (now (store .exit)) (heldOf (r .size)) (now (joins .exit)) ⌝ }
+    ensures apart { λ r. ⌜ ((r .apart ≡ 0 → ⊥) → ((r .apart - 1) / mostMembers < «plot_size») × Failing (orthogonalAt n (now (plot .entry)) (now (first .entry))) «first_size» (r .apart)) ⌝ }
+    ensures kept { λ r. ⌜ (length (now (store .exit)) ≡ familyBytes) × Joins n (now (plot .entry)) (now (first .entry)) (now (store .exit)) (heldOf (r .size)) (now (joins .exit)) ⌝ }
     ensures places { λ r. ⌜ (r .apart ≡ 0 → Placing n (products onlySupremum (membersOf n (now (plot .entry)) «plot_size») (membersOf n (now (first .entry)) «first_size»)) (now (store .exit)) (now (counts .exit)) (r .size)) ⌝ }
 {
     let finer_plots = order_words(plot, plots, plot_size, n, first_size);
@@ -323,7 +324,7 @@ pub fn cross(
     store: &mut [u8],
     counts: &mut [u8; MEMBERS],
 ) -> Crossed
-    requires { ⌜ (1 ≤ n) × (n ≤ 240) × Numbered n (now plot) «plot_size» × Numbered n (now first) «first_size» × (length (now store) ≡ 7680) × (length (now counts) ≡ 32) ⌝ }
+    requires { ⌜ (1 ≤ n) × (n ≤ mostPlots) × Numbered n (now plot) «plot_size» × Numbered n (now first) «first_size» × (length (now store) ≡ familyBytes) × (length (now counts) ≡ mostMembers) ⌝ }
     ensures first { λ r. ⌜ r .first ≡ crossFirst (orthogonalAt n (now (plot .entry)) (now (first .entry))) «plot_size» «first_size» ⌝ }
     ensures second { λ r. ⌜ r .second ≡ crossSecond (orthogonalAt n (now (plot .entry)) (now (first .entry))) «first_size» (r .first) ⌝ }
     ensures places { λ r. ⌜ (r .first ≡ 0 → Placing n (products onlySupremum (membersOf n (now (plot .entry)) «plot_size») (membersOf n (now (first .entry)) «first_size»)) (now (store .exit)) (now (counts .exit)) (r .size)) ⌝ }

@@ -5,11 +5,12 @@ ghost use mathlib.Core.Bool.{true};
 ghost use mathlib.Core.Logic.{_⊎_};
 ghost use Prim.Native.Nat.{ℕ, suc, _+_, _*_, _≤_, _<_};
 ghost use lib.ListN.{length, getD};
+ghost use Rattle.rules.specs.Limits.{mostPlots, mostMembers, familyBytes};
 ghost use Rattle.rules.specs.Factor.{Finer, classes};
 ghost use Rattle.rules.specs.Lists.{bitAt};
-ghost use Rattle.design.specs.State.{columnIn};
+ghost use Rattle.design.specs.State.{columnAt};
 ghost use Rattle.design.specs.Treatments.{Member};
-ghost use Rattle.design.specs.Crossing.{Below, heldOf, Growing, Join, Joins, Chosen};
+ghost use Rattle.design.specs.Crossing.{FinerBits, heldOf, Growing, Join, Joins, ChosenJoin};
 use crate::closing::PAIRS;
 use crate::nesting::Entry;
 use crate::nesting::found_finer;
@@ -17,7 +18,7 @@ use limits::MEMBERS;
 
 // Of two places, from 1, the one whose member has fewer classes; 0 is none.
 fn fewer(counts: &[u8; MEMBERS], p: u8, q: u8) -> u8
-    requires { ⌜ (p ≤ 32) × (q ≤ 32) ⌝ }
+    requires { ⌜ (p ≤ mostMembers) × (q ≤ mostMembers) ⌝ }
     ensures { λ r. ⌜ (r ≡ p) ⊎ (r ≡ q) ⌝ }
 {
     if p == 0 {
@@ -44,8 +45,8 @@ fn coarsest(
     word: u32,
     from: usize,
 ) -> u8
-    requires { ⌜ (at ≤ 1024) × (step ≤ 32) × ((k : ℕ) → bitAt word k ≡ true → (at + step * k < 1024) × (getD (now joins) (at + step * k) 0 ≤ 32)) ⌝ }
-    ensures { λ r. ⌜ (r ≡ 0) ⊎ Chosen (now (joins .entry)) at step word r ⌝ }
+    requires { ⌜ (at ≤ 1024) × (step ≤ mostMembers) × ((k : ℕ) → bitAt word k ≡ true → (at + step * k < 1024) × (getD (now joins) (at + step * k) 0 ≤ mostMembers)) ⌝ }
+    ensures { λ r. ⌜ (r ≡ 0) ⊎ ChosenJoin (now (joins .entry)) at step word r ⌝ }
 {
     let mut best: u8 = 0;
     for k in from..MEMBERS {
@@ -70,8 +71,8 @@ fn under(
     at: u8,
     n: usize,
 ) -> bool
-    requires { ⌜ (1 ≤ n) × (n ≤ 240) × Member n (now family) i f × (length (now store) ≡ 7680) × ((q : ℕ) → at ≡ suc q → (q < 32) × (getD (now counts) q 0 ≡ classes (columnIn n (now store) q))) ⌝ }
-    ensures { λ r. ⌜ (r ≡ true → (q : ℕ) → at ≡ suc q → Finer n (columnIn n (now (family .entry)) i) (columnIn n (now (store .entry)) q)) ⌝ }
+    requires { ⌜ (1 ≤ n) × (n ≤ mostPlots) × Member n (now family) i f × (length (now store) ≡ familyBytes) × ((q : ℕ) → at ≡ suc q → (q < mostMembers) × (getD (now counts) q 0 ≡ classes (columnAt n (now store) q))) ⌝ }
+    ensures { λ r. ⌜ (r ≡ true → (q : ℕ) → at ≡ suc q → Finer n (columnAt n (now (family .entry)) i) (columnAt n (now (store .entry)) q)) ⌝ }
 {
     if at == 0 {
         return false;
@@ -93,8 +94,8 @@ pub fn following(
     size: usize,
     joins: &[u8; PAIRS],
 ) -> u8
-    requires { ⌜ Growing n (now store) (now counts) size × Joins n (now plot) (now first) (now store) (heldOf size) (now joins) × Member n (now plot) (f .place) (f .count) × Below n (now plot) (f .finer) (f .place) × Member n (now first) (g .place) (g .count) × Below n (now first) (g .finer) (g .place) ⌝ }
-    ensures { λ r. ⌜ ((q : ℕ) → r ≡ suc q → Join n (columnIn n (now (plot .entry)) (f .place)) (columnIn n (now (first .entry)) (g .place)) (now (store .entry)) (heldOf size) q) ⌝ }
+    requires { ⌜ Growing n (now store) (now counts) size × Joins n (now plot) (now first) (now store) (heldOf size) (now joins) × Member n (now plot) (f .place) (f .count) × FinerBits n (now plot) (f .finer) (f .place) × Member n (now first) (g .place) (g .count) × FinerBits n (now first) (g .finer) (g .place) ⌝ }
+    ensures { λ r. ⌜ ((q : ℕ) → r ≡ suc q → Join n (columnAt n (now (plot .entry)) (f .place)) (columnAt n (now (first .entry)) (g .place)) (now (store .entry)) (heldOf size) q) ⌝ }
 {
     let i = f.place;
     let j = g.place;

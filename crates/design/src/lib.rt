@@ -51,7 +51,7 @@ pub fn plot_design(levels: &[Level], plots: usize, columns: usize, family: &mut 
     if !questions::within(plots, columns, levels.len(), family.len()) {
         return verdict::refused(6);
     }
-    if !questions::all_nonzero(levels, plots, 0, columns) {
+    if !levels::all_nonzero(levels, plots, 0, columns) {
         return verdict::refused(7);
     }
     steps::plot_from_8(levels, plots, columns, family)
@@ -104,10 +104,10 @@ pub fn full_design(
     ) {
         return verdict::full_refused(6);
     }
-    if !questions::all_nonzero(levels, plots, 0, plot_columns) {
+    if !levels::all_nonzero(levels, plots, 0, plot_columns) {
         return verdict::full_refused(7);
     }
-    if !questions::all_nonzero(levels, plots, COLUMNS, treatment_columns) {
+    if !levels::all_nonzero(levels, plots, COLUMNS, treatment_columns) {
         return verdict::full_refused(7);
     }
     steps::full_from_8(

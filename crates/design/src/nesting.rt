@@ -3,13 +3,14 @@ ghost use mathlib.Core.Path.{_≡_};
 ghost use mathlib.Core.Bool.{true};
 ghost use Prim.Native.Nat.{ℕ, _≤_, _<_};
 ghost use lib.ListN.{length, getD};
+ghost use Rattle.rules.specs.Limits.{mostPlots, mostMembers, familyBytes};
 ghost use Rattle.rules.specs.Factor.{classes, finer};
-ghost use Rattle.design.specs.State.{columnIn};
+ghost use Rattle.design.specs.State.{columnAt};
 ghost use Rattle.design.specs.Treatments.{knownFiner, Member, Numbered};
-ghost use Rattle.design.specs.Crossing.{Counted, Below};
-use crate::store::largest;
+ghost use Rattle.design.specs.Crossing.{Counted, FinerBits};
+use factor::largest;
+use families::member;
 use limits::MEMBERS;
-use limits::PLOTS;
 
 // A member of a family: its place, its number of classes, and a word with a bit for each member that is finer.
 pub struct Entry {
@@ -20,14 +21,12 @@ pub struct Entry {
 
 // Numbers of classes by place.
 pub fn class_counts(family: &[u8], n: usize, size: usize) -> [u8; MEMBERS]
-    requires { ⌜ (n ≤ 240) × Numbered n (now family) size ⌝ }
-    ensures { λ r. ⌜ ((i : ℕ) → i < size → getD r i 0 ≡ classes (columnIn n (now (family .entry)) i)) ⌝ }
+    requires { ⌜ (n ≤ mostPlots) × Numbered n (now family) size ⌝ }
+    ensures { λ r. ⌜ ((i : ℕ) → i < size → getD r i 0 ≡ classes (columnAt n (now (family .entry)) i)) ⌝ }
 {
     let mut counts = [0u8; MEMBERS];
     for i in 0..size {
-        let at = PLOTS * i;
-        let end = at + n;
-        counts[i] = largest(&family[at..end]);
+        counts[i] = largest(member(family, i, n));
     }
     counts
 }
@@ -45,21 +44,17 @@ pub fn known_finer(n: usize, a: u8, b: u8) -> bool
 
 // Whether member `i` of one buffer is finer than member `j` of another, by a walk.
 fn walk_finer(a: &[u8], i: usize, b: &[u8], j: usize, n: usize) -> bool
-    requires { ⌜ (n ≤ 240) × (7680 ≤ length (now a)) × (i < 32) × (7680 ≤ length (now b)) × (j < 32) ⌝ }
-    ensures { λ r. ⌜ r ≡ finer n (columnIn n (now (a .entry)) i) (columnIn n (now (b .entry)) j) ⌝ }
+    requires { ⌜ (n ≤ mostPlots) × (familyBytes ≤ length (now a)) × (i < mostMembers) × (familyBytes ≤ length (now b)) × (j < mostMembers) ⌝ }
+    ensures { λ r. ⌜ r ≡ finer n (columnAt n (now (a .entry)) i) (columnAt n (now (b .entry)) j) ⌝ }
 {
-    let p = PLOTS * i;
-    let q = PLOTS * j;
-    let r = p + n;
-    let s = q + n;
-    factor::finer(&a[p..r], &b[q..s])
+    factor::finer(member(a, i, n), member(b, j, n))
 }
 
 // Whether member `i` of one buffer, which has `f` classes, is found to be finer than member `j` of another, which has `g`. None is
 // walked that has fewer.
 pub fn found_finer(a: &[u8], i: usize, f: u8, b: &[u8], j: usize, g: u8, n: usize) -> bool
-    requires { ⌜ (1 ≤ n) × (n ≤ 240) × (7680 ≤ length (now a)) × (i < 32) × (f ≡ classes (columnIn n (now a) i)) × (7680 ≤ length (now b)) × (j < 32) × (g ≡ classes (columnIn n (now b) j)) ⌝ }
-    ensures { λ r. ⌜ (r ≡ true → finer n (columnIn n (now (a .entry)) i) (columnIn n (now (b .entry)) j) ≡ true) ⌝ }
+    requires { ⌜ (1 ≤ n) × (n ≤ mostPlots) × (familyBytes ≤ length (now a)) × (i < mostMembers) × (f ≡ classes (columnAt n (now a) i)) × (familyBytes ≤ length (now b)) × (j < mostMembers) × (g ≡ classes (columnAt n (now b) j)) ⌝ }
+    ensures { λ r. ⌜ (r ≡ true → finer n (columnAt n (now (a .entry)) i) (columnAt n (now (b .entry)) j) ≡ true) ⌝ }
 {
     if known_finer(n, f, g) {
         return true;
@@ -80,8 +75,8 @@ fn noted_word(
     k: usize,
     word: u32,
 ) -> u32
-    requires { ⌜ (1 ≤ n) × (n ≤ 240) × Member n (now family) i (getD (now counts) i 0) × Member n (now family) k (getD (now counts) k 0) × Below n (now family) (getD (now words) k 0) k × Below n (now family) word i ⌝ }
-    ensures { λ r. ⌜ Below n (now (family .entry)) r i ⌝ }
+    requires { ⌜ (1 ≤ n) × (n ≤ mostPlots) × Member n (now family) i (getD (now counts) i 0) × Member n (now family) k (getD (now counts) k 0) × FinerBits n (now family) (getD (now words) k 0) k × FinerBits n (now family) word i ⌝ }
+    ensures { λ r. ⌜ FinerBits n (now (family .entry)) r i ⌝ }
 {
     if (word >> k) & 1 == 1 {
         return word;
@@ -101,8 +96,8 @@ fn finer_word(
     n: usize,
     i: usize,
 ) -> u32
-    requires { ⌜ (1 ≤ n) × (n ≤ 240) × (size ≤ 32) × (i < size) × Counted n (now family) (now counts) size × ((k : ℕ) → Below n (now family) (getD (now words) k 0) k) ⌝ }
-    ensures { λ r. ⌜ Below n (now (family .entry)) r i ⌝ }
+    requires { ⌜ (1 ≤ n) × (n ≤ mostPlots) × (size ≤ mostMembers) × (i < size) × Counted n (now family) (now counts) size × ((k : ℕ) → FinerBits n (now family) (getD (now words) k 0) k) ⌝ }
+    ensures { λ r. ⌜ FinerBits n (now (family .entry)) r i ⌝ }
 {
     let mut word: u32 = 0;
     for k in (i + 1)..size {
@@ -113,8 +108,8 @@ fn finer_word(
 
 // Words with a bit for each member that is finer, by place.
 pub fn finer_words(family: &[u8], counts: &[u8; MEMBERS], size: usize, n: usize) -> [u32; MEMBERS]
-    requires { ⌜ (1 ≤ n) × (n ≤ 240) × (size ≤ 32) × Counted n (now family) (now counts) size ⌝ }
-    ensures { λ r. ⌜ ((k : ℕ) → Below n (now (family .entry)) (getD r k 0) k) ⌝ }
+    requires { ⌜ (1 ≤ n) × (n ≤ mostPlots) × (size ≤ mostMembers) × Counted n (now family) (now counts) size ⌝ }
+    ensures { λ r. ⌜ ((k : ℕ) → FinerBits n (now (family .entry)) (getD r k 0) k) ⌝ }
 {
     let mut words = [0u32; MEMBERS];
     let mut i = size;

@@ -5,11 +5,12 @@ ghost use mathlib.Core.Bool.{true};
 ghost use mathlib.Core.List.{List};
 ghost use Prim.Native.Nat.{ℕ, _≤_, _<_};
 ghost use lib.ListN.{length, getD, take};
+ghost use Rattle.rules.specs.Limits.{mostPlots, mostMembers, familyBytes};
 ghost use Rattle.rules.specs.Factor.{Column, Finer, number, classes, infimum, universal, equality};
 ghost use Rattle.rules.specs.Family.{_∈_, Distinct, membersOf};
-ghost use Rattle.design.specs.State.{columnIn, Held, Begun};
+ghost use Rattle.design.specs.State.{columnAt, Held, Begun};
 ghost use Rattle.design.specs.Judging.{Listed};
-ghost use Rattle.design.specs.Points.{Points, Ranged, onPlots, Gathered};
+ghost use Rattle.design.specs.Points.{Points, Ranged, pointsOnPlots, Gathered};
 use crate::closed::ClosedFamily;
 use crate::closed::close_family;
 use crate::closed::too_many;
@@ -20,20 +21,19 @@ use crate::columns::equality;
 use crate::store::grown;
 use crate::store::place;
 use crate::store::put;
+use families::member;
 use limits::FAMILY;
 use limits::MEMBERS;
 use limits::PLOTS;
 
 // Meets member `i` with what was met before it, in the first `n` bytes; answers how many classes there are.
 fn meet_member(store: &[u8], i: usize, n: usize, points: &mut [u8; PLOTS]) -> usize
-    requires { ⌜ (n ≤ 240) × (length (now store) ≡ 7680) × (i < 32) ⌝ }
-    ensures answer { λ r. ⌜ r ≡ classes (infimum (columnIn n (now (store .entry)) i) (take n (now (points .entry)))) ⌝ }
-    ensures met { λ _. ⌜ take n (now (points .exit)) ≡ infimum (columnIn n (now (store .entry)) i) (take n (now (points .entry))) ⌝ }
+    requires { ⌜ (n ≤ mostPlots) × (length (now store) ≡ familyBytes) × (i < mostMembers) ⌝ }
+    ensures answer { λ r. ⌜ r ≡ classes (infimum (columnAt n (now (store .entry)) i) (take n (now (points .entry)))) ⌝ }
+    ensures met { λ _. ⌜ take n (now (points .exit)) ≡ infimum (columnAt n (now (store .entry)) i) (take n (now (points .entry))) ⌝ }
 {
-    let a = PLOTS * i;
-    let e = a + n;
     let mut next = [0u8; PLOTS];
-    let m = standing::infimum(&store[a..e], points, &mut next);
+    let m = standing::infimum(member(store, i, n), points, &mut next);
     *points = next;
     m
 }
@@ -48,7 +48,7 @@ pub fn meet_members(
 ) -> usize
     requires { ⌜ Held n (now store) (now counts) size × (take n (now points) ≡ universal n) ⌝ }
     ensures points { λ r. ⌜ Points n r (take n (now (points .exit))) ⌝ }
-    ensures coarser { λ _. ⌜ ((i : ℕ) → i < size → (getD (now (counts .entry)) i 0 ≡ n → ⊥) → Finer n (take n (now (points .exit))) (columnIn n (now (store .entry)) i)) ⌝ }
+    ensures coarser { λ _. ⌜ ((i : ℕ) → i < size → (getD (now (counts .entry)) i 0 ≡ n → ⊥) → Finer n (take n (now (points .exit))) (columnAt n (now (store .entry)) i)) ⌝ }
 {
     let mut m = 1;
     for i in 0..size {
@@ -61,8 +61,8 @@ pub fn meet_members(
 
 // Member `i` as a column of points.
 fn gathered(store: &[u8], i: usize, n: usize, points: &[u8; PLOTS]) -> [u8; PLOTS]
-    requires { ⌜ (n ≤ 240) × (length (now store) ≡ 7680) × (i < 32) × Ranged n (take n (now points)) × Finer n (take n (now points)) (columnIn n (now store) i) ⌝ }
-    ensures { λ r. ⌜ (length r ≡ 240) × (onPlots (take n (now (points .entry))) r ≡ columnIn n (now (store .entry)) i) ⌝ }
+    requires { ⌜ (n ≤ mostPlots) × (length (now store) ≡ familyBytes) × (i < mostMembers) × Ranged n (take n (now points)) × Finer n (take n (now points)) (columnAt n (now store) i) ⌝ }
+    ensures { λ r. ⌜ (length r ≡ mostPlots) × (pointsOnPlots (take n (now (points .entry))) r ≡ columnAt n (now (store .entry)) i) ⌝ }
 {
     let at = PLOTS * i;
     let mut column = [0u8; PLOTS];
@@ -75,8 +75,8 @@ fn gathered(store: &[u8], i: usize, n: usize, points: &[u8; PLOTS]) -> [u8; PLOT
 
 // Member `i` of points as a column of plots.
 fn spread(own: &[u8], i: usize, n: usize, points: &[u8; PLOTS]) -> [u8; PLOTS]
-    requires { ⌜ (n ≤ 240) × (length (now own) ≡ 7680) × (i < 32) × Ranged n (take n (now points)) ⌝ }
-    ensures { λ r. ⌜ take n r ≡ onPlots (take n (now (points .entry))) (columnIn 240 (now (own .entry)) i) ⌝ }
+    requires { ⌜ (n ≤ mostPlots) × (length (now own) ≡ familyBytes) × (i < mostMembers) × Ranged n (take n (now points)) ⌝ }
+    ensures { λ r. ⌜ take n r ≡ pointsOnPlots (take n (now (points .entry))) (columnAt mostPlots (now (own .entry)) i) ⌝ }
 {
     let at = PLOTS * i;
     let mut column = [0u8; PLOTS];
@@ -89,9 +89,9 @@ fn spread(own: &[u8], i: usize, n: usize, points: &[u8; PLOTS]) -> [u8; PLOTS]
 
 // Writes the members of points as columns of plots.
 pub fn spread_all(own: &[u8], size: usize, n: usize, points: &[u8; PLOTS], store: &mut [u8])
-    requires { ⌜ (n ≤ 240) × (length (now own) ≡ 7680) × (length (now store) ≡ 7680) × (size ≤ 32) × Ranged n (take n (now points)) ⌝ }
-    ensures room { λ _. ⌜ length (now (store .exit)) ≡ 7680 ⌝ }
-    ensures members { λ _. ⌜ ((i : ℕ) → i < size → columnIn n (now (store .exit)) i ≡ onPlots (take n (now (points .entry))) (columnIn 240 (now (own .entry)) i)) ⌝ }
+    requires { ⌜ (n ≤ mostPlots) × (length (now own) ≡ familyBytes) × (length (now store) ≡ familyBytes) × (size ≤ mostMembers) × Ranged n (take n (now points)) ⌝ }
+    ensures room { λ _. ⌜ length (now (store .exit)) ≡ familyBytes ⌝ }
+    ensures members { λ _. ⌜ ((i : ℕ) → i < size → columnAt n (now (store .exit)) i ≡ pointsOnPlots (take n (now (points .entry))) (columnAt mostPlots (now (own .entry)) i)) ⌝ }
 {
     for i in 0..size {
         let column = spread(own, i, n, points);
@@ -110,7 +110,7 @@ pub fn gather_all(
     own: &mut [u8],
     own_counts: &mut [u8; MEMBERS],
 ) -> usize
-    requires { ⌜ Held n (now store) (now counts) size × Points n m (take n (now points)) × Distinct (membersOf n (now store) size) × ((F : Column) → F ∈ membersOf n (now store) size → number F ≡ F) × ((i : ℕ) → i < size → (getD (now counts) i 0 ≡ n → ⊥) → Finer n (take n (now points)) (columnIn n (now store) i)) × (length (now own) ≡ 7680) × (length (now «own_counts») ≡ 32) ⌝ }
+    requires { ⌜ Held n (now store) (now counts) size × Points n m (take n (now points)) × Distinct (membersOf n (now store) size) × ((F : Column) → F ∈ membersOf n (now store) size → number F ≡ F) × ((i : ℕ) → i < size → (getD (now counts) i 0 ≡ n → ⊥) → Finer n (take n (now points)) (columnAt n (now store) i)) × (length (now own) ≡ familyBytes) × (length (now «own_counts») ≡ mostMembers) ⌝ }
     ensures { λ r. ⌜ Gathered n m (take n (now (points .entry))) (membersOf n (now (store .entry)) size) (now (own .exit)) (now («own_counts» .exit)) r ⌝ }
 {
     let mut some = 0;
@@ -136,7 +136,7 @@ pub fn close_points(
     m: usize,
     family: &mut [u8],
 ) -> ClosedFamily
-    requires { ⌜ Begun n (membersOf n (now store) start) (now store) (now counts) start × (equality n ∈ membersOf n (now store) start) × Points n m (take n (now points)) × (m < n) × ((i : ℕ) → i < start → (getD (now counts) i 0 ≡ n → ⊥) → Finer n (take n (now points)) (columnIn n (now store) i)) × (length (now marks) ≡ 1024) × (7680 ≤ length (now family)) ⌝ }
+    requires { ⌜ Begun n (membersOf n (now store) start) (now store) (now counts) start × (equality n ∈ membersOf n (now store) start) × Points n m (take n (now points)) × (m < n) × ((i : ℕ) → i < start → (getD (now counts) i 0 ≡ n → ⊥) → Finer n (take n (now points)) (columnAt n (now store) i)) × (length (now marks) ≡ 1024) × (familyBytes ≤ length (now family)) ⌝ }
     ensures { λ r. ⌜ ((Gs : List Column) → Begun n Gs (now (store .entry)) (now (counts .entry)) start → Listed n true Gs (now (family .entry)) (now (family .exit)) (now (marks .exit)) (r .order) (r .size)) ⌝ }
 {
     let mut own = [0u8; FAMILY];

@@ -2,6 +2,7 @@
 ghost use mathlib.Core.Path.{_≡_};
 ghost use Prim.Native.Nat.{_≤_};
 ghost use lib.ListN.{length};
+ghost use Rattle.rules.specs.Limits.{mostPlots, tableCells, familyBytes};
 ghost use Rattle.rules.specs.Factor.{equality};
 ghost use Rattle.rules.specs.Family.{_∈_, columnsFrom, membersOf};
 ghost use Rattle.rules.specs.Closing.{plotFamily, firstTreatmentFamily};
@@ -21,7 +22,7 @@ use limits::Level;
 
 // Questions 8 to 10.
 pub fn plot_from_8(levels: &[Level], n: usize, columns: usize, family: &mut [u8]) -> PlotDesign
-    requires { ⌜ (1 ≤ n) × (n ≤ 240) × (columns ≤ 6) × (2880 ≤ length (now levels)) × (7680 ≤ length (now family)) ⌝ }
+    requires { ⌜ (1 ≤ n) × (n ≤ mostPlots) × (columns ≤ 6) × (tableCells ≤ length (now levels)) × (familyBytes ≤ length (now family)) ⌝ }
     ensures answer { λ r. ⌜ plotNumbers r ≡ plotNumbersOf (question8 n (plotFamily n (columnsFrom n (now (levels .entry)) 0 columns))) ⌝ }
     ensures buffer { λ _. ⌜ now (family .exit) ≡ plotBuffer (now (family .entry)) (question8 n (plotFamily n (columnsFrom n (now (levels .entry)) 0 columns))) ⌝ }
 {
@@ -41,7 +42,7 @@ pub fn full_from_8(
     plot_family: &mut [u8],
     treatment_family: &mut [u8],
 ) -> FullDesign
-    requires { ⌜ (1 ≤ n) × (n ≤ 240) × (c ≤ 6) × (d ≤ 6) × (1 ≤ k) × (k ≤ 6) × (2880 ≤ length (now levels)) × (7680 ≤ length (now «plot_family»)) × (7680 ≤ length (now «treatment_family»)) ⌝ }
+    requires { ⌜ (1 ≤ n) × (n ≤ mostPlots) × (c ≤ 6) × (d ≤ 6) × (1 ≤ k) × (k ≤ 6) × (tableCells ≤ length (now levels)) × (familyBytes ≤ length (now «plot_family»)) × (familyBytes ≤ length (now «treatment_family»)) ⌝ }
     ensures answer { λ r. ⌜ fullNumbers r ≡ fullNumbersOf (withTreatments n k (columnsFrom n (now (levels .entry)) 6 d) (question8 n (plotFamily n (columnsFrom n (now (levels .entry)) 0 c)))) ⌝ }
     ensures plots { λ _. ⌜ now («plot_family» .exit) ≡ plotBuffer (now («plot_family» .entry)) (withTreatments n k (columnsFrom n (now (levels .entry)) 6 d) (question8 n (plotFamily n (columnsFrom n (now (levels .entry)) 0 c)))) ⌝ }
     ensures treatments { λ _. ⌜ now («treatment_family» .exit) ≡ treatmentBuffer (now («treatment_family» .entry)) (withTreatments n k (columnsFrom n (now (levels .entry)) 6 d) (question8 n (plotFamily n (columnsFrom n (now (levels .entry)) 0 c)))) ⌝ }
@@ -84,7 +85,7 @@ fn full_from_11(
     store: &mut [u8],
     treatment_family: &mut [u8],
 ) -> FullDesign
-    requires { ⌜ (1 ≤ n) × (n ≤ 240) × (d ≤ 6) × (1 ≤ k) × (k ≤ 6) × (2880 ≤ length (now levels)) × Numbered n (now plot) held × (equality n ∈ membersOf n (now plot) held) × (7680 ≤ length (now «treatment_family»)) × (length (now store) ≡ 7680) ⌝ }
+    requires { ⌜ (1 ≤ n) × (n ≤ mostPlots) × (d ≤ 6) × (1 ≤ k) × (k ≤ 6) × (tableCells ≤ length (now levels)) × Numbered n (now plot) held × (equality n ∈ membersOf n (now plot) held) × (familyBytes ≤ length (now «treatment_family»)) × (length (now store) ≡ familyBytes) ⌝ }
     ensures answer { λ r. ⌜ fullNumbers r ≡ fullNumbersOf (question11 n (membersOf n (now (plot .entry)) held) (firstTreatmentFamily n k (columnsFrom n (now (levels .entry)) 6 d))) ⌝ }
     ensures buffer { λ _. ⌜ now («treatment_family» .exit) ≡ treatmentBuffer (now («treatment_family» .entry)) (question11 n (membersOf n (now (plot .entry)) held) (firstTreatmentFamily n k (columnsFrom n (now (levels .entry)) 6 d))) ⌝ }
 {

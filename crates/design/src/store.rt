@@ -1,28 +1,15 @@
 // A family as it grows: members in the order of their discovery, 240 bytes apart, with their numbers of classes.
 ghost use mathlib.Core.Path.{_≡_};
-ghost use Prim.Native.Nat.{_+_, _*_, _≤_, _<_};
+ghost use Prim.Native.Nat.{_+_, _*_, _≤_};
 ghost use lib.ListN.{length};
 ghost use lib.Seq.{paste};
-ghost use Rattle.rules.specs.Factor.{number, classes, indexOf};
+ghost use Rattle.rules.specs.Limits.{mostPlots, mostMembers};
+ghost use Rattle.rules.specs.Factor.{classes, indexOf};
 ghost use Rattle.rules.specs.Family.{membersOf, alike};
-ghost use Rattle.design.specs.State.{Held, Placed, grownTo};
+ghost use Rattle.design.specs.State.{Held, PlacedMember, grownTo};
+use families::member;
 use limits::MEMBERS;
 use limits::PLOTS;
-
-// The number of classes of a column that is numbered: its largest label.
-pub fn largest(column: &[u8]) -> u8
-    requires { ⌜ number (now column) ≡ now column ⌝ }
-    ensures { λ r. ⌜ r ≡ classes (now (column .entry)) ⌝ }
-{
-    let mut k: u8 = 0;
-    for u in 0..column.len() {
-        let x = column[u];
-        if k < x {
-            k = x;
-        }
-    }
-    k
-}
 
 // The place, from 0, of the member equal to `column`, which has `count` classes; `size` where there is none.
 pub fn find(store: &[u8], counts: &[u8; MEMBERS], size: usize, column: &[u8], count: u8) -> usize
@@ -32,9 +19,7 @@ pub fn find(store: &[u8], counts: &[u8; MEMBERS], size: usize, column: &[u8], co
     let n = column.len();
     for i in 0..size {
         if counts[i] == count {
-            let at = PLOTS * i;
-            let end = at + n;
-            if factor::alike(&store[at..end], column) {
+            if factor::alike(member(store, i, n), column) {
                 return i;
             }
         }
@@ -44,8 +29,8 @@ pub fn find(store: &[u8], counts: &[u8; MEMBERS], size: usize, column: &[u8], co
 
 // Copies a column to the place of member `i`.
 pub fn put(store: &mut [u8], i: usize, column: &[u8])
-    requires { ⌜ (length (now column) ≤ 240) × (240 * i + 240 ≤ length (now store)) ⌝ }
-    ensures { λ _. ⌜ now (store .exit) ≡ paste (now (store .entry)) (240 * i) (now (column .entry)) (length (now (column .entry))) ⌝ }
+    requires { ⌜ (length (now column) ≤ mostPlots) × (mostPlots * i + mostPlots ≤ length (now store)) ⌝ }
+    ensures { λ _. ⌜ now (store .exit) ≡ paste (now (store .entry)) (mostPlots * i) (now (column .entry)) (length (now (column .entry))) ⌝ }
 {
     let at = PLOTS * i;
     for u in 0..column.len() {
@@ -62,7 +47,7 @@ pub fn place(
     count: u8,
 ) -> usize
     requires { ⌜ Held (length (now column)) (now store) (now counts) size × (count ≡ classes (now column)) ⌝ }
-    ensures { λ r. ⌜ Placed (length (now (column .entry))) (membersOf (length (now (column .entry))) (now (store .entry)) size) (now (column .entry)) r (now (store .exit)) (now (counts .exit)) ⌝ }
+    ensures { λ r. ⌜ PlacedMember (length (now (column .entry))) (membersOf (length (now (column .entry))) (now (store .entry)) size) (now (column .entry)) r (now (store .exit)) (now (counts .exit)) ⌝ }
 {
     let i = find(store, counts, size, column, count);
     if i == MEMBERS {
@@ -77,7 +62,7 @@ pub fn place(
 
 // The size once a column has been placed.
 pub fn grown(size: usize, place: usize) -> usize
-    requires { ⌜ size ≤ 32 ⌝ }
+    requires { ⌜ size ≤ mostMembers ⌝ }
     ensures { λ r. ⌜ r ≡ grownTo size place ⌝ }
 {
     if place == size {

@@ -6,10 +6,11 @@ ghost use mathlib.Core.Logic.{_⊎_};
 ghost use Prim.Native.Nat.{_+_, _*_, _≤_, _<_};
 ghost use lib.ListN.{length};
 ghost use lib.Seq.{paste};
+ghost use Rattle.rules.specs.Limits.{mostPlots, tableCells, familyBytes};
 ghost use Rattle.rules.specs.Factor.{Column, number, infimum};
 ghost use Rattle.rules.specs.Family.{_∈_, columnsFrom, membersOf};
 ghost use Rattle.rules.specs.Closing.{treatmentGenerators};
-ghost use Rattle.design.specs.State.{columnIn, Held, Placed, Begun};
+ghost use Rattle.design.specs.State.{columnAt, Held, PlacedMember, Begun};
 ghost use Rattle.design.specs.Judging.{Listed};
 ghost use Rattle.design.specs.Treatments.{extended, Room, Infima, AllPlaced, withChoice};
 use crate::closed::ClosedFamily;
@@ -21,9 +22,10 @@ use crate::replicates::few_combinations;
 use crate::replicates::first_points;
 use crate::replicates::meet_levels;
 use crate::store::grown;
-use crate::store::largest;
 use crate::store::place;
 use crate::store::put;
+use factor::largest;
+use families::member;
 use limits::COLUMNS;
 use limits::Level;
 use limits::MEMBERS;
@@ -43,8 +45,8 @@ const FEW_INFIMA: usize = 1920;
 
 // Writes the infimum of `column` with infimum `e` at place `total`.
 fn add_infimum(infima: &mut [u8], total: usize, column: &[u8], e: usize)
-    requires { ⌜ (1 ≤ length (now column)) × (length (now column) ≤ 240) × (240 * total + 240 ≤ length (now infima)) × (240 * e + 240 ≤ length (now infima)) × (total < 64) × (e < 64) ⌝ }
-    ensures { λ _. ⌜ now (infima .exit) ≡ paste (now (infima .entry)) (240 * total) (infimum (now (column .entry)) (columnIn (length (now (column .entry))) (now (infima .entry)) e)) (length (now (column .entry))) ⌝ }
+    requires { ⌜ (1 ≤ length (now column)) × (length (now column) ≤ mostPlots) × (mostPlots * total + mostPlots ≤ length (now infima)) × (mostPlots * e + mostPlots ≤ length (now infima)) × (total < 64) × (e < 64) ⌝ }
+    ensures { λ _. ⌜ now (infima .exit) ≡ paste (now (infima .entry)) (mostPlots * total) (infimum (now (column .entry)) (columnAt (length (now (column .entry))) (now (infima .entry)) e)) (length (now (column .entry))) ⌝ }
 {
     let n = column.len();
     let at = PLOTS * e;
@@ -56,8 +58,8 @@ fn add_infimum(infima: &mut [u8], total: usize, column: &[u8], e: usize)
 
 // Writes the infimum of `column` with infimum `e`, which is of `taken` columns, at place `total`: with that of none it is the column.
 fn add_choice(infima: &mut [u8], total: usize, column: &[u8], e: usize, taken: u8)
-    requires { ⌜ (1 ≤ length (now column)) × (length (now column) ≤ 240) × (240 * total + 240 ≤ length (now infima)) × (240 * e + 240 ≤ length (now infima)) × (total < 64) × (e < 64) ⌝ }
-    ensures { λ _. ⌜ now (infima .exit) ≡ paste (now (infima .entry)) (240 * total) (withChoice taken (now (column .entry)) (columnIn (length (now (column .entry))) (now (infima .entry)) e)) (length (now (column .entry))) ⌝ }
+    requires { ⌜ (1 ≤ length (now column)) × (length (now column) ≤ mostPlots) × (mostPlots * total + mostPlots ≤ length (now infima)) × (mostPlots * e + mostPlots ≤ length (now infima)) × (total < 64) × (e < 64) ⌝ }
+    ensures { λ _. ⌜ now (infima .exit) ≡ paste (now (infima .entry)) (mostPlots * total) (withChoice taken (now (column .entry)) (columnAt (length (now (column .entry))) (now (infima .entry)) e)) (length (now (column .entry))) ⌝ }
 {
     if taken == 0 {
         put(infima, total, column);
@@ -100,9 +102,9 @@ fn extend_by(
     n: usize,
     k: usize,
 ) -> usize
-    requires { ⌜ Room n (now lengths) × (2 * total ≤ 64) × (k ≤ 6) × (240 * c + 240 ≤ length (now levels)) × (480 * total ≤ length (now infima)) ⌝ }
+    requires { ⌜ Room n (now lengths) × (2 * total ≤ 64) × (k ≤ 6) × (mostPlots * c + mostPlots ≤ length (now levels)) × (480 * total ≤ length (now infima)) ⌝ }
     ensures kept { λ r. ⌜ Room n (now (lengths .exit)) × (r ≤ 2 * total) ⌝ }
-    ensures extends { λ r. ⌜ ((Cs : List (List Column)) → Infima n (now (infima .entry)) (now (lengths .entry)) total Cs → Infima n (now (infima .exit)) (now (lengths .exit)) r (extended k (columnIn n (now (levels .entry)) c) Cs)) ⌝ }
+    ensures extends { λ r. ⌜ ((Cs : List (List Column)) → Infima n (now (infima .entry)) (now (lengths .entry)) total Cs → Infima n (now (infima .exit)) (now (lengths .exit)) r (extended k (columnAt n (now (levels .entry)) c) Cs)) ⌝ }
 {
     let at = PLOTS * c;
     let end = at + n;
@@ -120,8 +122,8 @@ fn fill_infima(
     k: usize,
     infima: &mut [u8],
 ) -> usize
-    requires { ⌜ (1 ≤ n) × (n ≤ 240) × (d ≤ 6) × (1 ≤ k) × (k ≤ 6) × (first ≤ 6) × (2880 ≤ length (now levels)) × (((d ≤ 3) × (1920 ≤ length (now infima))) ⊎ (15360 ≤ length (now infima))) ⌝ }
-    ensures few { λ r. ⌜ (r ≤ 64) × (240 * r ≤ length (now (infima .exit))) ⌝ }
+    requires { ⌜ (1 ≤ n) × (n ≤ mostPlots) × (d ≤ 6) × (1 ≤ k) × (k ≤ 6) × (first ≤ 6) × (tableCells ≤ length (now levels)) × (((d ≤ 3) × (1920 ≤ length (now infima))) ⊎ (15360 ≤ length (now infima))) ⌝ }
+    ensures few { λ r. ⌜ (r ≤ 64) × (mostPlots * r ≤ length (now (infima .exit))) ⌝ }
     ensures columns { λ r. ⌜ membersOf n (now (infima .exit)) r ≡ treatmentGenerators n k (columnsFrom n (now (levels .entry)) first d) ⌝ }
 {
     let ones = [1u8; PLOTS];
@@ -145,12 +147,10 @@ fn place_one(
     counts: &mut [u8; MEMBERS],
     size: usize,
 ) -> usize
-    requires { ⌜ Held n (now store) (now counts) size × (240 * e + 240 ≤ length (now infima)) × (e < 64) × (number (columnIn n (now infima) e) ≡ columnIn n (now infima) e) ⌝ }
-    ensures { λ r. ⌜ Placed n (membersOf n (now (store .entry)) size) (columnIn n (now (infima .entry)) e) r (now (store .exit)) (now (counts .exit)) ⌝ }
+    requires { ⌜ Held n (now store) (now counts) size × (mostPlots * e + mostPlots ≤ length (now infima)) × (e < 64) × (number (columnAt n (now infima) e) ≡ columnAt n (now infima) e) ⌝ }
+    ensures { λ r. ⌜ PlacedMember n (membersOf n (now (store .entry)) size) (columnAt n (now (infima .entry)) e) r (now (store .exit)) (now (counts .exit)) ⌝ }
 {
-    let at = PLOTS * e;
-    let end = at + n;
-    let column = &infima[at..end];
+    let column = member(infima, e, n);
     let k = largest(column);
     place(store, counts, size, column, k)
 }
@@ -165,7 +165,7 @@ fn place_all(
     counts: &mut [u8; MEMBERS],
     size: usize,
 ) -> usize
-    requires { ⌜ Begun n (membersOf n (now store) size) (now store) (now counts) size × (240 * total ≤ length (now infima)) × (total ≤ 64) × ((F : Column) → F ∈ membersOf n (now infima) total → number F ≡ F) ⌝ }
+    requires { ⌜ Begun n (membersOf n (now store) size) (now store) (now counts) size × (mostPlots * total ≤ length (now infima)) × (total ≤ 64) × ((F : Column) → F ∈ membersOf n (now infima) total → number F ≡ F) ⌝ }
     ensures { λ r. ⌜ AllPlaced n (membersOf n (now (infima .entry)) total ++ membersOf n (now (store .entry)) size) (now (store .exit)) (now (counts .exit)) r ⌝ }
 {
     let mut now = size;
@@ -194,7 +194,7 @@ fn place_infima(
     counts: &mut [u8; MEMBERS],
     size: usize,
 ) -> usize
-    requires { ⌜ (d ≤ 6) × (1 ≤ k) × (k ≤ 6) × (first ≤ 6) × (2880 ≤ length (now levels)) × (((d ≤ 3) × (1920 ≤ length (now infima))) ⊎ (15360 ≤ length (now infima))) × Begun n (membersOf n (now store) size) (now store) (now counts) size ⌝ }
+    requires { ⌜ (d ≤ 6) × (1 ≤ k) × (k ≤ 6) × (first ≤ 6) × (tableCells ≤ length (now levels)) × (((d ≤ 3) × (1920 ≤ length (now infima))) ⊎ (15360 ≤ length (now infima))) × Begun n (membersOf n (now store) size) (now store) (now counts) size ⌝ }
     ensures { λ r. ⌜ AllPlaced n (treatmentGenerators n k (columnsFrom n (now (levels .entry)) first d) ++ membersOf n (now (store .entry)) size) (now (store .exit)) (now (counts .exit)) r ⌝ }
 {
     let total = fill_infima(levels, n, first, d, k, infima);
@@ -212,7 +212,7 @@ pub fn place_choices(
     counts: &mut [u8; MEMBERS],
     size: usize,
 ) -> usize
-    requires { ⌜ (d ≤ 6) × (1 ≤ k) × (k ≤ 6) × (first ≤ 6) × (2880 ≤ length (now levels)) × Begun n (membersOf n (now store) size) (now store) (now counts) size ⌝ }
+    requires { ⌜ (d ≤ 6) × (1 ≤ k) × (k ≤ 6) × (first ≤ 6) × (tableCells ≤ length (now levels)) × Begun n (membersOf n (now store) size) (now store) (now counts) size ⌝ }
     ensures { λ r. ⌜ AllPlaced n (treatmentGenerators n k (columnsFrom n (now (levels .entry)) first d) ++ membersOf n (now (store .entry)) size) (now (store .exit)) (now (counts .exit)) r ⌝ }
 {
     if d < FEW_COLUMNS {
@@ -233,7 +233,7 @@ fn first_whole(
     marks: &mut [u8; PAIRS],
     family: &mut [u8],
 ) -> ClosedFamily
-    requires { ⌜ (1 ≤ n) × (n ≤ 240) × (d ≤ 6) × (1 ≤ k) × (k ≤ 6) × (2880 ≤ length (now levels)) × (7680 ≤ length (now family)) × (length (now store) ≡ 7680) × (length (now marks) ≡ 1024) ⌝ }
+    requires { ⌜ (1 ≤ n) × (n ≤ mostPlots) × (d ≤ 6) × (1 ≤ k) × (k ≤ 6) × (tableCells ≤ length (now levels)) × (familyBytes ≤ length (now family)) × (length (now store) ≡ familyBytes) × (length (now marks) ≡ 1024) ⌝ }
     ensures { λ r. ⌜ Listed n false (treatmentGenerators n k (columnsFrom n (now (levels .entry)) 6 d)) (now (family .entry)) (now (family .exit)) (now (marks .exit)) (r .order) (r .size) ⌝ }
 {
     let mut counts = [0u8; MEMBERS];
@@ -254,7 +254,7 @@ pub fn first_family(
     marks: &mut [u8; PAIRS],
     family: &mut [u8],
 ) -> ClosedFamily
-    requires { ⌜ (1 ≤ n) × (n ≤ 240) × (d ≤ 6) × (1 ≤ k) × (k ≤ 6) × (2880 ≤ length (now levels)) × (7680 ≤ length (now family)) × (length (now store) ≡ 7680) × (length (now marks) ≡ 1024) ⌝ }
+    requires { ⌜ (1 ≤ n) × (n ≤ mostPlots) × (d ≤ 6) × (1 ≤ k) × (k ≤ 6) × (tableCells ≤ length (now levels)) × (familyBytes ≤ length (now family)) × (length (now store) ≡ familyBytes) × (length (now marks) ≡ 1024) ⌝ }
     ensures { λ r. ⌜ Listed n false (treatmentGenerators n k (columnsFrom n (now (levels .entry)) 6 d)) (now (family .entry)) (now (family .exit)) (now (marks .exit)) (r .order) (r .size) ⌝ }
 {
     if !few_combinations(levels, n, d) {

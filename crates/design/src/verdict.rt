@@ -2,10 +2,11 @@
 ghost use mathlib.Core.Path.{_≡_};
 ghost use Prim.Native.Nat.{_≤_, _<_};
 ghost use lib.ListN.{length};
+ghost use Rattle.rules.specs.Limits.{mostPlots, familyBytes};
 ghost use Rattle.rules.specs.Factor.{uniform, orthogonal};
 ghost use Rattle.rules.specs.Family.{membersOf};
 ghost use Rattle.rules.specs.Design.{refused, question8, question9, firstFailing, question11, question12, question13, firstPair, firstCross, treatmentBuffer};
-ghost use Rattle.design.specs.Judging.{Tells, Judging};
+ghost use Rattle.design.specs.Judging.{MarksTell, Judging};
 ghost use Rattle.design.specs.Closings.{closedIn, Ready};
 ghost use Rattle.design.specs.Treatments.{Numbered};
 ghost use Rattle.design.specs.Answers.{plotNumbers, plotNumbersOf, fullNumbers, fullNumbersOf, fullRefusing};
@@ -122,7 +123,7 @@ pub fn judge_treatments(
     store: &mut [u8],
     treatment_family: &mut [u8],
 ) -> FullDesign
-    requires { ⌜ (1 ≤ n) × (n ≤ 240) × Numbered n (now «plot_family») plot × ((closed .size ≡ 33 → ⊥) → Numbered n (now «treatment_family») (closed .size) × Tells (orthogonal n) (membersOf n (now «treatment_family») (closed .size)) (closed .order) (now marks) (closed .size)) × (length (now store) ≡ 7680) ⌝ }
+    requires { ⌜ (1 ≤ n) × (n ≤ mostPlots) × Numbered n (now «plot_family») plot × ((closed .size ≡ 33 → ⊥) → Numbered n (now «treatment_family») (closed .size) × MarksTell (orthogonal n) (membersOf n (now «treatment_family») (closed .size)) (closed .order) (now marks) (closed .size)) × (length (now store) ≡ familyBytes) ⌝ }
     ensures answer { λ r. ⌜ fullNumbers r ≡ fullNumbersOf (question11 n (membersOf n (now («plot_family» .entry)) plot) (closedIn n (now («treatment_family» .entry)) (closed .size))) ⌝ }
     ensures buffer { λ _. ⌜ now («treatment_family» .exit) ≡ treatmentBuffer (now («treatment_family» .entry)) (question11 n (membersOf n (now («plot_family» .entry)) plot) (closedIn n (now («treatment_family» .entry)) (closed .size))) ⌝ }
 {
@@ -145,7 +146,7 @@ fn from_12(
     store: &mut [u8],
     treatment_family: &mut [u8],
 ) -> FullDesign
-    requires { ⌜ (1 ≤ n) × (n ≤ 240) × Numbered n (now «plot_family») plot × Numbered n (now «treatment_family») size × (pair .first ≡ firstPair (orthogonal n) 1 (membersOf n (now «treatment_family») size) .first) × (pair .second ≡ firstPair (orthogonal n) 1 (membersOf n (now «treatment_family») size) .second) × (length (now store) ≡ 7680) ⌝ }
+    requires { ⌜ (1 ≤ n) × (n ≤ mostPlots) × Numbered n (now «plot_family») plot × Numbered n (now «treatment_family») size × (pair .first ≡ firstPair (orthogonal n) 1 (membersOf n (now «treatment_family») size) .first) × (pair .second ≡ firstPair (orthogonal n) 1 (membersOf n (now «treatment_family») size) .second) × (length (now store) ≡ familyBytes) ⌝ }
     ensures answer { λ r. ⌜ fullNumbers r ≡ fullNumbersOf (question12 n (membersOf n (now («plot_family» .entry)) plot) (membersOf n (now («treatment_family» .entry)) size) (firstPair (orthogonal n) 1 (membersOf n (now («treatment_family» .entry)) size))) ⌝ }
     ensures buffer { λ _. ⌜ now («treatment_family» .exit) ≡ treatmentBuffer (now («treatment_family» .entry)) (question12 n (membersOf n (now («plot_family» .entry)) plot) (membersOf n (now («treatment_family» .entry)) size) (firstPair (orthogonal n) 1 (membersOf n (now («treatment_family» .entry)) size))) ⌝ }
 {
@@ -165,7 +166,7 @@ fn from_13(
     store: &mut [u8],
     treatment_family: &mut [u8],
 ) -> FullDesign
-    requires { ⌜ (1 ≤ n) × (n ≤ 240) × Numbered n (now «plot_family») plot × Numbered n (now «treatment_family») size × (length (now store) ≡ 7680) ⌝ }
+    requires { ⌜ (1 ≤ n) × (n ≤ mostPlots) × Numbered n (now «plot_family») plot × Numbered n (now «treatment_family») size × (length (now store) ≡ familyBytes) ⌝ }
     ensures answer { λ r. ⌜ fullNumbers r ≡ fullNumbersOf (question13 (membersOf n (now («plot_family» .entry)) plot) (membersOf n (now («treatment_family» .entry)) size) (firstCross (orthogonal n) 1 (membersOf n (now («plot_family» .entry)) plot) (membersOf n (now («treatment_family» .entry)) size))) ⌝ }
     ensures buffer { λ _. ⌜ now («treatment_family» .exit) ≡ treatmentBuffer (now («treatment_family» .entry)) (question13 (membersOf n (now («plot_family» .entry)) plot) (membersOf n (now («treatment_family» .entry)) size) (firstCross (orthogonal n) 1 (membersOf n (now («plot_family» .entry)) plot) (membersOf n (now («treatment_family» .entry)) size))) ⌝ }
 {

@@ -1,17 +1,22 @@
 -- What a function over lent columns looks at and leaves. An input column is a slice, one label a plot; an output column is an array of 240 bytes.
 -- Assumes nothing.
 use mathlib.Core.List.{List, _++_}
-use Prim.Native.Nat.{ℕ, min}
+use Prim.Native.Nat.{ℕ, _*_, min}
 use lib.ListN.{length, take, drop}
+use Rattle.rules.specs.Limits.{mostPlots}
 use Rattle.rules.specs.Factor.{Column}
+
+-- the column at place i, from 0, of a level table or a family buffer on n plots: as much of it as is there
+abbrev pub columnAt : ℕ → List ℕ → ℕ → Column
+columnAt n buffer i = take n (drop (mostPlots * i) buffer)
 
 -- the plots of a column: at most the first 240
 abbrev pub plotsOf : Column → Column
-plotsOf F = take 240 F
+plotsOf F = take mostPlots F
 
 -- how many plots two columns have in common
 abbrev pub common : Column → Column → ℕ
-common F G = min 240 (min (length F) (length G))
+common F G = min mostPlots (min (length F) (length G))
 
 -- an operation on two columns over those plots
 abbrev pub onCommon : {A : Type 0} → (Column → Column → A) → Column → Column → A

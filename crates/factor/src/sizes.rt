@@ -2,6 +2,7 @@
 ghost use mathlib.Core.Path.{_≡_};
 ghost use Prim.Native.Nat.{_≤_, _<_};
 ghost use lib.ListN.{length};
+ghost use Rattle.rules.specs.Limits.{mostPlots};
 ghost use Rattle.rules.specs.Factor.{uniform};
 ghost use Rattle.factor.specs.Lent.{plotsOf};
 ghost use Rattle.factor.specs.Sizes.{sizes};
@@ -9,7 +10,7 @@ use crate::plots::numbered_plots;
 
 // How many plots have each label, in one walk.
 fn sizes(f: &[u8]) -> [u8; 256]
-    requires { ⌜ length (now f) ≤ 240 ⌝ }
+    requires { ⌜ length (now f) ≤ mostPlots ⌝ }
     ensures { λ r. ⌜ r ≡ sizes (now (f .entry)) ⌝ }
 {
     let mut table = [0u8; 256];
@@ -42,7 +43,7 @@ pub fn uniform(f: &[u8]) -> bool
 // The same for a column that has a plot: the labels that have a plot have as many as that of the first plot, at most and at least.
 // The walk goes to the end, so that many labels are compared at a time.
 fn one_size(f: &[u8]) -> bool
-    requires { ⌜ (0 < length (now f)) × (length (now f) ≤ 240) ⌝ }
+    requires { ⌜ (0 < length (now f)) × (length (now f) ≤ mostPlots) ⌝ }
     ensures { λ r. ⌜ r ≡ uniform (length (now (f .entry))) (now (f .entry)) ⌝ }
 {
     let table = sizes(f);

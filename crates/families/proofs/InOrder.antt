@@ -1,7 +1,7 @@
 -- Laws of the walk over the members that asks question 15 of each: its numbering, and its place after the one before.
 -- Assumes nothing.
 use mathlib.Core.Path.{_≡_, refl, sym, ap, ap₂, _∙_}
-use mathlib.Core.Bool.{Bool, true, false, _&&_}
+use mathlib.Core.Bool.{Bool, true, false, _&&_, and-false}
 use mathlib.Core.List.{List, []}
 use Prim.Native.Nat.{ℕ, suc, _+_, _-_, _≤_, _<_}
 use native.Mathlib.Numerals.{add-one}
@@ -14,10 +14,6 @@ use Rattle.rules.proofs.WellFormed.{numbered-on, numbered-here, numbered-end, o
 use Rattle.families.specs.Lent.{columnAt, numberedClasses}
 use Rattle.families.proofs.Lent.{length-column}
 use Rattle.families.proofs.Counted.{counted-not, counted-is}
-
-and-false : (a : Bool) → (a && false) ≡ false
-and-false true = refl
-and-false false = refl
 
 module _ (n : ℕ) (few : n ≤ 240) (f : List ℕ) (long : 7680 ≤ length f) (size : ℕ) (most : size ≤ 32) where
   abbrev S : Family

@@ -4,10 +4,11 @@ ghost use mathlib.Core.Bool.{true, false, _&&_};
 ghost use Prim.Native.Nat.{ℕ, _≤_, _<_};
 ghost use lib.Dec.{leb};
 ghost use lib.ListN.{length};
-ghost use Rattle.rules.specs.Factor.{at, classes};
+ghost use Rattle.rules.specs.Limits.{mostPlots, mostMembers, familyBytes};
+ghost use Rattle.rules.specs.Factor.{at};
 ghost use Rattle.rules.specs.Family.{membersOf, before, allNumbered, ordered, wellFormed};
 ghost use Rattle.rules.specs.Design.{plotsWithin};
-ghost use Rattle.families.specs.Lent.{columnAt, formedIn, numberedClasses};
+ghost use Rattle.families.specs.Lent.{columnAt, CountedMembers, formedIn, numberedClasses};
 use limits::FAMILY;
 use limits::MEMBERS;
 use limits::PLOTS;
@@ -15,9 +16,24 @@ use limits::PLOTS;
 // Stands for the number of classes of a column that is not numbered by first appearance.
 const UNNUMBERED: usize = PLOTS + 1;
 
+// The member at place `i` of a family on `n` plots, or as much of it as the slice has.
+pub fn member(family: &[u8], i: usize, n: usize) -> &[u8]
+    ensures { λ r. ⌜ now r ≡ columnAt n (now (family .entry)) i ⌝ }
+{
+    if family.len() / PLOTS < i {
+        return &family[..0];
+    }
+    let start = PLOTS * i;
+    if family.len() - start < n {
+        return &family[start..];
+    }
+    let end = start + n;
+    &family[start..end]
+}
+
 // 6, of one family.
 pub fn within(plots: usize, bytes: usize) -> bool
-    ensures { λ r. ⌜ r ≡ plotsWithin plots && leb 7680 bytes ⌝ }
+    ensures { λ r. ⌜ r ≡ plotsWithin plots && leb familyBytes bytes ⌝ }
 {
     if plots < 1 {
         return false;
@@ -28,7 +44,8 @@ pub fn within(plots: usize, bytes: usize) -> bool
     FAMILY <= bytes
 }
 
-// 15: 1 to 32 members in the numbering and order of the rules, no two alike. No where 6 says no to the plots or the bytes.
+// 15: 1 to 32 members in the numbering and order of the rules, no two alike. No of more plots than a column has, or of fewer bytes than a
+// family has; that there is a plot at all is for 6 to ask.
 pub fn well_formed(family: &[u8], plots: usize, size: usize) -> bool
     ensures { λ r. ⌜ r ≡ formedIn plots (now (family .entry)) size ⌝ }
 {
@@ -78,32 +95,26 @@ fn numbered_classes(column: &[u8]) -> usize
 
 // The same of a member.
 fn member_classes(family: &[u8], i: usize, n: usize) -> usize
-    requires { ⌜ (n ≤ 240) × (7680 ≤ length (now family)) × (i < 32) ⌝ }
+    requires { ⌜ (n ≤ mostPlots) × (familyBytes ≤ length (now family)) × (i < mostMembers) ⌝ }
     ensures { λ r. ⌜ r ≡ numberedClasses (columnAt n (now (family .entry)) i) ⌝ }
 {
-    let a = PLOTS * i;
-    let e = a + n;
-    numbered_classes(&family[a..e])
+    numbered_classes(member(family, i, n))
 }
 
 // Whether member `i`, of `k` classes, stands before member `j`, of `m`: at a tie the columns decide.
 fn member_before(family: &[u8], i: usize, k: usize, j: usize, m: usize, n: usize) -> bool
-    requires { ⌜ (n ≤ 240) × (7680 ≤ length (now family)) × (i < 32) × (j < 32) × (k ≡ classes (columnAt n (now family) i)) × (m ≡ classes (columnAt n (now family) j)) ⌝ }
+    requires { ⌜ CountedMembers n (now family) i k j m ⌝ }
     ensures { λ r. ⌜ r ≡ before (columnAt n (now (family .entry)) i) (columnAt n (now (family .entry)) j) ⌝ }
 {
     if k != m {
         return k < m;
     }
-    let a = PLOTS * i;
-    let b = PLOTS * j;
-    let c = a + n;
-    let d = b + n;
-    factor::smaller(&family[a..c], &family[b..d])
+    factor::smaller(member(family, i, n), member(family, j, n))
 }
 
 // Whether every member is numbered by first appearance and stands before the next. Each is counted once.
 fn numbered_in_order(family: &[u8], n: usize, size: usize) -> bool
-    requires { ⌜ (n ≤ 240) × (7680 ≤ length (now family)) × (1 ≤ size) × (size ≤ 32) ⌝ }
+    requires { ⌜ (n ≤ mostPlots) × (familyBytes ≤ length (now family)) × (1 ≤ size) × (size ≤ mostMembers) ⌝ }
     ensures { λ r. ⌜ r ≡ allNumbered (membersOf n (now (family .entry)) size) && ordered (membersOf n (now (family .entry)) size) ⌝ }
 {
     let mut k = member_classes(family, 0, n);
@@ -125,7 +136,7 @@ fn numbered_in_order(family: &[u8], n: usize, size: usize) -> bool
 
 // 15, once the plots and the bytes are within limits.
 fn formed(family: &[u8], n: usize, size: usize) -> bool
-    requires { ⌜ (n ≤ 240) × (7680 ≤ length (now family)) ⌝ }
+    requires { ⌜ (n ≤ mostPlots) × (familyBytes ≤ length (now family)) ⌝ }
     ensures { λ r. ⌜ r ≡ wellFormed (membersOf n (now (family .entry)) size) ⌝ }
 {
     if size < 1 {

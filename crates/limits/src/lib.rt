@@ -19,8 +19,12 @@ pub const TEXT: usize = 32768;
 
 // fields of a line
 pub const FIELDS: usize = 12;
-// the largest level
-pub const LEVEL: u32 = 65535;
-
 // a level of a sheet: only a label
 pub type Level = u16;
+// the highest level, and as a number that is read digit by digit
+pub const HIGHEST: Level = 65535;
+
+pub const LEVEL: u32 = 65535;
+
+// a code for two labels of a byte each, which is numbered like a level
+pub type PairCode = Level;

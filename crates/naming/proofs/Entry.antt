@@ -2,18 +2,18 @@
 -- Assumes nothing.
 use mathlib.Core.Path.{_≡_, refl, ap, _∙_}
 use mathlib.Core.Bool.{Bool, true, false, _&&_}
-use mathlib.Core.List.{List, []}
+use mathlib.Core.List.{List}
 use Prim.Native.Nat.{ℕ, _≤_, _<_}
 use native.Mathlib.Omega.{arith}
 use lib.Dec.{eqb, ltb, leb}
 use lib.ListN.{length, take}
 use lib.Seq.{take-all}
-use borrow.Author.Tests.{leb-true, ltb-true, eqb-true, lt-ltb, lt-leb, le-leb, eq-eqb}
+use borrow.Author.Tests.{leb-true, ltb-true, eqb-true, lt-ltb, lt-leb, le-leb, eq-eqb, ne-eqb}
 use Rattle.rules.specs.Factor.{Column}
 use Rattle.rules.specs.Family.{Family, columnsFrom, membersOf, wellFormed}
 use Rattle.rules.specs.Design.{plotsWithin, allNonzero}
 use Rattle.rules.specs.Sheet.{countKind, header, question2, question3}
-use Rattle.rules.specs.Naming.{Kind as Rule, markOf, firstColumn, kindNames, kindColumns, nameOn, nameAt, nameRefused, namingWithin, namingFrom7, naming}
+use Rattle.rules.specs.Naming.{Kind as Rule, markOf, firstColumn, kindNames, kindColumns, nameOn, nameAt, NameAnswer, nameRefused, nameBuffer, namingWithin, namingFrom7, naming}
 use Rattle.rules.proofs.Buffer.{length-columns}
 use Rattle.rules.proofs.NameSize.{names-short, bytes-length}
 use Rattle.rules.proofs.Sheet.{and-left, and-right, header-form}
@@ -22,7 +22,9 @@ use Rattle.sheet.specs.declared.header.Header.{Header}
 use Rattle.sheet.proofs.HeaderLaws.{headed-yes}
 use Rattle.naming.specs.declared.Kind.{Kind}
 use Rattle.naming.specs.declared.Kind.the-variants.{Plot, Treatment}
-use Rattle.naming.specs.Answers.{kindOf, countIn, memberFits, countedOn, nameFor}
+use Rattle.naming.specs.Answers.{kindOf, countIn, memberFits, countedOn, namingCounted, startingWith, nameNumbers, nameNumbersOf}
+use Rattle.naming.specs.declared.Named.{Named}
+use Rattle.naming.specs.declared.Named.the-variants.{Written, Refused}
 
 -- ---- the columns of the kind
 
@@ -77,23 +79,36 @@ unfolding countedOn nameOn kindColumns
 counted-on kind text n levels count place F e = rw e
 
 module _ (kind : Rule) (text levels : List ℕ) (n count : ℕ) (F : Column) (place room : ℕ) where
-  pub unnamed : memberFits n count (length levels) room (length F) ≡ false → nameFor kind text levels n count F place room ≡ []
-  unfolding nameFor
-  unnamed e = rw (e, nameFor)
+  pub unnamed : memberFits n count (length levels) room (length F) ≡ false → namingCounted kind text levels n count F place room ≡ nameRefused 6
+  unfolding namingCounted
+  unnamed e = rw (e, namingCounted)
 
-  pub named : memberFits n count (length levels) room (length F) ≡ true → nameFor kind text levels n count F place room ≡ take room (countedOn kind text n levels count place F)
-  unfolding nameFor
-  named e = rw (e, nameFor)
+  pub named : memberFits n count (length levels) room (length F) ≡ true → namingCounted kind text levels n count F place room ≡ record { refusal = 0; name = take room (countedOn kind text n levels count place F) }
+  unfolding namingCounted
+  named e = rw (e, namingCounted)
 
   -- by the columns of a first line of the form there is room for the name
-  pub named-for : question3 text ≡ true → count ≡ countKind (markOf kind) (header text) → place ≤ 32 → memberFits n count (length levels) room (length F) ≡ true → nameFor kind text levels n count F place room ≡ nameOn kind text n levels place F
+  pub named-for : question3 text ≡ true → count ≡ countKind (markOf kind) (header text) → place ≤ 32 → memberFits n count (length levels) room (length F) ≡ true
+      → namingCounted kind text levels n count F place room ≡ record { refusal = 0; name = nameOn kind text n levels place F }
   unfolding countedOn
   named-for q is h e =
       let f = fits n count (length levels) room (length F) e in
       let Cs = columnsFrom n levels (firstColumn kind) count in
       let size : length Cs ≡ count = length-columns n levels (firstColumn kind) count in
       let short = bytes-length (kindNames kind (header text)) (names-short kind (header text) (header-form text q .columns)) n Cs place F (omega (arith, f .few)) (omega arith) in
-      named e ∙ take-all room (countedOn kind text n levels count place F) (omega (arith, f .room, short)) ∙ counted-on kind text n levels count place F is
+      named e ∙ ap (λ (W : List ℕ). record { refusal = 0; name = W }) (take-all room (countedOn kind text n levels count place F) (omega (arith, f .room, short)) ∙ counted-on kind text n levels count place F is)
+
+-- what an answer says of the enum and of the buffer
+pub answered : (r : Named) (out after : List ℕ) (a b : NameAnswer) → b ≡ a → (nameNumbers r ≡ nameNumbersOf a) × (after ≡ nameBuffer out a) → (nameNumbers r ≡ nameNumbersOf b) × (after ≡ nameBuffer out b)
+answered r out after a b e w = rw e w
+
+pub accepting : (m : ℕ) (out after W : List ℕ) (b : NameAnswer) → b ≡ record { refusal = 0; name = W } → m ≡ length W → after ≡ startingWith W out → (nameNumbers (Written m) ≡ nameNumbersOf b) × (after ≡ nameBuffer out b)
+unfolding nameNumbers nameNumbersOf
+accepting m out after W b e l w = rw (e, l) (refl, w)
+
+pub refusing : (q : ℕ) (out : List ℕ) (b : NameAnswer) → 0 < q → b ≡ nameRefused q → (nameNumbers (Refused q) ≡ nameNumbersOf b) × (out ≡ nameBuffer out b)
+unfolding nameNumbers nameNumbersOf
+refusing q out b h e = rw (e, ne-eqb q 0 (λ z. omega arith)) (refl, refl)
 
 -- ---- the entry's questions
 

@@ -1,7 +1,7 @@
 -- The enums of the entries, read by the rules' definitions, and what naming one member by itself answers.
 -- Assumes nothing.
 use mathlib.Core.Bool.{Bool, true, false, _&&_}
-use mathlib.Core.List.{List, [], _++_}
+use mathlib.Core.List.{List, _++_}
 use Prim.Native.Nat.{ℕ}
 use lib.Dec.{eqb, leb}
 use lib.ListN.{length, take, drop}
@@ -11,7 +11,7 @@ use Rattle.rules.specs.Design.{plotsWithin}
 use Rattle.rules.specs.Family.{columnsFrom}
 use Rattle.rules.specs.Sheet.{columnNames, header}
 use Rattle.rules.specs.Names.{nameOf, bytesOf}
-use Rattle.rules.specs.Naming.{Kind as Rule, plot, treatment, firstColumn, kindNames}
+use Rattle.rules.specs.Naming.{Kind as Rule, plot, treatment, firstColumn, kindNames, NameAnswer, nameRefused}
 use Rattle.sheet.specs.declared.header.Header.{Header}
 use Rattle.naming.specs.declared.Kind.{Kind}
 use Rattle.naming.specs.declared.Kind.the-variants.{Plot, Treatment}
@@ -38,21 +38,32 @@ unfoldable pub countedOn : Rule → List ℕ → ℕ → List ℕ → ℕ → �
 unfolding bytesOf nameOf columnNames columnsFrom header
 countedOn kind text n levels count place F = bytesOf (kindNames kind (header text)) (nameOf n (columnsFrom n levels (firstColumn kind) count) place F)
 
--- as much of it as the buffer holds; no byte where the member cannot be named
-unfoldable pub nameFor : Rule → List ℕ → List ℕ → ℕ → ℕ → Column → ℕ → ℕ → List ℕ
+-- naming one member by itself: 6 where a count or a length is out of range, or the member is not on these plots; else as much of the name
+-- as the buffer holds
+unfoldable pub namingCounted : Rule → List ℕ → List ℕ → ℕ → ℕ → Column → ℕ → ℕ → NameAnswer
 unfolding memberFits countedOn
-nameFor kind text levels n count F place room = elim (memberFits n count (length levels) room (length F)) [ true ↦ take room (countedOn kind text n levels count place F) | false ↦ [] ]
+namingCounted kind text levels n count F place room = elim (memberFits n count (length levels) room (length F)) [
+  | true ↦ record { refusal = 0; name = take room (countedOn kind text n levels count place F) }
+  | false ↦ nameRefused 6
+]
 
 -- a buffer that starts with these bytes, and past them is as it was
 abbrev pub startingWith : List ℕ → List ℕ → List ℕ
 startingWith name buffer = name ++ drop (length name) buffer
 
--- the question that failed, 0 for none
-abbrev pub refusalOf : Named → ℕ
-refusalOf (Written m) = 0
-refusalOf (Refused q) = q
+-- ---- the answer
 
--- how many bytes the name has
-abbrev pub lengthOf : Named → ℕ
-lengthOf (Written m) = m
-lengthOf (Refused q) = 0
+-- whether a name is written, the number of the question that failed or 0, and how many bytes the name has
+pub record NameNumbers : Type 0 where
+  pub accepted : Bool
+  pub refusal : ℕ
+  pub size : ℕ
+
+-- each case of the enum
+unfoldable pub nameNumbers : Named → NameNumbers
+nameNumbers (Written m) = record { accepted = true; refusal = 0; size = m }
+nameNumbers (Refused q) = record { accepted = false; refusal = q; size = 0 }
+
+-- an answer of the rules
+unfoldable pub nameNumbersOf : NameAnswer → NameNumbers
+nameNumbersOf a = record { accepted = eqb (a .refusal) 0; refusal = a .refusal; size = length (a .name) }

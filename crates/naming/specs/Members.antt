@@ -29,6 +29,11 @@ unfolding plotsWithin
 membersFit n count size tableLength familyLength nameLength lengths =
     plotsWithin n && leb count mostColumns && leb size mostMembers && leb tableCells tableLength && leb familyBytes familyLength && leb (nameBytes * size) nameLength && leb size lengths
 
+-- the question that fails where these are out of range: 6; 0 where they are in range
+abbrev pub refusal6 : Bool → ℕ
+refusal6 true = 0
+refusal6 false = 6
+
 -- the name of member i, from 0, by its kind
 unfoldable pub memberName : Rule → List ℕ → ℕ → List ℕ → List ℕ → ℕ → List ℕ
 unfolding nameOn

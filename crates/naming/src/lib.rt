@@ -5,8 +5,8 @@ ghost use mathlib.Core.Bool.{true};
 ghost use Rattle.rules.specs.Family.{membersOf};
 ghost use Rattle.rules.specs.Sheet.{question3, countKind, header};
 ghost use Rattle.rules.specs.Naming.{markOf, naming, namingWithin, namingFrom7, nameBuffer};
-ghost use Rattle.naming.specs.Answers.{kindOf, nameFor, startingWith, refusalOf, lengthOf};
-ghost use Rattle.naming.specs.Members.{membersFit, countedName, held, namesWritten, lengthsWritten, ifNamed};
+ghost use Rattle.naming.specs.Answers.{kindOf, namingCounted, nameNumbers, nameNumbersOf};
+ghost use Rattle.naming.specs.Members.{membersFit, refusal6, countedName, held, namesWritten, lengthsWritten, ifNamed};
 
 mod columns;
 mod compose;
@@ -31,7 +31,7 @@ pub enum Named {
 }
 
 // Names one member, whatever its family and whatever the first line, by the first `count` columns of the kind, as far as the buffer holds
-// the name. Answers how many bytes are written: 0 where a count or a length is out of range, or the member is not on these plots.
+// the name. 6: a count or a length is out of range, or the member is not on these plots.
 pub fn name_counted(
     text: &[u8],
     levels: &[Level],
@@ -41,21 +41,22 @@ pub fn name_counted(
     member: &[u8],
     place: usize,
     name: &mut [u8],
-) -> usize
-    ensures answer { λ r. ⌜ r ≡ length (nameFor (kindOf kind) (now (text .entry)) (now (levels .entry)) plots count (now (member .entry)) place (length (now (name .entry)))) ⌝ }
-    ensures buffer { λ _. ⌜ now (name .exit) ≡ startingWith (nameFor (kindOf kind) (now (text .entry)) (now (levels .entry)) plots count (now (member .entry)) place (length (now (name .entry)))) (now (name .entry)) ⌝ }
+) -> Named
+    ensures answer { λ r. ⌜ nameNumbers r ≡ nameNumbersOf (namingCounted (kindOf kind) (now (text .entry)) (now (levels .entry)) plots count (now (member .entry)) place (length (now (name .entry)))) ⌝ }
+    ensures buffer { λ _. ⌜ now (name .exit) ≡ nameBuffer (now (name .entry)) (namingCounted (kindOf kind) (now (text .entry)) (now (levels .entry)) plots count (now (member .entry)) place (length (now (name .entry)))) ⌝ }
 {
     if !questions::member_fits(plots, count, levels.len(), name.len(), member.len()) {
-        return 0;
+        return Named::Refused(6);
     }
     let mark = kinds::mark(kind);
     let first = kinds::first(kind);
-    compose::put_name(text, mark, levels, plots, first, count, member, place, name)
+    let m = compose::put_name(text, mark, levels, plots, first, count, member, place, name);
+    Named::Written(m)
 }
 
 // Names each of the first `size` members, whatever the family and whatever the first line, by the first `count` columns of the kind:
-// member i, from 0, from byte 96 × i on, as far as these bytes hold the name, and its length at place i. Answers whether the counts and the
-// lengths are in range.
+// member i, from 0, from byte 96 × i on, as far as these bytes hold the name, and its length at place i. Answers 0, or 6 where a count or a
+// length is out of range.
 pub fn name_members(
     text: &[u8],
     levels: &[Level],
@@ -66,8 +67,8 @@ pub fn name_members(
     size: usize,
     names: &mut [u8],
     lengths: &mut [usize],
-) -> bool
-    ensures answer { λ r. ⌜ r ≡ membersFit plots count size (length (now (levels .entry))) (length (now (family .entry))) (length (now (names .entry))) (length (now (lengths .entry))) ⌝ }
+) -> u32
+    ensures answer { λ r. ⌜ r ≡ refusal6 (membersFit plots count size (length (now (levels .entry))) (length (now (family .entry))) (length (now (names .entry))) (length (now (lengths .entry)))) ⌝ }
     ensures names { λ _. ⌜ now (names .exit) ≡ ifNamed (membersFit plots count size (length (now (levels .entry))) (length (now (family .entry))) (length (now (names .entry))) (length (now (lengths .entry)))) (namesWritten (held (countedName (kindOf kind) (now (text .entry)) plots (now (levels .entry)) count (now (family .entry)))) (now (names .entry)) size) (now (names .entry)) ⌝ }
     ensures lengths { λ _. ⌜ now (lengths .exit) ≡ ifNamed (membersFit plots count size (length (now (levels .entry))) (length (now (family .entry))) (length (now (names .entry))) (length (now (lengths .entry)))) (lengthsWritten (held (countedName (kindOf kind) (now (text .entry)) plots (now (levels .entry)) count (now (family .entry)))) (now (lengths .entry)) size) (now (lengths .entry)) ⌝ }
 {
@@ -80,7 +81,7 @@ pub fn name_members(
         names.len(),
         lengths.len(),
     ) {
-        return false;
+        return 6;
     }
     let mark = kinds::mark(kind);
     let first = kinds::first(kind);
@@ -96,7 +97,7 @@ pub fn name_members(
         names,
         lengths,
     );
-    true
+    0
 }
 
 // Names the member at a place of a family: questions 2, 3, 6, 7 and 15. A refusal writes nothing.
@@ -110,8 +111,7 @@ pub fn member_name(
     place: usize,
     name: &mut [u8],
 ) -> Named
-    ensures refusal { λ r. ⌜ refusalOf r ≡ naming (kindOf kind) (now (text .entry)) (now (levels .entry)) (now (family .entry)) plots size place (length (now (name .entry))) .refusal ⌝ }
-    ensures answer { λ r. ⌜ lengthOf r ≡ length (naming (kindOf kind) (now (text .entry)) (now (levels .entry)) (now (family .entry)) plots size place (length (now (name .entry))) .name) ⌝ }
+    ensures answer { λ r. ⌜ nameNumbers r ≡ nameNumbersOf (naming (kindOf kind) (now (text .entry)) (now (levels .entry)) (now (family .entry)) plots size place (length (now (name .entry)))) ⌝ }
     ensures buffer { λ _. ⌜ now (name .exit) ≡ nameBuffer (now (name .entry)) (naming (kindOf kind) (now (text .entry)) (now (levels .entry)) (now (family .entry)) plots size place (length (now (name .entry)))) ⌝ }
 {
     if text.len() < 1 {
@@ -145,8 +145,7 @@ fn from_7(
     name: &mut [u8],
 ) -> Named
     requires { ⌜ (question3 (now text) ≡ true) × (namingWithin plots size place (length (now levels)) (length (now family)) (length (now name)) ≡ true) × (count ≡ countKind (markOf (kindOf kind)) (header (now text))) ⌝ }
-    ensures refusal { λ r. ⌜ refusalOf r ≡ namingFrom7 (kindOf kind) (now (text .entry)) plots (now (levels .entry)) (membersOf plots (now (family .entry)) size) place .refusal ⌝ }
-    ensures answer { λ r. ⌜ lengthOf r ≡ length (namingFrom7 (kindOf kind) (now (text .entry)) plots (now (levels .entry)) (membersOf plots (now (family .entry)) size) place .name) ⌝ }
+    ensures answer { λ r. ⌜ nameNumbers r ≡ nameNumbersOf (namingFrom7 (kindOf kind) (now (text .entry)) plots (now (levels .entry)) (membersOf plots (now (family .entry)) size) place) ⌝ }
     ensures buffer { λ _. ⌜ now (name .exit) ≡ nameBuffer (now (name .entry)) (namingFrom7 (kindOf kind) (now (text .entry)) plots (now (levels .entry)) (membersOf plots (now (family .entry)) size) place) ⌝ }
 {
     let first = kinds::first(kind);
@@ -158,6 +157,5 @@ fn from_7(
     }
     let a = PLOTS * (place - 1);
     let e = a + plots;
-    let m = name_counted(text, levels, plots, kind, count, &family[a..e], place, name);
-    Named::Written(m)
+    name_counted(text, levels, plots, kind, count, &family[a..e], place, name)
 }

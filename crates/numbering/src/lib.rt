@@ -3,10 +3,12 @@
 ghost use mathlib.Core.Path.{_≡_};
 ghost use Prim.Native.Nat.{ℕ, _+_, _≤_, _<_};
 ghost use lib.ListN.{length};
+ghost use Rattle.rules.specs.Limits.{mostPlots};
 ghost use Rattle.rules.specs.Factor.{at, number, classes};
 ghost use Rattle.factor.specs.Lent.{plotsOf, overlay};
 ghost use Rattle.numbering.specs.Seen.{bucketOf, lookUp, Descends, Chained, Entered};
 use factor::common_plots;
+use limits::HIGHEST;
 use limits::Level;
 use limits::PLOTS;
 
@@ -30,7 +32,7 @@ fn bucket(x: Level) -> usize
 
 // The class labelled `x` among those chained from `start`, or 0.
 fn look_up(labels: &[Level; NUMBERS], chain: &[u8; NUMBERS], start: usize, x: Level) -> usize
-    requires { ⌜ (start ≤ 240) × Descends (now chain) start ⌝ }
+    requires { ⌜ (start ≤ mostPlots) × Descends (now chain) start ⌝ }
     ensures { λ r. ⌜ r ≡ lookUp (now (labels .entry)) (now (chain .entry)) x 241 start ⌝ }
 {
     let mut c = start;
@@ -52,7 +54,7 @@ fn entered(
     k: usize,
     x: Level,
 ) -> usize
-    requires { ⌜ (k < 240) × Chained (now labels) (now chain) (now last) k ⌝ }
+    requires { ⌜ (k < mostPlots) × Chained (now labels) (now chain) (now last) k ⌝ }
     ensures { λ r. ⌜ Entered (now (labels .entry)) (now (chain .entry)) (now (last .entry)) k x (now (labels .exit)) (now (chain .exit)) (now (last .exit)) r ⌝ }
 {
     let b = bucket(x);
@@ -85,7 +87,7 @@ pub fn number_levels(levels: &[Level], out: &mut [u8; PLOTS]) -> usize
 fn least(levels: &[Level]) -> Level
     ensures { λ r. ⌜ ((u : ℕ) → u < length (now (levels .entry)) → r ≤ at (now (levels .entry)) u) ⌝ }
 {
-    let mut low: Level = 65535;
+    let mut low: Level = HIGHEST;
     for u in 0..levels.len() {
         let x = levels[u];
         if x < low {
@@ -111,7 +113,7 @@ fn largest(levels: &[Level]) -> Level
 
 // `number_levels` where the labels lie near to each other, from `low` on: a table has the number of each label.
 fn number_near(levels: &[Level], low: Level, out: &mut [u8; PLOTS]) -> usize
-    requires { ⌜ (length (now levels) ≤ 240) × ((u : ℕ) → u < length (now levels) → low ≤ at (now levels) u) × ((u : ℕ) → u < length (now levels) → at (now levels) u < low + 256) ⌝ }
+    requires { ⌜ (length (now levels) ≤ mostPlots) × ((u : ℕ) → u < length (now levels) → low ≤ at (now levels) u) × ((u : ℕ) → u < length (now levels) → at (now levels) u < low + 256) ⌝ }
     ensures answer { λ r. ⌜ r ≡ classes (now (levels .entry)) ⌝ }
     ensures numbers { λ _. ⌜ now (out .exit) ≡ overlay (now (out .entry)) (number (now (levels .entry))) ⌝ }
 {

@@ -18,22 +18,22 @@ use Rattle.rules.specs.Trials.{Trial, treats, observed}
 
 pub data FurtherTrial : Type 0 where
   -- a trial as in Trials
-  planned : Trial → FurtherTrial
+  plans : Trial → FurtherTrial
   -- plots, the members in the buffer, the size asked about; the answer
-  related : ℕ → Family → ℕ → RelationAnswer → FurtherTrial
-  freed : ℕ → Family → ℕ → DegreesAnswer → FurtherTrial
+  relates : ℕ → Family → ℕ → RelationAnswer → FurtherTrial
+  subtracts : ℕ → Family → ℕ → DegreesAnswer → FurtherTrial
   -- plots, the members in both buffers; the answer
-  allotted : ℕ → Family → Family → StrataAnswer → FurtherTrial
+  allots : ℕ → Family → Family → StrataAnswer → FurtherTrial
   -- the kind, the text, plots, plot and treatment columns of the level table, the members in the buffer, the place asked about; the answer
-  named : Kind → List ℕ → ℕ → List Column → List Column → Family → ℕ → NameAnswer → FurtherTrial
-  -- the lengths of level table, family buffer and name buffer; the number answered for the same text, columns, members and place 2
-  fitted : ℕ → ℕ → ℕ → ℕ → FurtherTrial
+  namesMember : Kind → List ℕ → ℕ → List Column → List Column → Family → ℕ → NameAnswer → FurtherTrial
+  -- the lengths of level table, family buffer and name buffer; the number answered for the text `twoAndTwo`, the columns and members beside it, place 2
+  fits : ℕ → ℕ → ℕ → ℕ → FurtherTrial
   -- a signed number; its bytes
-  shown : ℤ → List ℕ → FurtherTrial
+  writes : ℤ → List ℕ → FurtherTrial
   -- the text, the cells of the level table; the answer of the reader
-  heard : List ℕ → ℕ → Outcome → FurtherTrial
+  reads : List ℕ → ℕ → Outcome → FurtherTrial
   -- a sheet; its whole output
-  printed : List ℕ → List ℕ → FurtherTrial
+  prints : List ℕ → List ℕ → FurtherTrial
 
 -- ---- families
 
@@ -219,98 +219,98 @@ unfoldable pub furtherTrials : List FurtherTrial
 unfolding filled filledSigned
 furtherTrials =
     -- plot 1,1,1,1,2,2,2,2, treatments 1,1,2,2,1,1,2,2 and 1,2,1,2,1,2,1,2: both and their infimum stand in the stratum E, whose residual is 6 − 3
-    planned (treats 8 (fours ∷ []) (twos ∷ alternate ∷ []) (1 ∷ 2 ∷ 2 ∷ 4 ∷ []) (1 ∷ 3 ∷ 3 ∷ 3 ∷ []) (pos 0 ∷ pos 1 ∷ pos 3 ∷ []))
+    plans (treats 8 (fours ∷ []) (twos ∷ alternate ∷ []) (1 ∷ 2 ∷ 2 ∷ 4 ∷ []) (1 ∷ 3 ∷ 3 ∷ 3 ∷ []) (pos 0 ∷ pos 1 ∷ pos 3 ∷ []))
     -- the relation: U stands directly above both columns, these directly above E
-    ∷ related 4 square 4 (record { refusal = 0; size = 4; coarser = filled (0 ∷ 1 ∷ 1 ∷ 7 ∷ []); direct = filled (0 ∷ 1 ∷ 1 ∷ 6 ∷ []); counts = filled (0 ∷ 1 ∷ 1 ∷ 2 ∷ []) })
+    ∷ relates 4 square 4 (record { refusal = 0; size = 4; coarser = filled (0 ∷ 1 ∷ 1 ∷ 7 ∷ []); direct = filled (0 ∷ 1 ∷ 1 ∷ 6 ∷ []); counts = filled (0 ∷ 1 ∷ 1 ∷ 2 ∷ []) })
     -- no plots; no members
-    ∷ related 0 square 4 (record { refusal = 6; size = 0; coarser = filled []; direct = filled []; counts = filled [] })
-    ∷ related 4 square 0 (record { refusal = 15; size = 0; coarser = filled []; direct = filled []; counts = filled [] })
+    ∷ relates 0 square 4 (record { refusal = 6; size = 0; coarser = filled []; direct = filled []; counts = filled [] })
+    ∷ relates 4 square 0 (record { refusal = 15; size = 0; coarser = filled []; direct = filled []; counts = filled [] })
     -- degrees of freedom: 4 less 1, 1 and 1; 4 less 2, 2 and 2, where the family is not closed
-    ∷ freed 4 square 4 (record { refusal = 0; degrees = filledSigned (pos 1 ∷ pos 1 ∷ pos 1 ∷ pos 1 ∷ []) })
-    ∷ freed 4 (halves ∷ turns ∷ ends ∷ each ∷ []) 4 (record { refusal = 0; degrees = filledSigned (pos 2 ∷ pos 2 ∷ pos 2 ∷ negsuc 1 ∷ []) })
-    ∷ freed 0 square 4 (record { refusal = 6; degrees = filledSigned [] })
-    ∷ freed 4 square 0 (record { refusal = 15; degrees = filledSigned [] })
+    ∷ subtracts 4 square 4 (record { refusal = 0; degrees = filledSigned (pos 1 ∷ pos 1 ∷ pos 1 ∷ pos 1 ∷ []) })
+    ∷ subtracts 4 (halves ∷ turns ∷ ends ∷ each ∷ []) 4 (record { refusal = 0; degrees = filledSigned (pos 2 ∷ pos 2 ∷ pos 2 ∷ negsuc 1 ∷ []) })
+    ∷ subtracts 0 square 4 (record { refusal = 6; degrees = filledSigned [] })
+    ∷ subtracts 4 square 0 (record { refusal = 15; degrees = filledSigned [] })
     -- strata: beside U and E both treatment columns are in E; beside U alone a column has none
-    ∷ allotted 4 (one ∷ each ∷ []) (one ∷ halves ∷ turns ∷ []) (record { refusal = 0; places = filled (1 ∷ 2 ∷ 2 ∷ []); residuals = filledSigned (pos 0 ∷ pos 1 ∷ []) })
-    ∷ allotted 0 square square (record { refusal = 6; places = filled []; residuals = filledSigned [] })
-    ∷ allotted 4 square (halves ∷ one ∷ []) (record { refusal = 15; places = filled []; residuals = filledSigned [] })
-    ∷ allotted 4 (halves ∷ one ∷ []) square (record { refusal = 15; places = filled []; residuals = filledSigned [] })
-    ∷ allotted 4 (one ∷ []) (one ∷ halves ∷ []) (record { refusal = 16; places = filled []; residuals = filledSigned [] })
+    ∷ allots 4 (one ∷ each ∷ []) (one ∷ halves ∷ turns ∷ []) (record { refusal = 0; places = filled (1 ∷ 2 ∷ 2 ∷ []); residuals = filledSigned (pos 0 ∷ pos 1 ∷ []) })
+    ∷ allots 0 square square (record { refusal = 6; places = filled []; residuals = filledSigned [] })
+    ∷ allots 4 square (halves ∷ one ∷ []) (record { refusal = 15; places = filled []; residuals = filledSigned [] })
+    ∷ allots 4 (halves ∷ one ∷ []) square (record { refusal = 15; places = filled []; residuals = filledSigned [] })
+    ∷ allots 4 (one ∷ []) (one ∷ halves ∷ []) (record { refusal = 16; places = filled []; residuals = filledSigned [] })
     -- names: the infimum of both plot columns, which is the second treatment column
-    ∷ named plot twoAndTwo 8 hutAndBay gainAndRow oneAndPairs 2 (record { refusal = 0; name = infimumName })
-    ∷ named treatment twoAndTwo 8 hutAndBay gainAndRow oneAndPairs 2 (record { refusal = 0; name = rowName })
+    ∷ namesMember plot twoAndTwo 8 hutAndBay gainAndRow oneAndPairs 2 (record { refusal = 0; name = infimumName })
+    ∷ namesMember treatment twoAndTwo 8 hutAndBay gainAndRow oneAndPairs 2 (record { refusal = 0; name = rowName })
     -- the same with a column of one class before them and one equivalent to the first after them, which are not named
-    ∷ named plot fourPlots 8 (oneOfEight ∷ fours ∷ twos ∷ (2 ∷ 2 ∷ 2 ∷ 2 ∷ 1 ∷ 1 ∷ 1 ∷ 1 ∷ []) ∷ []) [] oneAndPairs 2 (record { refusal = 0; name = infimumName })
+    ∷ namesMember plot fourPlots 8 (oneOfEight ∷ fours ∷ twos ∷ (2 ∷ 2 ∷ 2 ∷ 2 ∷ 1 ∷ 1 ∷ 1 ∷ 1 ∷ []) ∷ []) [] oneAndPairs 2 (record { refusal = 0; name = infimumName })
     -- no text; a first line that is not ended; no place 0 and no place 3; a missing level of its own kind; members out of order
-    ∷ named plot [] 8 hutAndBay gainAndRow oneAndPairs 2 (record { refusal = 2; name = [] })
-    ∷ named plot (112 ∷ 58 ∷ 72 ∷ 117 ∷ 116 ∷ []) 8 hutAndBay gainAndRow oneAndPairs 2 (record { refusal = 3; name = [] })
-    ∷ named plot twoAndTwo 8 hutAndBay gainAndRow oneAndPairs 0 (record { refusal = 6; name = [] })
-    ∷ named plot twoAndTwo 8 hutAndBay gainAndRow oneAndPairs 3 (record { refusal = 6; name = [] })
-    ∷ named plot twoAndTwo 8 (fours ∷ []) gainAndRow oneAndPairs 2 (record { refusal = 7; name = [] })
-    ∷ named treatment twoAndTwo 8 (fours ∷ []) gainAndRow oneAndPairs 2 (record { refusal = 0; name = rowName })
-    ∷ named plot twoAndTwo 8 hutAndBay gainAndRow (pairsOfEight ∷ oneOfEight ∷ []) 2 (record { refusal = 15; name = [] })
+    ∷ namesMember plot [] 8 hutAndBay gainAndRow oneAndPairs 2 (record { refusal = 2; name = [] })
+    ∷ namesMember plot (112 ∷ 58 ∷ 72 ∷ 117 ∷ 116 ∷ []) 8 hutAndBay gainAndRow oneAndPairs 2 (record { refusal = 3; name = [] })
+    ∷ namesMember plot twoAndTwo 8 hutAndBay gainAndRow oneAndPairs 0 (record { refusal = 6; name = [] })
+    ∷ namesMember plot twoAndTwo 8 hutAndBay gainAndRow oneAndPairs 3 (record { refusal = 6; name = [] })
+    ∷ namesMember plot twoAndTwo 8 (fours ∷ []) gainAndRow oneAndPairs 2 (record { refusal = 7; name = [] })
+    ∷ namesMember treatment twoAndTwo 8 (fours ∷ []) gainAndRow oneAndPairs 2 (record { refusal = 0; name = rowName })
+    ∷ namesMember plot twoAndTwo 8 hutAndBay gainAndRow (pairsOfEight ∷ oneOfEight ∷ []) 2 (record { refusal = 15; name = [] })
     -- no plots; a level table, a family buffer and a name buffer that are long enough, and one number shorter each
-    ∷ named plot twoAndTwo 0 hutAndBay gainAndRow oneAndPairs 2 (record { refusal = 6; name = [] })
-    ∷ fitted 2880 7680 96 0
-    ∷ fitted 2879 7680 96 6
-    ∷ fitted 2880 7679 96 6
-    ∷ fitted 2880 7680 95 6
+    ∷ namesMember plot twoAndTwo 0 hutAndBay gainAndRow oneAndPairs 2 (record { refusal = 6; name = [] })
+    ∷ fits 2880 7680 96 0
+    ∷ fits 2879 7680 96 6
+    ∷ fits 2880 7679 96 6
+    ∷ fits 2880 7680 95 6
     -- a level table of 2,879 numbers; no text
-    ∷ heard (112 ∷ 58 ∷ 65 ∷ 98 ∷ []) 2879 (refused 1)
-    ∷ heard [] tableCells (refused 2)
+    ∷ reads (112 ∷ 58 ∷ 65 ∷ 98 ∷ []) 2879 (refused 1)
+    ∷ reads [] tableCells (refused 2)
     -- first lines that are refused: an empty one, `p:Ab` without byte 10, `p`, `p:`, `p:A`, `q:Ab`, `p;Ab`, `p:0b`, `p:A/`, `p:A:`, `p:A@`, `p:A[`, `p:A``, `p:A{`, `p:Abcdefghijklm`, `p:Ab→t:Ab`, `p:Ab→`
-    ∷ heard (10 ∷ []) tableCells (refused 3)
-    ∷ heard (112 ∷ 58 ∷ 65 ∷ 98 ∷ []) tableCells (refused 3)
-    ∷ heard (112 ∷ 10 ∷ []) tableCells (refused 3)
-    ∷ heard (112 ∷ 58 ∷ 10 ∷ []) tableCells (refused 3)
-    ∷ heard (112 ∷ 58 ∷ 65 ∷ 10 ∷ []) tableCells (refused 3)
-    ∷ heard (113 ∷ 58 ∷ 65 ∷ 98 ∷ 10 ∷ []) tableCells (refused 3)
-    ∷ heard (112 ∷ 59 ∷ 65 ∷ 98 ∷ 10 ∷ []) tableCells (refused 3)
-    ∷ heard (112 ∷ 58 ∷ 48 ∷ 98 ∷ 10 ∷ []) tableCells (refused 3)
-    ∷ heard (112 ∷ 58 ∷ 65 ∷ 47 ∷ 10 ∷ []) tableCells (refused 3)
-    ∷ heard (112 ∷ 58 ∷ 65 ∷ 58 ∷ 10 ∷ []) tableCells (refused 3)
-    ∷ heard (112 ∷ 58 ∷ 65 ∷ 64 ∷ 10 ∷ []) tableCells (refused 3)
-    ∷ heard (112 ∷ 58 ∷ 65 ∷ 91 ∷ 10 ∷ []) tableCells (refused 3)
-    ∷ heard (112 ∷ 58 ∷ 65 ∷ 96 ∷ 10 ∷ []) tableCells (refused 3)
-    ∷ heard (112 ∷ 58 ∷ 65 ∷ 123 ∷ 10 ∷ []) tableCells (refused 3)
-    ∷ heard (112 ∷ 58 ∷ 65 ∷ 98 ∷ 99 ∷ 100 ∷ 101 ∷ 102 ∷ 103 ∷ 104 ∷ 105 ∷ 106 ∷ 107 ∷ 108 ∷ 109 ∷ 10 ∷ []) tableCells (refused 3)
-    ∷ heard (112 ∷ 58 ∷ 65 ∷ 98 ∷ 9 ∷ 116 ∷ 58 ∷ 65 ∷ 98 ∷ 10 ∷ []) tableCells (refused 3)
-    ∷ heard (112 ∷ 58 ∷ 65 ∷ 98 ∷ 9 ∷ 10 ∷ []) tableCells (refused 3)
+    ∷ reads (10 ∷ []) tableCells (refused 3)
+    ∷ reads (112 ∷ 58 ∷ 65 ∷ 98 ∷ []) tableCells (refused 3)
+    ∷ reads (112 ∷ 10 ∷ []) tableCells (refused 3)
+    ∷ reads (112 ∷ 58 ∷ 10 ∷ []) tableCells (refused 3)
+    ∷ reads (112 ∷ 58 ∷ 65 ∷ 10 ∷ []) tableCells (refused 3)
+    ∷ reads (113 ∷ 58 ∷ 65 ∷ 98 ∷ 10 ∷ []) tableCells (refused 3)
+    ∷ reads (112 ∷ 59 ∷ 65 ∷ 98 ∷ 10 ∷ []) tableCells (refused 3)
+    ∷ reads (112 ∷ 58 ∷ 48 ∷ 98 ∷ 10 ∷ []) tableCells (refused 3)
+    ∷ reads (112 ∷ 58 ∷ 65 ∷ 47 ∷ 10 ∷ []) tableCells (refused 3)
+    ∷ reads (112 ∷ 58 ∷ 65 ∷ 58 ∷ 10 ∷ []) tableCells (refused 3)
+    ∷ reads (112 ∷ 58 ∷ 65 ∷ 64 ∷ 10 ∷ []) tableCells (refused 3)
+    ∷ reads (112 ∷ 58 ∷ 65 ∷ 91 ∷ 10 ∷ []) tableCells (refused 3)
+    ∷ reads (112 ∷ 58 ∷ 65 ∷ 96 ∷ 10 ∷ []) tableCells (refused 3)
+    ∷ reads (112 ∷ 58 ∷ 65 ∷ 123 ∷ 10 ∷ []) tableCells (refused 3)
+    ∷ reads (112 ∷ 58 ∷ 65 ∷ 98 ∷ 99 ∷ 100 ∷ 101 ∷ 102 ∷ 103 ∷ 104 ∷ 105 ∷ 106 ∷ 107 ∷ 108 ∷ 109 ∷ 10 ∷ []) tableCells (refused 3)
+    ∷ reads (112 ∷ 58 ∷ 65 ∷ 98 ∷ 9 ∷ 116 ∷ 58 ∷ 65 ∷ 98 ∷ 10 ∷ []) tableCells (refused 3)
+    ∷ reads (112 ∷ 58 ∷ 65 ∷ 98 ∷ 9 ∷ 10 ∷ []) tableCells (refused 3)
     -- first lines that are not, on sheets without plots: `p:AZ`, `t:Zaz09`, `p:zA`, `t:Abcdefghijkl`, `p:Ab→t:Ac→p:Abc`
-    ∷ heard (112 ∷ 58 ∷ 65 ∷ 90 ∷ 10 ∷ []) tableCells (refused 5)
-    ∷ heard (116 ∷ 58 ∷ 90 ∷ 97 ∷ 122 ∷ 48 ∷ 57 ∷ 10 ∷ []) tableCells (refused 5)
-    ∷ heard (112 ∷ 58 ∷ 122 ∷ 65 ∷ 10 ∷ []) tableCells (refused 5)
-    ∷ heard (116 ∷ 58 ∷ 65 ∷ 98 ∷ 99 ∷ 100 ∷ 101 ∷ 102 ∷ 103 ∷ 104 ∷ 105 ∷ 106 ∷ 107 ∷ 108 ∷ 10 ∷ []) tableCells (refused 5)
-    ∷ heard (112 ∷ 58 ∷ 65 ∷ 98 ∷ 9 ∷ 116 ∷ 58 ∷ 65 ∷ 99 ∷ 9 ∷ 112 ∷ 58 ∷ 65 ∷ 98 ∷ 99 ∷ 10 ∷ []) tableCells (refused 5)
+    ∷ reads (112 ∷ 58 ∷ 65 ∷ 90 ∷ 10 ∷ []) tableCells (refused 5)
+    ∷ reads (116 ∷ 58 ∷ 90 ∷ 97 ∷ 122 ∷ 48 ∷ 57 ∷ 10 ∷ []) tableCells (refused 5)
+    ∷ reads (112 ∷ 58 ∷ 122 ∷ 65 ∷ 10 ∷ []) tableCells (refused 5)
+    ∷ reads (116 ∷ 58 ∷ 65 ∷ 98 ∷ 99 ∷ 100 ∷ 101 ∷ 102 ∷ 103 ∷ 104 ∷ 105 ∷ 106 ∷ 107 ∷ 108 ∷ 10 ∷ []) tableCells (refused 5)
+    ∷ reads (112 ∷ 58 ∷ 65 ∷ 98 ∷ 9 ∷ 116 ∷ 58 ∷ 65 ∷ 99 ∷ 9 ∷ 112 ∷ 58 ∷ 65 ∷ 98 ∷ 99 ∷ 10 ∷ []) tableCells (refused 5)
     -- six columns of each kind; seven of one
-    ∷ heard (112 ∷ 58 ∷ 65 ∷ 48 ∷ 9 ∷ 112 ∷ 58 ∷ 65 ∷ 49 ∷ 9 ∷ 112 ∷ 58 ∷ 65 ∷ 50 ∷ 9 ∷ 112 ∷ 58 ∷ 65 ∷ 51 ∷ 9 ∷ 112 ∷ 58 ∷ 65 ∷ 52 ∷ 9 ∷ 112 ∷ 58 ∷ 65 ∷ 53 ∷ 9 ∷ 116 ∷ 58 ∷ 66 ∷ 48 ∷ 9 ∷ 116 ∷ 58 ∷ 66 ∷ 49 ∷ 9 ∷ 116 ∷ 58 ∷ 66 ∷ 50 ∷ 9 ∷ 116 ∷ 58 ∷ 66 ∷ 51 ∷ 9 ∷ 116 ∷ 58 ∷ 66 ∷ 52 ∷ 9 ∷ 116 ∷ 58 ∷ 66 ∷ 53 ∷ 10 ∷ []) tableCells (refused 5)
-    ∷ heard (112 ∷ 58 ∷ 65 ∷ 48 ∷ 9 ∷ 112 ∷ 58 ∷ 65 ∷ 49 ∷ 9 ∷ 112 ∷ 58 ∷ 65 ∷ 50 ∷ 9 ∷ 112 ∷ 58 ∷ 65 ∷ 51 ∷ 9 ∷ 112 ∷ 58 ∷ 65 ∷ 52 ∷ 9 ∷ 112 ∷ 58 ∷ 65 ∷ 53 ∷ 9 ∷ 112 ∷ 58 ∷ 65 ∷ 54 ∷ 10 ∷ []) tableCells (refused 3)
-    ∷ heard (116 ∷ 58 ∷ 66 ∷ 48 ∷ 9 ∷ 116 ∷ 58 ∷ 66 ∷ 49 ∷ 9 ∷ 116 ∷ 58 ∷ 66 ∷ 50 ∷ 9 ∷ 116 ∷ 58 ∷ 66 ∷ 51 ∷ 9 ∷ 116 ∷ 58 ∷ 66 ∷ 52 ∷ 9 ∷ 116 ∷ 58 ∷ 66 ∷ 53 ∷ 9 ∷ 116 ∷ 58 ∷ 66 ∷ 54 ∷ 10 ∷ []) tableCells (refused 3)
+    ∷ reads (112 ∷ 58 ∷ 65 ∷ 48 ∷ 9 ∷ 112 ∷ 58 ∷ 65 ∷ 49 ∷ 9 ∷ 112 ∷ 58 ∷ 65 ∷ 50 ∷ 9 ∷ 112 ∷ 58 ∷ 65 ∷ 51 ∷ 9 ∷ 112 ∷ 58 ∷ 65 ∷ 52 ∷ 9 ∷ 112 ∷ 58 ∷ 65 ∷ 53 ∷ 9 ∷ 116 ∷ 58 ∷ 66 ∷ 48 ∷ 9 ∷ 116 ∷ 58 ∷ 66 ∷ 49 ∷ 9 ∷ 116 ∷ 58 ∷ 66 ∷ 50 ∷ 9 ∷ 116 ∷ 58 ∷ 66 ∷ 51 ∷ 9 ∷ 116 ∷ 58 ∷ 66 ∷ 52 ∷ 9 ∷ 116 ∷ 58 ∷ 66 ∷ 53 ∷ 10 ∷ []) tableCells (refused 5)
+    ∷ reads (112 ∷ 58 ∷ 65 ∷ 48 ∷ 9 ∷ 112 ∷ 58 ∷ 65 ∷ 49 ∷ 9 ∷ 112 ∷ 58 ∷ 65 ∷ 50 ∷ 9 ∷ 112 ∷ 58 ∷ 65 ∷ 51 ∷ 9 ∷ 112 ∷ 58 ∷ 65 ∷ 52 ∷ 9 ∷ 112 ∷ 58 ∷ 65 ∷ 53 ∷ 9 ∷ 112 ∷ 58 ∷ 65 ∷ 54 ∷ 10 ∷ []) tableCells (refused 3)
+    ∷ reads (116 ∷ 58 ∷ 66 ∷ 48 ∷ 9 ∷ 116 ∷ 58 ∷ 66 ∷ 49 ∷ 9 ∷ 116 ∷ 58 ∷ 66 ∷ 50 ∷ 9 ∷ 116 ∷ 58 ∷ 66 ∷ 51 ∷ 9 ∷ 116 ∷ 58 ∷ 66 ∷ 52 ∷ 9 ∷ 116 ∷ 58 ∷ 66 ∷ 53 ∷ 9 ∷ 116 ∷ 58 ∷ 66 ∷ 54 ∷ 10 ∷ []) tableCells (refused 3)
     -- later lines that are refused: `1` without byte 10, an empty one, `0`, `01`, `1→1`, `/1`, `1:`, `65536`
-    ∷ heard (112 ∷ 58 ∷ 65 ∷ 98 ∷ 10 ∷ 49 ∷ []) tableCells (refused 4)
-    ∷ heard (112 ∷ 58 ∷ 65 ∷ 98 ∷ 10 ∷ 10 ∷ []) tableCells (refused 4)
-    ∷ heard (112 ∷ 58 ∷ 65 ∷ 98 ∷ 10 ∷ 48 ∷ 10 ∷ []) tableCells (refused 4)
-    ∷ heard (112 ∷ 58 ∷ 65 ∷ 98 ∷ 10 ∷ 48 ∷ 49 ∷ 10 ∷ []) tableCells (refused 4)
-    ∷ heard (112 ∷ 58 ∷ 65 ∷ 98 ∷ 10 ∷ 49 ∷ 9 ∷ 49 ∷ 10 ∷ []) tableCells (refused 4)
-    ∷ heard (112 ∷ 58 ∷ 65 ∷ 98 ∷ 10 ∷ 47 ∷ 49 ∷ 10 ∷ []) tableCells (refused 4)
-    ∷ heard (112 ∷ 58 ∷ 65 ∷ 98 ∷ 10 ∷ 49 ∷ 58 ∷ 10 ∷ []) tableCells (refused 4)
-    ∷ heard (112 ∷ 58 ∷ 65 ∷ 98 ∷ 10 ∷ 54 ∷ 53 ∷ 53 ∷ 51 ∷ 54 ∷ 10 ∷ []) tableCells (refused 4)
+    ∷ reads (112 ∷ 58 ∷ 65 ∷ 98 ∷ 10 ∷ 49 ∷ []) tableCells (refused 4)
+    ∷ reads (112 ∷ 58 ∷ 65 ∷ 98 ∷ 10 ∷ 10 ∷ []) tableCells (refused 4)
+    ∷ reads (112 ∷ 58 ∷ 65 ∷ 98 ∷ 10 ∷ 48 ∷ 10 ∷ []) tableCells (refused 4)
+    ∷ reads (112 ∷ 58 ∷ 65 ∷ 98 ∷ 10 ∷ 48 ∷ 49 ∷ 10 ∷ []) tableCells (refused 4)
+    ∷ reads (112 ∷ 58 ∷ 65 ∷ 98 ∷ 10 ∷ 49 ∷ 9 ∷ 49 ∷ 10 ∷ []) tableCells (refused 4)
+    ∷ reads (112 ∷ 58 ∷ 65 ∷ 98 ∷ 10 ∷ 47 ∷ 49 ∷ 10 ∷ []) tableCells (refused 4)
+    ∷ reads (112 ∷ 58 ∷ 65 ∷ 98 ∷ 10 ∷ 49 ∷ 58 ∷ 10 ∷ []) tableCells (refused 4)
+    ∷ reads (112 ∷ 58 ∷ 65 ∷ 98 ∷ 10 ∷ 54 ∷ 53 ∷ 53 ∷ 51 ∷ 54 ∷ 10 ∷ []) tableCells (refused 4)
     -- later lines that are not: `1`, `10`, `9`, `65535`
-    ∷ heard (112 ∷ 58 ∷ 65 ∷ 98 ∷ 10 ∷ 49 ∷ 10 ∷ 49 ∷ 48 ∷ 10 ∷ 57 ∷ 10 ∷ 54 ∷ 53 ∷ 53 ∷ 51 ∷ 53 ∷ 10 ∷ []) tableCells (read 4 1 0)
+    ∷ reads (112 ∷ 58 ∷ 65 ∷ 98 ∷ 10 ∷ 49 ∷ 10 ∷ 49 ∷ 48 ∷ 10 ∷ 57 ∷ 10 ∷ 54 ∷ 53 ∷ 53 ∷ 51 ∷ 53 ∷ 10 ∷ []) tableCells (read 4 1 0)
     -- two treatment columns, one plot column
-    ∷ heard (116 ∷ 58 ∷ 65 ∷ 98 ∷ 9 ∷ 112 ∷ 58 ∷ 65 ∷ 99 ∷ 9 ∷ 116 ∷ 58 ∷ 65 ∷ 100 ∷ 10 ∷ 49 ∷ 9 ∷ 49 ∷ 9 ∷ 49 ∷ 10 ∷ []) tableCells (read 1 1 2)
+    ∷ reads (116 ∷ 58 ∷ 65 ∷ 98 ∷ 9 ∷ 112 ∷ 58 ∷ 65 ∷ 99 ∷ 9 ∷ 116 ∷ 58 ∷ 65 ∷ 100 ∷ 10 ∷ 49 ∷ 9 ∷ 49 ∷ 9 ∷ 49 ∷ 10 ∷ []) tableCells (read 1 1 2)
     -- sheets that are refused, with the names of the places
-    ∷ printed (112 ∷ []) (114 ∷ 101 ∷ 102 ∷ 117 ∷ 115 ∷ 101 ∷ 100 ∷ 9 ∷ 51 ∷ 9 ∷ 45 ∷ 9 ∷ 45 ∷ 10 ∷ [])
-    ∷ printed unevenSheet unevenTable
-    ∷ printed crossedSheet crossedTable
-    ∷ printed treatedSheet treatedTable
-    ∷ printed mixedSheet mixedTable
+    ∷ prints (112 ∷ []) (114 ∷ 101 ∷ 102 ∷ 117 ∷ 115 ∷ 101 ∷ 100 ∷ 9 ∷ 51 ∷ 9 ∷ 45 ∷ 9 ∷ 45 ∷ 10 ∷ [])
+    ∷ prints unevenSheet unevenTable
+    ∷ prints crossedSheet crossedTable
+    ∷ prints treatedSheet treatedTable
+    ∷ prints mixedSheet mixedTable
     -- a sheet that is accepted
-    ∷ printed fullSheet fullTable
+    ∷ prints fullSheet fullTable
     -- signed numbers: `0`, `-2`, `-10`
-    ∷ shown (pos 0) (48 ∷ [])
-    ∷ shown (negsuc 1) (45 ∷ 50 ∷ [])
-    ∷ shown (negsuc 9) (45 ∷ 49 ∷ 48 ∷ [])
+    ∷ writes (pos 0) (48 ∷ [])
+    ∷ writes (negsuc 1) (45 ∷ 50 ∷ [])
+    ∷ writes (negsuc 9) (45 ∷ 49 ∷ 48 ∷ [])
     ∷ []
 
 -- ---- what the rules give them
@@ -326,15 +326,15 @@ inTable cells Fs Ts = written (written (replicate cells 0) 0 Fs) mostColumns Ts
 
 unfoldable pub seen : FurtherTrial → FurtherTrial
 unfolding observed inBuffer inTable relation degreesOfFreedom strata naming reading tableText signed
-seen (planned t) = planned (observed t)
-seen (related n S m a) = related n S m (relation n (inBuffer familyBytes S) m)
-seen (freed n S m a) = freed n S m (degreesOfFreedom n (inBuffer familyBytes S) m)
-seen (allotted n P R a) = allotted n P R (strata n (inBuffer familyBytes P) (length P) (inBuffer familyBytes R) (length R))
-seen (named kind text n Fs Ts S i a) = named kind text n Fs Ts S i (naming kind text (inTable tableCells Fs Ts) (inBuffer familyBytes S) n (length S) i nameBytes)
-seen (fitted cells bytes room q) = fitted cells bytes room (naming plot twoAndTwo (inTable cells hutAndBay gainAndRow) (inBuffer bytes oneAndPairs) 8 2 2 room .refusal)
-seen (shown z w) = shown z (signed z)
-seen (heard text cells o) = heard text cells (reading text (replicate cells 0))
-seen (printed text out) = printed text (tableText text)
+seen (plans t) = plans (observed t)
+seen (relates n S m a) = relates n S m (relation n (inBuffer familyBytes S) m)
+seen (subtracts n S m a) = subtracts n S m (degreesOfFreedom n (inBuffer familyBytes S) m)
+seen (allots n P R a) = allots n P R (strata n (inBuffer familyBytes P) (length P) (inBuffer familyBytes R) (length R))
+seen (namesMember kind text n Fs Ts S i a) = namesMember kind text n Fs Ts S i (naming kind text (inTable tableCells Fs Ts) (inBuffer familyBytes S) n (length S) i nameBytes)
+seen (fits cells bytes room q) = fits cells bytes room (naming plot twoAndTwo (inTable cells hutAndBay gainAndRow) (inBuffer bytes oneAndPairs) 8 2 2 room .refusal)
+seen (writes z w) = writes z (signed z)
+seen (reads text cells o) = reads text cells (reading text (replicate cells 0))
+seen (prints text out) = prints text (tableText text)
 
 -- each trial has the outcome stated
 pub further-trials-hold : map seen furtherTrials ≡ furtherTrials

@@ -210,7 +210,7 @@ module _ (text : List ℕ) (at E r : ℕ) where
 -- ---- all lines
 
 -- the first line, and the others
-lines-turn : (text : List ℕ) (at : ℕ) → at < length text
+pub lines-turn : (text : List ℕ) (at : ℕ) → at < length text
     → lines (drop at text) ≡ record { bytes = upTo 10 (drop at text); ended = has 10 (drop at text) } ∷ lines (drop (at + suc (length (upTo 10 (drop at text)))) text)
 lines-turn text at h = start ∙ ap (λ (r : List ℕ). record { bytes = upTo 10 (drop at text); ended = has 10 (drop at text) } ∷ lines r) (past-drop (drop at text) ∙ drop-drop (suc (length (upTo 10 (drop at text)))) at text)
   where

@@ -1,17 +1,17 @@
 -- The structs and enums that the functions answer, by the rules' definitions.
 -- Assumes nothing.
 use mathlib.Core.Bool.{Bool, true, false, _&&_}
-use mathlib.Core.List.{List, _++_}
-use Prim.Native.Nat.{ℕ, suc, _+_, _-_}
+use mathlib.Core.List.{List, [], _∷_, _++_}
+use Prim.Native.Nat.{ℕ, zero, suc, _+_, _-_, min}
 use lib.Dec.{leb}
-use lib.ListN.{length, take, drop, replicate}
+use lib.ListN.{length, replicate}
 use Rattle.rules.specs.Limits.{mostPlots, mostColumns, mostFields}
-use Rattle.rules.specs.Sheet.{Line, newline, plotMark, treatmentMark, all, within, has, upTo, lines, isColumn, countKind, header, columnsAfter, isPlotLine, question1, question3, Outcome, read, refused}
+use Rattle.rules.specs.Sheet.{Field, Line, newline, plotMark, treatmentMark, all, within, has, upTo, isColumn, isKind, countKind, header, columnsAfter, isPlotLine, question3, Outcome, read, refused}
 use Rattle.sheet.specs.declared.Reading.{Reading}
 use Rattle.sheet.specs.declared.Reading.the-variants.{Read, Refused}
 use Rattle.sheet.specs.declared.header.Header.{Header}
+use Rattle.sheet.specs.declared.header.Span.{Span}
 use Rattle.sheet.specs.declared.rows.Rows.{Rows}
-use Rattle.sheet.specs.Walk.{isPlace, storedFrom}
 
 -- the number and values that the rules give each case of the reader's answer
 abbrev pub outcomeOf : Reading → Outcome
@@ -61,6 +61,25 @@ unfoldable pub headed : List ℕ → Header
 unfolding question3 firstLine
 headed text = elim (question3 text) [ true ↦ firstLine text | false ↦ noHeader ]
 
+-- where the name in the field from `start` to `stop` stands: past the two bytes of its kind
+abbrev pub pastMark : ℕ → ℕ → Span
+pastMark start stop = record { start = min (start + 2) stop; end = stop }
+
+abbrev pub noSpan : Span
+noSpan = record { start = 0; end = 0 }
+
+-- where the name of column c, from 0, of the fields that a byte marks stands, when the first of the fields starts at `at`; 0 and 0 for none
+unfoldable pub spanFrom : ℕ → ℕ → ℕ → List Field → Span
+unfolding isKind
+spanFrom mark c at [] = noSpan
+spanFrom mark zero at (f ∷ fs) = elim (isKind mark f) [ true ↦ pastMark at (at + length f) | false ↦ spanFrom mark zero (suc (at + length f)) fs ]
+spanFrom mark (suc c) at (f ∷ fs) = elim (isKind mark f) [ true ↦ spanFrom mark c (suc (at + length f)) fs | false ↦ spanFrom mark (suc c) (suc (at + length f)) fs ]
+
+-- the same of a text's first line; the bytes there are the column's name (span-name in proofs/NameLaws)
+unfoldable pub columnSpan : ℕ → ℕ → List ℕ → Span
+unfolding spanFrom header
+columnSpan mark c text = spanFrom mark c 0 (header text)
+
 -- ---- the later lines
 
 -- question 4 of these lines, after `count` others
@@ -71,41 +90,3 @@ judged count n ls = elim (all (isPlotLine n) ls) [ true ↦ record { good = true
 -- which of questions 4 and 5 judged lines fail; 0 where they fail none
 abbrev pub failing : Rows → ℕ
 failing r = elim (r .good) [ false ↦ 4 | true ↦ elim (within 1 mostPlots (r .count)) [ false ↦ 5 | true ↦ 0 ] ]
-
--- questions 4 and 5 of these lines, with p plot and t treatment columns
-unfoldable pub fromLines : ℕ → ℕ → List Line → Outcome
-unfolding all isPlotLine
-fromLines p t ls = elim (all (isPlotLine (p + t)) ls) [
-  | false ↦ refused 4
-  | true ↦ elim (within 1 mostPlots (length ls)) [ false ↦ refused 5 | true ↦ read (length ls) p t ]
-]
-
--- ---- the later lines by a header at hand
-
-abbrev pub fieldsIn : Header → ℕ
-fieldsIn h = h .«plot_columns» + h .«treatment_columns»
-
--- the columns of the level table that its fields take
-abbrev pub columnsIn : Header → List ℕ
-columnsIn h = take (fieldsIn h) (h .columns)
-
--- its numbers fit: at least one field, at most 6 of a kind, each with a column of the level table
-unfoldable pub fitting : Header → Bool
-unfolding all
-fitting h = leb (h .«plot_columns») mostColumns && leb (h .«treatment_columns») mostColumns && leb 1 (fieldsIn h) && all isPlace (columnsIn h)
-
--- question 1, question 3 of the header, and questions 4 and 5 of the lines from its end on
-unfoldable pub linesRead : Header → List ℕ → List ℕ → Outcome
-unfolding fitting fromLines lines
-linesRead h text levels = elim (question1 levels) [
-  | false ↦ refused 1
-  | true ↦ elim (fitting h) [ false ↦ refused 3 | true ↦ fromLines (h .«plot_columns») (h .«treatment_columns») (lines (drop (h .end) text)) ]
-]
-
--- the level table afterwards: after 1 and 3 it is as it was, after 4 and 5 it has the levels up to where the walk ended
-unfoldable pub linesAfter : Header → List ℕ → List ℕ → List ℕ
-unfolding fitting storedFrom
-linesAfter h text levels = elim (question1 levels && fitting h) [
-  | false ↦ levels
-  | true ↦ storedFrom (suc (length text)) (columnsIn h) (fieldsIn h) 0 (drop (h .end) text) levels
-]

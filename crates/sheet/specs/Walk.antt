@@ -3,10 +3,10 @@
 use mathlib.Core.Bool.{Bool, true, false, _&&_, _||_}
 use mathlib.Core.List.{List, [], _∷_}
 use mathlib.Core.Path.{_≡_}
-use Prim.Native.Nat.{ℕ, zero, suc, _+_, _*_, _≤_}
+use Prim.Native.Nat.{ℕ, zero, suc, _+_, _≤_}
 use lib.Dec.{eqb, ltb}
-use lib.ListN.{length, getD, drop, set}
-use Rattle.rules.specs.Sheet.{Field, tab, newline, all, upTo, has, fields, isColumn, isLevel, isRow, decimal, decimalFrom, plotMark, treatmentMark}
+use lib.ListN.{length, getD, drop}
+use Rattle.rules.specs.Sheet.{Field, tab, newline, all, upTo, has, fields, lines, isColumn, isLevel, isRow, isPlotLine, decimal, decimalFrom, plotMark, treatmentMark}
 use Rattle.rules.specs.Limits.{tableCells, mostFields, mostPlots}
 use Rattle.sheet.specs.declared.field.FieldLevel.{FieldLevel}
 
@@ -70,33 +70,15 @@ rowEnd n at xs = elim (rowThere n xs) [ true ↦ at + suc (length (upTo newline 
 abbrev pub isPlace : ℕ → Bool
 isPlace c = ltb c mostFields
 
--- the level table with the levels of plot u, one for each of the columns cs, up to the first field that is no level or does not end as it must
-unfoldable pub storedRow : List ℕ → ℕ → List ℕ → List ℕ → List ℕ
-unfolding levelThere fieldOf decimalFrom
-storedRow [] u xs levels = levels
-storedRow (c ∷ cs) u xs levels = elim (levelThere (stopBefore (length cs)) xs) [
-  | true ↦ storedRow cs u (drop (suc (length (fieldOf xs))) xs) (set levels (mostPlots * c + u) (decimal (fieldOf xs)))
-  | false ↦ levels
-]
-
--- the same; there is no plot past the last
-unfoldable pub storedAt : List ℕ → ℕ → List ℕ → List ℕ → List ℕ
-unfolding storedRow
-storedAt cs u xs levels = elim (ltb u mostPlots) [ true ↦ storedRow cs u xs levels | false ↦ levels ]
-
--- with the levels of the plots from u on, a line each, up to the first line that has not the form; a text of k bytes has no more lines
-unfoldable pub storedFrom : ℕ → List ℕ → ℕ → ℕ → List ℕ → List ℕ → List ℕ
-unfolding storedAt rowThere upTo
-storedFrom zero cs n u xs levels = levels
-storedFrom (suc k) cs n u [] levels = levels
-storedFrom (suc k) cs n u (x ∷ xs) levels = elim (rowThere n (x ∷ xs)) [
-  | true ↦ storedFrom k cs n (suc u) (drop (suc (length (upTo newline (x ∷ xs)))) (x ∷ xs)) (storedAt cs u (x ∷ xs) levels)
-  | false ↦ storedAt cs u (x ∷ xs) levels
-]
-
 -- what storing asks: a column of the level table for each field
 pub record Store (columns : List ℕ) (n cells : ℕ) : Type 0 where
   pub some : 1 ≤ n
   pub size : length columns ≡ n
   pub places : all isPlace columns ≡ true
   pub room : tableCells ≤ cells
+
+-- and of the lines: from `start` on so many plots, a line each
+pub record PlotLines (text : List ℕ) (start n plots : ℕ) : Type 0 where
+  pub counted : plots ≡ length (lines (drop start text))
+  pub few : plots ≤ mostPlots
+  pub form : all (isPlotLine n) (lines (drop start text)) ≡ true

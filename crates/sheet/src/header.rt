@@ -4,11 +4,11 @@ ghost use mathlib.Core.Path.{_≡_};
 ghost use mathlib.Core.Bool.{true};
 ghost use mathlib.Core.List.{[]};
 ghost use Prim.Native.Nat.{_+_, _<_, _≤_, min};
-ghost use lib.ListN.{length, getD, drop};
+ghost use lib.ListN.{length, drop};
 ghost use lib.Seq.{slice};
-ghost use Rattle.rules.specs.Sheet.{newline, has, all, isColumn, isKind, columnNames, newName, namesDiffer, header};
+ghost use Rattle.rules.specs.Sheet.{newline, has, all, isColumn, isKind, newName, namesDiffer, header};
 ghost use Rattle.sheet.specs.Walk.{columnEnd};
-ghost use Rattle.sheet.specs.Answers.{noHeader, marked, headed, fitting};
+ghost use Rattle.sheet.specs.Answers.{noHeader, marked, headed, columnSpan};
 use limits::COLUMNS;
 use limits::FIELDS;
 
@@ -173,30 +173,6 @@ fn new_name(text: &[u8], start: usize, stop: usize) -> bool
     }
 }
 
-// Whether a header's numbers fit: at least one field, at most 6 of a kind, each with a column of the level table.
-pub fn fits(h: Header) -> bool
-    ensures { λ r. ⌜ r ≡ fitting h ⌝ }
-{
-    let plot_columns = h.plot_columns;
-    if COLUMNS < plot_columns {
-        return false;
-    }
-    let treatment_columns = h.treatment_columns;
-    if COLUMNS < treatment_columns {
-        return false;
-    }
-    let n = plot_columns + treatment_columns;
-    if n < 1 {
-        return false;
-    }
-    for i in 0..n {
-        if FIELDS <= h.columns[i] as usize {
-            return false;
-        }
-    }
-    true
-}
-
 // Whether the field from `start` to `stop` starts with the byte that marks a kind.
 fn is_kind(text: &[u8], start: usize, stop: usize, mark: u8) -> bool
     requires { ⌜ stop ≤ length (now text) ⌝ }
@@ -227,8 +203,7 @@ fn name_in(start: usize, stop: usize) -> Span
 
 // Where the name of column `c`, from 0, of those that the first line marks with the byte `mark` stands; 0 and 0 where there is none.
 pub fn column_name(text: &[u8], mark: u8, c: usize) -> Span
-    ensures inside { λ r. ⌜ (r .start ≤ r .end) × (r .end ≤ length (now (text .entry))) ⌝ }
-    ensures bytes { λ r. ⌜ slice (r .start) (r .end) (now (text .entry)) ≡ getD (columnNames mark (header (now (text .entry)))) c [] ⌝ }
+    ensures { λ r. ⌜ r ≡ columnSpan mark c (now (text .entry)) ⌝ }
 {
     let mut at = 0;
     let mut left = c;
@@ -241,11 +216,12 @@ pub fn column_name(text: &[u8], mark: u8, c: usize) -> Span
             left -= 1;
         }
         if text.len() <= e {
-            return Span { start: 0, end: 0 };
+            break;
         }
         if text[e] == b'\n' {
-            return Span { start: 0, end: 0 };
+            break;
         }
         at = e + 1;
     }
+    Span { start: 0, end: 0 }
 }

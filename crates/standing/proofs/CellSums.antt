@@ -1,7 +1,7 @@
 -- Sums over the listed cells: each plot is in one of them, so they tell how many plots have each label.
 -- Assumes nothing.
 use mathlib.Core.Path.{_≡_, refl, sym, ap, ap₂, _∙_}
-use mathlib.Core.Bool.{Bool, true, false, _&&_, _||_}
+use mathlib.Core.Bool.{Bool, true, false, _&&_, _||_, and-false}
 use mathlib.Core.List.{List}
 use Prim.Native.Nat.{ℕ, zero, suc, _+_, _≤_, _<_}
 use native.Mathlib.Nat.{not-suc-le-zero}
@@ -16,8 +16,8 @@ use Rattle.rules.proofs.Numbering.{by-cases}
 use Rattle.rules.proofs.Tests.{count-none, count-same}
 use Rattle.rules.proofs.Walks.{bool-false}
 use Rattle.factor.specs.Sizes.{labelled}
-use Rattle.standing.specs.Cells.{labelledBoth, Inside, CellSizes, Listed, cellSize, sumAt}
-use Rattle.standing.proofs.CellTable.{and-both, both-and, and-false, stays, added, count-split}
+use Rattle.standing.specs.Cells.{labelledBoth, CellsInside, CellSizes, Listed, cellSize, sumAt}
+use Rattle.standing.proofs.CellTable.{and-both, both-and, stays, added, count-split}
 use Rattle.standing.proofs.Listing.{listed-inside}
 
 -- ---- sums by label
@@ -57,7 +57,7 @@ sum-next t H i = rw add-one (sum-yes t H (at H i) i (eq-eqb (at H i) (at H i) re
 
 -- ---- the plots of the first cells
 
-module _ (n w : ℕ) (F G : Column) (cells : List ℕ) (counted : CellSizes n w (length F) F G cells) (inside : Inside w n F G) (X Y : Column) (listed : Listed F G X Y) where
+module _ (n w : ℕ) (F G : Column) (cells : List ℕ) (counted : CellSizes n w (length F) F G cells) (inside : CellsInside w n F G) (X Y : Column) (listed : Listed F G X Y) where
   -- plot v is in cell i
   abbrev here : ℕ → ℕ → Bool
   here i v = eqb (at X i) (at F v) && eqb (at Y i) (at G v)

@@ -1,7 +1,7 @@
 -- Laws of the table of cells, of sizes, and of orthogonality by cells.
 -- Assumes nothing.
 use mathlib.Core.Path.{_≡_, refl, sym, ap, ap₂, _∙_}
-use mathlib.Core.Bool.{Bool, true, false, _&&_, true≢false}
+use mathlib.Core.Bool.{Bool, true, false, _&&_, true≢false, and-false}
 use mathlib.Core.List.{List}
 use Prim.Native.Nat.{ℕ, zero, suc, _+_, _*_, _≤_, _<_, zero-le}
 use native.Mathlib.Nat.{le-refl, mul-le-mul-left, mul-suc, mul-comm}
@@ -18,8 +18,8 @@ use Rattle.rules.proofs.Walks.{bool-false, count-le}
 use Rattle.rules.proofs.Orthogonality.{same-test, overlap-infimum, orthogonal-test-plots}
 use Rattle.factor.specs.Lent.{plotsOf}
 use Rattle.factor.specs.Sizes.{labelled, sizes}
-use Rattle.standing.specs.Joining.{Below, OneClass, Joins, spread}
-use Rattle.standing.specs.Cells.{labelledBoth, Inside, CellSizes, LabelSizes, EntrySizes, Stands, evenCells}
+use Rattle.standing.specs.Joining.{Below, OneClass, EntriesJoin, spread}
+use Rattle.standing.specs.Cells.{labelledBoth, CellsInside, CellSizes, LabelSizes, EntrySizes, Stands, evenCells}
 use Rattle.factor.proofs.SizeTable.{sizes-at}
 use Rattle.factor.proofs.Table.{getD-zeros}
 use Rattle.standing.proofs.Joining.{joins-supremum, spread-at}
@@ -87,7 +87,7 @@ unfolding labelledBoth count
 cells-none n w F G cells l e = record { cells-room = l; cell = λ x y hy hx. ap (λ (t : List ℕ). at t (w * x + y)) e ∙ getD-zeros n (w * x + y) }
 
 -- cells of labels below a and w
-pub inside-below : (a w n : ℕ) (F G : Column) → length G ≡ length F → Below a F → Below w G → a * w ≤ n → Inside w n F G
+pub inside-below : (a w n : ℕ) (F G : Column) → length G ≡ length F → Below a F → Below w G → a * w ≤ n → CellsInside w n F G
 inside-below a w n F G l bf bg h u hu =
     let hg : at G u < w = bg u (rw l hu) in
     (hg, omega (arith, cell-below w a (at F u) (at G u) (bf u hu) hg, mul-comm a w))
@@ -116,10 +116,6 @@ count-split (suc k) p q r h = go (count-split k p q r (λ v hv. h v (omega arith
         (λ e. let x = count-yes k p e in let y = count-no k q b in let z = count-yes k r (c ∙ e) in omega arith)
         (λ e. let x = count-no k p e in let y = count-no k q b in let z = count-no k r (c ∙ e) in omega arith)
     go below (added a b c) = let x = count-no k p a in let y = count-yes k q b in let z = count-yes k r c in omega arith
-
-pub and-false : (a : Bool) → a && false ≡ false
-and-false true = refl
-and-false false = refl
 
 -- a number that is not x is below x + 1 where it is below x
 next-below : (x y : ℕ) → (x ≡ y → ⊥) → ltb y (x + 1) ≡ ltb y x
@@ -190,9 +186,9 @@ module _ (t : List ℕ) (F : Column) where
 
 -- ---- orthogonality by cells
 
-module _ (n w : ℕ) (F G : Column) (l : length G ≡ length F) (inside : Inside w n F G) (bytesF : Below 256 F) (bytesG : Below 256 G)
+module _ (n w : ℕ) (F G : Column) (l : length G ≡ length F) (inside : CellsInside w n F G) (bytesF : Below 256 F) (bytesG : Below 256 G)
     (cells : List ℕ) (counted : CellSizes n w (length F) F G cells) (inF inG : List ℕ) (sizesF : LabelSizes F inF) (sizesG : LabelSizes G inG) (X Y : Column) (listed : Stands F G X Y)
-    (t inK : List ℕ) (joins : Joins X Y t) (sizes : EntrySizes t F inK) where
+    (t inK : List ℕ) (joins : EntriesJoin X Y t) (sizes : EntrySizes t F inK) where
   abbrev evenAt : ℕ → Bool
   evenAt i = eqb (at cells (w * at X i + at Y i) * at inK (at t (at X i))) (at inF (at X i) * at inG (at Y i))
 

@@ -21,7 +21,7 @@ use Rattle.rules.proofs.ClassCount.{finer-universal, classes-universal}
 use Rattle.factor.proofs.Fill.{filled, length-filled, getD-filled}
 use Rattle.factor.proofs.Table.{getD-zeros}
 use Rattle.standing.specs.Cells.{Stands}
-use Rattle.standing.specs.Joining.{Below, Own, OneEntry, OneClass, Links, Joins, Among, InOrder, Numbered, relabelled, spread}
+use Rattle.standing.specs.Joining.{Below, Own, OneEntry, OneClass, Links, EntriesJoin, Among, InOrder, LabelsNumbered, relabelled, spread}
 
 -- ---- entries of labels
 
@@ -250,7 +250,7 @@ module _ (F G : Column) (l : length G ≡ length F) where
     sound-old = merge-sound top t h below u (m .plot) hu before sound (sym (m .shares))
 
   -- all plots are linked
-  pub joined-all : (first t : List ℕ) → Linked F G (length F) first t → Sound F G t → Joins F G t
+  pub joined-all : (first t : List ℕ) → Linked F G (length F) first t → Sound F G t → EntriesJoin F G t
   joined-all first t linked sound = record { links = along; least = sound }
     where
       along : Links F G (at t)
@@ -260,7 +260,7 @@ module _ (F G : Column) (l : length G ≡ length F) where
           sym (p .entry) ∙ ap (at t) (suc-inj (sym (p .holds) ∙ ap (at first) e ∙ q .holds)) ∙ q .entry
 
   -- all labels have one entry
-  pub joined-one : (top : ℕ) (t : List ℕ) → Below top F → OneEntry top t → Sound F G t → Joins F G t
+  pub joined-one : (top : ℕ) (t : List ℕ) → Below top F → OneEntry top t → Sound F G t → EntriesJoin F G t
   joined-one top t below one sound = record { links = λ u v hu hv e. one (at F u) (at F v) (below u hu) (below v hv); least = sound }
 
 -- ---- the classes that the entries make
@@ -277,7 +277,7 @@ module _ (F G : Column) (l : length G ≡ length F) where
       let k = has-getD eqb eqb-true eqb-self F u 0 h in
       supremum-left (length F) F G refl l (indexOf eqb F (at F u)) u k h (getD-place eqb eqb-true eqb-self F (at F u) 0 k)
 
-  module _ (X Y t : List ℕ) (listed : Stands F G X Y) (joins : Joins X Y t) where
+  module _ (X Y t : List ℕ) (listed : Stands F G X Y) (joins : EntriesJoin X Y t) where
     class-links : Links X Y class-of
     class-links i j hi hj e =
         let p = listed .plot i hi in
@@ -339,7 +339,7 @@ among-self F u h = record { at-place = u; less = h; label = refl }
 
 module _ (t : List ℕ) (X : Column) (i : ℕ) (h : i < length X) where
   -- one listed label more
-  pub numbered-step : (r : List ℕ) → at X i < length r → Numbered t X i r → (y : ℕ) → y ≡ at (number (spread t X)) i → Numbered t X (i + 1) (set r (at X i) y)
+  pub numbered-step : (r : List ℕ) → at X i < length r → LabelsNumbered t X i r → (y : ℕ) → y ≡ at (number (spread t X)) i → LabelsNumbered t X (i + 1) (set r (at X i) y)
   numbered-step r room done y e j hj =
       by-cases (eqb (at X j) (at X i))
       (λ q. let same : at X j ≡ at X i = eqb-true _ _ q in
@@ -358,7 +358,7 @@ module _ (t : List ℕ) (F X : Column) (among : Among F X) (order : InOrder F X)
   classes-listed = ap length (sym (order t))
 
   -- the number of each plot's label is the number of the plot
-  pub number-listed : (r : List ℕ) → Numbered t X (length X) r → spread r F ≡ number (spread t F)
+  pub number-listed : (r : List ℕ) → LabelsNumbered t X (length X) r → spread r F ≡ number (spread t F)
   unfolding number
   number-listed r numbers =
       ext-getD 0 (spread r F) (number (spread t F)) (length-spread r F ∙ sym (length-number (spread t F) ∙ length-spread t F)) (λ u h. here u (rw length-spread at h))

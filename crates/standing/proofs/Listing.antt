@@ -19,7 +19,7 @@ use Rattle.rules.proofs.Walk.{Next, next}
 use Rattle.rules.proofs.Closing.{pigeonhole}
 use Rattle.rules.proofs.Sums.{Some, nowhere, somewhere, some}
 use Rattle.standing.specs.Joining.{Below, InOrder, Among, spread}
-use Rattle.standing.specs.Cells.{labelledBoth, Plot, Inside, Cover, Stands, Listed}
+use Rattle.standing.specs.Cells.{labelledBoth, Plot, CellsInside, Cover, Stands, Listed}
 use Rattle.factor.proofs.SizeTable.{count-some}
 use Rattle.factor.proofs.Table.{classes-none}
 use Rattle.standing.proofs.Joining.{length-spread, spread-at}
@@ -344,7 +344,7 @@ module _ (F G X Y : Column) (stands : Stands F G X Y) where
   pub listed-below : (top : ℕ) → Below top F → Below top X
   listed-below top below i hi = let p = stands .plot i hi in subst (λ (x : ℕ). x < top) (p .first) (below (p .plot) (p .less))
 
-  pub listed-inside : (w n : ℕ) → Inside w n F G → Inside w n X Y
+  pub listed-inside : (w n : ℕ) → CellsInside w n F G → CellsInside w n X Y
   listed-inside w n inside i hi =
       let p = stands .plot i hi in
       let k = inside (p .plot) (p .less) in

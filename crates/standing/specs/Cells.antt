@@ -5,10 +5,11 @@ use mathlib.Core.Bool.{Bool, true, false, _&&_}
 use mathlib.Core.List.{List}
 use Prim.Native.Nat.{ℕ, zero, suc, _+_, _*_, _≤_, _<_}
 use lib.Dec.{eqb}
-use lib.ListN.{length, take}
-use Rattle.rules.specs.Factor.{Column, at, every, count, classSize}
+use lib.ListN.{length, take, replicate}
+use Rattle.rules.specs.Limits.{mostPlots}
+use Rattle.rules.specs.Factor.{Column, at, every, count, classSize, infimum, supremum}
 use Rattle.factor.specs.Sizes.{labelled}
-use Rattle.standing.specs.Joining.{InOrder, spread}
+use Rattle.standing.specs.Joining.{Below, InOrder, OneClass, spread}
 
 -- how many of the first u plots have the labels x and y
 unfoldable pub labelledBoth : ℕ → Column → Column → ℕ → ℕ → ℕ
@@ -23,8 +24,8 @@ pub record Plot (n : ℕ) (F G : Column) (x y : ℕ) : Type 0 where
   pub second : at G plot ≡ y
 
 -- labels x and y make cell w × x + y: the G-labels are below w, and all cells are below n
-abbrev pub Inside : ℕ → ℕ → Column → Column → Type 0
-Inside w n F G = (u : ℕ) → u < length F → (at G u < w) × (w * at F u + at G u < n)
+abbrev pub CellsInside : ℕ → ℕ → Column → Column → Type 0
+CellsInside w n F G = (u : ℕ) → u < length F → (at G u < w) × (w * at F u + at G u < n)
 
 -- of the first u plots, how many are in each of n cells
 pub record CellSizes (n w u : ℕ) (F G : Column) (cells : List ℕ) : Type 0 where
@@ -37,8 +38,8 @@ Once m X Y = (i j : ℕ) → i < m → j < m → at X i ≡ at X j → at Y i �
 
 -- X and Y have room for 240 labels; the first m are those of the cells of the first u plots, once each, by first appearance
 pub record Cover (u : ℕ) (F G X Y : Column) (m : ℕ) : Type 0 where
-  pub x-room : length X ≡ 240
-  pub y-room : length Y ≡ 240
+  pub x-room : length X ≡ mostPlots
+  pub y-room : length Y ≡ mostPlots
   pub few : m ≤ u
   pub plot : (i : ℕ) → i < m → Plot u F G (at X i) (at Y i)
   pub place : (p : ℕ) → p < u → Plot m X Y (at F p) (at G p)
@@ -80,3 +81,72 @@ cellSize w cells X Y i = at cells (w * at X i + at Y i)
 unfoldable pub sumAt : (ℕ → ℕ) → Column → ℕ → ℕ → ℕ
 sumAt t H zero x = 0
 sumAt t H (suc i) x = sumAt t H i x + elim (eqb x (at H i)) [ true ↦ t i | false ↦ 0 ]
+
+-- ---- what the functions over two columns and their cells start from
+
+-- two columns of one length; the labels of F are below a, those of G below w
+abbrev pub InRanges : ℕ → ℕ → Column → Column → Type 0
+InRanges a w F G = (length F ≤ mostPlots) × (length G ≡ length F) × (a ≤ 256) × (w ≤ 256) × Below a F × Below w G
+
+-- the same, with a table of zeros that has room for the cells
+abbrev pub CellRoom : ℕ → ℕ → Column → Column → List ℕ → Type 0
+CellRoom a w F G cells =
+    (length F ≤ mostPlots) × (length G ≡ length F) × (a ≤ 256) × (w ≤ 256) × Below a F × Below w G × (a * w ≤ length cells) × (length cells ≤ 65536)
+    × (cells ≡ replicate (length cells) 0)
+
+-- the same, with the plots of each cell and the labels of the cells that have a plot
+abbrev pub CellsListed : ℕ → ℕ → Column → Column → List ℕ → Column → Column → Type 0
+CellsListed a w F G cells X Y =
+    (length F ≤ mostPlots) × (length G ≡ length F) × (a ≤ 256) × (w ≤ 256) × Below a F × Below w G × (length cells ≤ 65536) × CellsInside w (length cells) F G
+    × CellSizes (length cells) w (length F) F G cells × Listed F G X Y
+
+-- no plot is counted yet, and no cell listed
+abbrev pub Uncounted : ℕ → Column → Column → List ℕ → Column → Column → Type 0
+Uncounted w F G cells X Y =
+    (length F ≤ mostPlots) × (length G ≡ length F) × (length cells ≤ 65536) × CellsInside w (length cells) F G × CellSizes (length cells) w 0 F G cells
+    × Cover 0 F G X Y 0
+
+-- no cell is numbered yet, and none listed
+abbrev pub Unnumbered : ℕ → Column → Column → List ℕ → Column → Column → Type 0
+Unnumbered w F G numbers X Y =
+    (length F ≤ mostPlots) × (length G ≡ length F) × (length numbers ≤ 65536) × CellsInside w (length numbers) F G
+    × (numbers ≡ replicate (length numbers) 0) × Cover 0 F G X Y 0
+
+-- two columns of one length whose infimum stands at the start of an array, and no cell listed yet
+abbrev pub Unlisted : Column → Column → List ℕ → Column → Column → Type 0
+Unlisted F G below X Y = (length F ≤ mostPlots) × (length G ≡ length F) × (take (length F) below ≡ infimum F G) × Cover 0 F G X Y 0
+
+-- the sums of the sizes of the cells that have the label z in H
+abbrev pub labelSum : ℕ → List ℕ → Column → Column → Column → ℕ → ℕ
+labelSum w cells X Y H z = sumAt (cellSize w cells X Y) H (length X) z
+
+-- the listed cells, two tables of zeros, and sums that a byte holds
+abbrev pub Unsummed : ℕ → List ℕ → Column → Column → List ℕ → List ℕ → Type 0
+Unsummed w cells X Y inF inG =
+    (length Y ≡ length X) × (length cells ≤ 65536) × CellsInside w (length cells) X Y × (inF ≡ replicate 256 0) × (inG ≡ replicate 256 0)
+    × ((z : ℕ) → labelSum w cells X Y X z ≤ mostPlots) × ((z : ℕ) → labelSum w cells X Y Y z ≤ mostPlots)
+
+-- the table has at each label what the cells that have it sum up to
+abbrev pub Summed : ℕ → List ℕ → Column → Column → Column → List ℕ → Type 0
+Summed w cells X Y H sums = (z : ℕ) → z < 256 → at sums z ≡ labelSum w cells X Y H z
+
+-- entries of labels, and the plots of each label
+abbrev pub EntriesAsked : List ℕ → Column → List ℕ → ℕ → Bool → Type 0
+EntriesAsked t F inF top one = (length t ≡ 256) × (length F ≤ mostPlots) × (top ≤ 256) × Below top F × LabelSizes F inF × (one ≡ true → OneClass t F)
+
+-- entries of labels, and the listed cells
+abbrev pub CellsJudged : ℕ → List ℕ → List ℕ → Column → Column → Type 0
+CellsJudged w cells t X Y =
+    (length t ≡ 256) × (length X ≤ mostPlots) × (length Y ≡ length X) × (w ≤ 256) × (length cells ≤ 65536) × CellsInside w (length cells) X Y
+
+-- two columns of one length, the labels of G below w, and no cell listed yet
+abbrev pub Uncovered : ℕ → Column → Column → Column → Column → Type 0
+Uncovered w F G X Y = (length F ≤ mostPlots) × (length G ≡ length F) × (w ≤ 256) × Below w G × Cover 0 F G X Y 0
+
+-- two columns of one length, the labels of F below a, and the labels of the cells that have a plot
+abbrev pub LabelsListed : ℕ → Column → Column → Column → Column → Type 0
+LabelsListed a F G X Y = (length F ≤ mostPlots) × (length G ≡ length F) × (a ≤ 256) × Below a F × Listed F G X Y
+
+-- two columns of one length with their infimum and supremum
+abbrev pub WithBounds : Column → Column → Column → Column → Type 0
+WithBounds F G below above = (length F ≤ mostPlots) × (length G ≡ length F) × (below ≡ infimum F G) × (above ≡ supremum F G)

@@ -1,10 +1,12 @@
 -- Tables over labels for the supremum.
 -- Assumes nothing.
 use mathlib.Core.Path.{_≡_}
+use mathlib.Core.Bool.{Bool, true}
 use mathlib.Core.List.{List, [], map, _++_}
 use Prim.Native.Nat.{ℕ, _≤_, _<_}
 use lib.Dec.{eqb}
 use lib.ListN.{length, take, drop}
+use Rattle.rules.specs.Limits.{mostPlots}
 use Rattle.rules.specs.Factor.{Column, at, Same, labels, number, relabel}
 
 -- every label of F is below top, or none is below low
@@ -43,7 +45,7 @@ abbrev pub Links : Column → Column → (ℕ → ℕ) → Type 0
 Links F G h = (u v : ℕ) → u < length F → v < length F → Same G u v → h (at F u) ≡ h (at F v)
 
 -- the entries in t are one where plots share a class of G, and for no other labels of F than this makes one
-pub record Joins (F G : Column) (t : List ℕ) : Type 0 where
+pub record EntriesJoin (F G : Column) (t : List ℕ) : Type 0 where
   pub links : Links F G (at t)
   pub least : (h : ℕ → ℕ) → Links F G h → (u v : ℕ) → u < length F → v < length F → at t (at F u) ≡ at t (at F v) → h (at F u) ≡ h (at F v)
 
@@ -61,5 +63,10 @@ abbrev pub InOrder : Column → Column → Type 0
 InOrder F X = (t : List ℕ) → labels eqb [] (spread t F) ≡ labels eqb [] (spread t X)
 
 -- r has for each of the first i labels of X the number of its entry
-abbrev pub Numbered : List ℕ → Column → ℕ → List ℕ → Type 0
-Numbered t X i r = (j : ℕ) → j < i → at r (at X j) ≡ at (number (spread t X)) j
+abbrev pub LabelsNumbered : List ℕ → Column → ℕ → List ℕ → Type 0
+LabelsNumbered t X i r = (j : ℕ) → j < i → at r (at X j) ≡ at (number (spread t X)) j
+
+-- entries of labels, which are listed in X by first appearance; whether it is known that all plots have one
+abbrev pub JoinsListed : List ℕ → Column → Column → Bool → Type 0
+JoinsListed t F X one =
+    (length t ≡ 256) × (length F ≤ mostPlots) × (length X ≤ mostPlots) × Among F X × InOrder F X × (one ≡ true → (0 < length F) × OneClass t F)

@@ -1,11 +1,9 @@
 // Cells: a cell is what a class of one factor and a class of the other have in common. Sizes by cells, and orthogonality.
 ghost use mathlib.Core.Path.{_≡_};
 ghost use mathlib.Core.Bool.{true};
-ghost use Prim.Native.Nat.{ℕ, _*_, _≤_, _<_};
+ghost use Prim.Native.Nat.{_*_};
 ghost use lib.ListN.{length, replicate};
-ghost use Rattle.rules.specs.Factor.{at};
-ghost use Rattle.standing.specs.Joining.{Below, OneClass};
-ghost use Rattle.standing.specs.Cells.{Inside, CellSizes, Cover, LabelSizes, EntrySizes, cellSize, sumAt, evenCells};
+ghost use Rattle.standing.specs.Cells.{CellSizes, Cover, EntrySizes, Uncounted, Unsummed, Summed, EntriesAsked, CellsJudged, evenCells};
 use limits::PLOTS;
 
 // Labels x of the one factor and y of the other, below w, make cell w × x + y. A small table is cleared in less time, and most pairs of
@@ -25,7 +23,7 @@ pub(crate) fn count_cells(
     cell_f: &mut [u8; PLOTS],
     cell_g: &mut [u8; PLOTS],
 ) -> usize
-    requires { ⌜ (length (now f) ≤ 240) × (length (now g) ≡ length (now f)) × (length (now «in_cells») ≤ 65536) × Inside w (length (now «in_cells»)) (now f) (now g) × CellSizes (length (now «in_cells»)) w 0 (now f) (now g) (now «in_cells») × Cover 0 (now f) (now g) (now «cell_f») (now «cell_g») 0 ⌝ }
+    requires { ⌜ Uncounted w (now f) (now g) (now «in_cells») (now «cell_f») (now «cell_g») ⌝ }
     ensures sizes { λ _. ⌜ CellSizes (length (now («in_cells» .entry))) w (length (now (f .entry))) (now (f .entry)) (now (g .entry)) (now («in_cells» .exit)) ⌝ }
     ensures list { λ r. ⌜ Cover (length (now (f .entry))) (now (f .entry)) (now (g .entry)) (now («cell_f» .exit)) (now («cell_g» .exit)) r ⌝ }
 {
@@ -54,9 +52,9 @@ pub(crate) fn sum_cells(
     in_f: &mut [u8; 256],
     in_g: &mut [u8; 256],
 )
-    requires { ⌜ (length (now «cell_g») ≡ length (now «cell_f»)) × (length (now «in_cells») ≤ 65536) × Inside w (length (now «in_cells»)) (now «cell_f») (now «cell_g») × (now «in_f» ≡ replicate 256 0) × (now «in_g» ≡ replicate 256 0) × ((z : ℕ) → sumAt (cellSize w (now «in_cells») (now «cell_f») (now «cell_g»)) (now «cell_f») (length (now «cell_f»)) z ≤ 240) × ((z : ℕ) → sumAt (cellSize w (now «in_cells») (now «cell_f») (now «cell_g»)) (now «cell_g») (length (now «cell_f»)) z ≤ 240) ⌝ }
-    ensures first { λ _. ⌜ ((z : ℕ) → z < 256 → at (now («in_f» .exit)) z ≡ sumAt (cellSize w (now («in_cells» .entry)) (now («cell_f» .entry)) (now («cell_g» .entry))) (now («cell_f» .entry)) (length (now («cell_f» .entry))) z) ⌝ }
-    ensures second { λ _. ⌜ ((z : ℕ) → z < 256 → at (now («in_g» .exit)) z ≡ sumAt (cellSize w (now («in_cells» .entry)) (now («cell_f» .entry)) (now («cell_g» .entry))) (now («cell_g» .entry)) (length (now («cell_f» .entry))) z) ⌝ }
+    requires { ⌜ Unsummed w (now «in_cells») (now «cell_f») (now «cell_g») (now «in_f») (now «in_g») ⌝ }
+    ensures first { λ _. ⌜ Summed w (now («in_cells» .entry)) (now («cell_f» .entry)) (now («cell_g» .entry)) (now («cell_f» .entry)) (now («in_f» .exit)) ⌝ }
+    ensures second { λ _. ⌜ Summed w (now («in_cells» .entry)) (now («cell_f» .entry)) (now («cell_g» .entry)) (now («cell_g» .entry)) (now («in_g» .exit)) ⌝ }
 {
     for i in 0..cell_f.len() {
         let x = cell_f[i] as usize;
@@ -82,7 +80,7 @@ pub(crate) fn entry_sizes(
     top: usize,
     one: bool,
 ) -> [u8; 256]
-    requires { ⌜ (length (now table) ≡ 256) × (length (now f) ≤ 240) × (top ≤ 256) × Below top (now f) × LabelSizes (now f) (now «in_f») × (one ≡ true → OneClass (now table) (now f)) ⌝ }
+    requires { ⌜ EntriesAsked (now table) (now f) (now «in_f») top one ⌝ }
     ensures { λ r. ⌜ EntrySizes (now (table .entry)) (now (f .entry)) r ⌝ }
 {
     if one {
@@ -114,7 +112,7 @@ pub(crate) fn even_cells(
     cell_f: &[u8],
     cell_g: &[u8],
 ) -> bool
-    requires { ⌜ (length (now table) ≡ 256) × (length (now «cell_f») ≤ 240) × (length (now «cell_g») ≡ length (now «cell_f»)) × (w ≤ 256) × (length (now «in_cells») ≤ 65536) × Inside w (length (now «in_cells»)) (now «cell_f») (now «cell_g») ⌝ }
+    requires { ⌜ CellsJudged w (now «in_cells») (now table) (now «cell_f») (now «cell_g») ⌝ }
     ensures { λ r. ⌜ r ≡ evenCells w (now («in_cells» .entry)) (now (table .entry)) (now («in_k» .entry)) (now («in_f» .entry)) (now («in_g» .entry)) (now («cell_f» .entry)) (now («cell_g» .entry)) ⌝ }
 {
     for i in 0..cell_f.len() {

@@ -3,9 +3,10 @@ ghost use mathlib.Core.Path.{_≡_};
 ghost use mathlib.Core.Bool.{true};
 ghost use Prim.Native.Nat.{ℕ, _≤_, _<_};
 ghost use lib.ListN.{length};
+ghost use Rattle.rules.specs.Limits.{mostPlots};
 ghost use Rattle.rules.specs.Factor.{at, universal, number, classes};
 ghost use Rattle.factor.specs.Lent.{overlay};
-ghost use Rattle.standing.specs.Joining.{Below, OwnWithin, Own, OneEntry, OneClass, Joins, Among, InOrder, Numbered, relabelled, spread};
+ghost use Rattle.standing.specs.Joining.{Below, OwnWithin, Own, OneEntry, EntriesJoin, LabelsNumbered, relabelled, spread, JoinsListed};
 use crate::labels::least_label;
 use limits::PLOTS;
 
@@ -13,7 +14,7 @@ use limits::PLOTS;
 pub(crate) fn join_labels(f: &[u8], g: &[u8], top: usize, table: &mut [u8; 256]) -> bool
     requires { ⌜ (length (now g) ≡ length (now f)) × (top ≤ 256) × Below top (now f) ⌝ }
     ensures answer { λ r. ⌜ (r ≡ true → (0 < length (now (f .entry))) × OneEntry top (now (table .exit))) ⌝ }
-    ensures entries { λ _. ⌜ (length (now (table .exit)) ≡ 256) × Joins (now (f .entry)) (now (g .entry)) (now (table .exit)) ⌝ }
+    ensures entries { λ _. ⌜ (length (now (table .exit)) ≡ 256) × EntriesJoin (now (f .entry)) (now (g .entry)) (now (table .exit)) ⌝ }
 {
     *table = own_labels(least_label(f), top);
     join(table, f, g, rounded(top))
@@ -28,7 +29,7 @@ pub(crate) fn number_joins(
     one: bool,
     out: &mut [u8; PLOTS],
 ) -> usize
-    requires { ⌜ (length (now table) ≡ 256) × (length (now f) ≤ 240) × (length (now x) ≤ 240) × Among (now f) (now x) × InOrder (now f) (now x) × (one ≡ true → (0 < length (now f)) × OneClass (now table) (now f)) ⌝ }
+    requires { ⌜ JoinsListed (now table) (now f) (now x) one ⌝ }
     ensures answer { λ r. ⌜ r ≡ classes (spread (now (table .entry)) (now (f .entry))) ⌝ }
     ensures numbers { λ _. ⌜ now (out .exit) ≡ overlay (now (out .entry)) (number (spread (now (table .entry)) (now (f .entry)))) ⌝ }
 {
@@ -43,7 +44,7 @@ pub(crate) fn number_joins(
 
 // Numbers the classes of a column whose labels are below `top`; answers how many there are.
 pub(crate) fn number_column(f: &[u8], top: usize, out: &mut [u8; PLOTS]) -> usize
-    requires { ⌜ (length (now f) ≤ 240) × (top ≤ 256) × Below top (now f) ⌝ }
+    requires { ⌜ (length (now f) ≤ mostPlots) × (top ≤ 256) × Below top (now f) ⌝ }
     ensures answer { λ r. ⌜ r ≡ classes (now (f .entry)) ⌝ }
     ensures numbers { λ _. ⌜ now (out .exit) ≡ overlay (now (out .entry)) (number (now (f .entry))) ⌝ }
 {
@@ -123,7 +124,7 @@ fn merge(table: &mut [u8; 256], top: usize, x: usize, y: usize) -> bool
 fn join(table: &mut [u8; 256], f: &[u8], g: &[u8], top: usize) -> bool
     requires { ⌜ (length (now table) ≡ 256) × (length (now g) ≡ length (now f)) × (top ≤ 256) × Below top (now f) × Own (now f) (now table) ⌝ }
     ensures answer { λ r. ⌜ (r ≡ true → (0 < length (now (f .entry))) × OneEntry top (now (table .exit))) ⌝ }
-    ensures entries { λ _. ⌜ (length (now (table .exit)) ≡ 256) × Joins (now (f .entry)) (now (g .entry)) (now (table .exit)) ⌝ }
+    ensures entries { λ _. ⌜ (length (now (table .exit)) ≡ 256) × EntriesJoin (now (f .entry)) (now (g .entry)) (now (table .exit)) ⌝ }
 {
     let mut first = [0u16; 256];
     for u in 0..f.len() {
@@ -143,9 +144,9 @@ fn join(table: &mut [u8; 256], f: &[u8], g: &[u8], top: usize) -> bool
 
 // Numbers the classes that the entries of the listed labels make, by label; answers how many there are.
 fn number_labels(table: &[u8], x: &[u8], numbers: &mut [u8; 256]) -> usize
-    requires { ⌜ (length (now table) ≡ 256) × (length (now x) ≤ 240) × (length (now numbers) ≡ 256) ⌝ }
+    requires { ⌜ (length (now table) ≡ 256) × (length (now x) ≤ mostPlots) × (length (now numbers) ≡ 256) ⌝ }
     ensures answer { λ r. ⌜ r ≡ classes (spread (now (table .entry)) (now (x .entry))) ⌝ }
-    ensures numbers { λ _. ⌜ (length (now (numbers .exit)) ≡ 256) × Numbered (now (table .entry)) (now (x .entry)) (length (now (x .entry))) (now (numbers .exit)) ⌝ }
+    ensures numbers { λ _. ⌜ (length (now (numbers .exit)) ≡ 256) × LabelsNumbered (now (table .entry)) (now (x .entry)) (length (now (x .entry))) (now (numbers .exit)) ⌝ }
 {
     let mut found = [0u8; 256];
     let mut k: usize = 0;
@@ -163,7 +164,7 @@ fn number_labels(table: &[u8], x: &[u8], numbers: &mut [u8; 256]) -> usize
 
 // Writes for each plot the number of its label.
 fn spread_labels(numbers: &[u8], f: &[u8], out: &mut [u8; PLOTS])
-    requires { ⌜ (length (now numbers) ≡ 256) × (length (now f) ≤ 240) ⌝ }
+    requires { ⌜ (length (now numbers) ≡ 256) × (length (now f) ≤ mostPlots) ⌝ }
     ensures { λ _. ⌜ now (out .exit) ≡ overlay (now (out .entry)) (spread (now (numbers .entry)) (now (f .entry))) ⌝ }
 {
     let room: &mut [u8] = out;
@@ -174,7 +175,7 @@ fn spread_labels(numbers: &[u8], f: &[u8], out: &mut [u8; PLOTS])
 
 // Writes 1 for each of `n` plots; answers 1, the number of classes.
 fn one_class(n: usize, out: &mut [u8; PLOTS]) -> usize
-    requires { ⌜ n ≤ 240 ⌝ }
+    requires { ⌜ n ≤ mostPlots ⌝ }
     ensures answer { λ r. ⌜ r ≡ 1 ⌝ }
     ensures numbers { λ _. ⌜ now (out .exit) ≡ overlay (now (out .entry)) (universal n) ⌝ }
 {

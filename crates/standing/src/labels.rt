@@ -1,19 +1,13 @@
-// The range of the labels of a column. The walks go to the end, so that many plots are compared at a time.
+// The range of the labels of a column. The walk goes to the end, so that many plots are compared at a time.
 ghost use Prim.Native.Nat.{_≤_, _<_};
 ghost use Rattle.standing.specs.Joining.{Below, NotBelow};
+use factor::largest;
 
 // One more than the largest label; 1 for a column without a plot.
 pub fn past_labels(f: &[u8]) -> usize
     ensures { λ r. ⌜ (0 < r) × (r ≤ 256) × Below r (now (f .entry)) ⌝ }
 {
-    let mut largest: u8 = 0;
-    for u in 0..f.len() {
-        let x = f[u];
-        if largest < x {
-            largest = x;
-        }
-    }
-    largest as usize + 1
+    largest(f) as usize + 1
 }
 
 // The smallest label; 255 for a column without a plot.

@@ -2,29 +2,30 @@
 // numbers is numbered like levels.
 ghost use mathlib.Core.Path.{_≡_};
 ghost use Prim.Native.Nat.{ℕ, _+_, _*_, _≤_, _<_};
-ghost use lib.ListN.{length, take};
+ghost use lib.ListN.{length};
+ghost use Rattle.rules.specs.Limits.{mostPlots};
 ghost use Rattle.rules.specs.Factor.{at, classes, infimum};
 ghost use Rattle.factor.specs.Lent.{overlay};
 ghost use Rattle.standing.specs.Joining.{Below};
-ghost use Rattle.standing.specs.Cells.{Cover};
-use limits::Level;
+ghost use Rattle.standing.specs.Cells.{Cover, Unlisted, Uncovered};
 use limits::PLOTS;
+use limits::PairCode;
 
 // One number for the two labels of each plot: labels `x` and `y` make w × x + y.
-fn coded(f: &[u8], g: &[u8], w: usize) -> [Level; PLOTS]
-    requires { ⌜ (length (now f) ≤ 240) × (length (now g) ≡ length (now f)) × (w ≤ 256) ⌝ }
-    ensures { λ r. ⌜ (length r ≡ 240) × ((u : ℕ) → u < length (now (f .entry)) → at r u ≡ w * at (now (f .entry)) u + at (now (g .entry)) u) ⌝ }
+fn coded(f: &[u8], g: &[u8], w: usize) -> [PairCode; PLOTS]
+    requires { ⌜ (length (now f) ≤ mostPlots) × (length (now g) ≡ length (now f)) × (w ≤ 256) ⌝ }
+    ensures { λ r. ⌜ (length r ≡ mostPlots) × ((u : ℕ) → u < length (now (f .entry)) → at r u ≡ w * at (now (f .entry)) u + at (now (g .entry)) u) ⌝ }
 {
-    let mut codes = [0u16; PLOTS];
+    let mut codes: [PairCode; PLOTS] = [0; PLOTS];
     for u in 0..f.len() {
-        codes[u] = (w * f[u] as usize + g[u] as usize) as u16;
+        codes[u] = (w * f[u] as usize + g[u] as usize) as PairCode;
     }
     codes
 }
 
 // Numbers the classes of the infimum of two columns of one length; the labels of `g` are below `w`. Answers how many there are.
 pub(crate) fn infimum_many(f: &[u8], g: &[u8], w: usize, out: &mut [u8; PLOTS]) -> usize
-    requires { ⌜ (length (now f) ≤ 240) × (length (now g) ≡ length (now f)) × (w ≤ 256) × Below w (now g) ⌝ }
+    requires { ⌜ (length (now f) ≤ mostPlots) × (length (now g) ≡ length (now f)) × (w ≤ 256) × Below w (now g) ⌝ }
     ensures answer { λ r. ⌜ r ≡ classes (infimum (now (f .entry)) (now (g .entry))) ⌝ }
     ensures numbers { λ _. ⌜ now (out .exit) ≡ overlay (now (out .entry)) (infimum (now (f .entry)) (now (g .entry))) ⌝ }
 {
@@ -40,7 +41,7 @@ fn list_cells(
     cell_f: &mut [u8; PLOTS],
     cell_g: &mut [u8; PLOTS],
 ) -> usize
-    requires { ⌜ (length (now f) ≤ 240) × (length (now g) ≡ length (now f)) × (take (length (now f)) (now below) ≡ infimum (now f) (now g)) × Cover 0 (now f) (now g) (now «cell_f») (now «cell_g») 0 ⌝ }
+    requires { ⌜ Unlisted (now f) (now g) (now below) (now «cell_f») (now «cell_g») ⌝ }
     ensures { λ r. ⌜ Cover (length (now (f .entry))) (now (f .entry)) (now (g .entry)) (now («cell_f» .exit)) (now («cell_g» .exit)) r ⌝ }
 {
     let mut k: usize = 0;
@@ -63,7 +64,7 @@ pub(crate) fn number_many(
     cell_g: &mut [u8; PLOTS],
     out: &mut [u8; PLOTS],
 ) -> usize
-    requires { ⌜ (length (now f) ≤ 240) × (length (now g) ≡ length (now f)) × (w ≤ 256) × Below w (now g) × Cover 0 (now f) (now g) (now «cell_f») (now «cell_g») 0 ⌝ }
+    requires { ⌜ Uncovered w (now f) (now g) (now «cell_f») (now «cell_g») ⌝ }
     ensures answer { λ r. ⌜ r ≡ classes (infimum (now (f .entry)) (now (g .entry))) ⌝ }
     ensures list { λ r. ⌜ Cover (length (now (f .entry))) (now (f .entry)) (now (g .entry)) (now («cell_f» .exit)) (now («cell_g» .exit)) r ⌝ }
     ensures numbers { λ _. ⌜ now (out .exit) ≡ overlay (now (out .entry)) (infimum (now (f .entry)) (now (g .entry))) ⌝ }

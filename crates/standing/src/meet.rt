@@ -1,11 +1,10 @@
 // The infimum of two factors.
 ghost use mathlib.Core.Path.{_≡_};
-ghost use Prim.Native.Nat.{_*_, _≤_};
-ghost use lib.ListN.{length, replicate};
+ghost use Prim.Native.Nat.{_*_};
+ghost use lib.ListN.{length};
 ghost use Rattle.rules.specs.Factor.{classes, infimum};
 ghost use Rattle.factor.specs.Lent.{onCommon, overlay};
-ghost use Rattle.standing.specs.Joining.{Below};
-ghost use Rattle.standing.specs.Cells.{Inside, Cover};
+ghost use Rattle.standing.specs.Cells.{Cover, InRanges, CellRoom, Unnumbered};
 use crate::cells::CELLS;
 use crate::cells::FEW_CELLS;
 use crate::labels::past_labels;
@@ -26,7 +25,7 @@ pub fn infimum(f: &[u8], g: &[u8], out: &mut [u8; PLOTS]) -> usize
 
 // The same for two columns of one length; the labels of `f` are below `a`, those of `g` below `w`.
 fn infimum_whole(f: &[u8], g: &[u8], a: usize, w: usize, out: &mut [u8; PLOTS]) -> usize
-    requires { ⌜ (length (now f) ≤ 240) × (length (now g) ≡ length (now f)) × (a ≤ 256) × (w ≤ 256) × Below a (now f) × Below w (now g) ⌝ }
+    requires { ⌜ InRanges a w (now f) (now g) ⌝ }
     ensures answer { λ r. ⌜ r ≡ classes (infimum (now (f .entry)) (now (g .entry))) ⌝ }
     ensures numbers { λ _. ⌜ now (out .exit) ≡ overlay (now (out .entry)) (infimum (now (f .entry)) (now (g .entry))) ⌝ }
 {
@@ -51,7 +50,7 @@ fn infimum_cells(
     numbers: &mut [u8],
     out: &mut [u8; PLOTS],
 ) -> usize
-    requires { ⌜ (length (now f) ≤ 240) × (length (now g) ≡ length (now f)) × (a ≤ 256) × (w ≤ 256) × Below a (now f) × Below w (now g) × (a * w ≤ length (now numbers)) × (length (now numbers) ≤ 65536) × (now numbers ≡ replicate (length (now numbers)) 0) ⌝ }
+    requires { ⌜ CellRoom a w (now f) (now g) (now numbers) ⌝ }
     ensures answer { λ r. ⌜ r ≡ classes (infimum (now (f .entry)) (now (g .entry))) ⌝ }
     ensures numbers { λ _. ⌜ now (out .exit) ≡ overlay (now (out .entry)) (infimum (now (f .entry)) (now (g .entry))) ⌝ }
 {
@@ -70,7 +69,7 @@ pub(crate) fn number_cells(
     cell_g: &mut [u8; PLOTS],
     out: &mut [u8; PLOTS],
 ) -> usize
-    requires { ⌜ (length (now f) ≤ 240) × (length (now g) ≡ length (now f)) × (length (now numbers) ≤ 65536) × Inside w (length (now numbers)) (now f) (now g) × (now numbers ≡ replicate (length (now numbers)) 0) × Cover 0 (now f) (now g) (now «cell_f») (now «cell_g») 0 ⌝ }
+    requires { ⌜ Unnumbered w (now f) (now g) (now numbers) (now «cell_f») (now «cell_g») ⌝ }
     ensures answer { λ r. ⌜ r ≡ classes (infimum (now (f .entry)) (now (g .entry))) ⌝ }
     ensures list { λ r. ⌜ Cover (length (now (f .entry))) (now (f .entry)) (now (g .entry)) (now («cell_f» .exit)) (now («cell_g» .exit)) r ⌝ }
     ensures numbers { λ _. ⌜ now (out .exit) ≡ overlay (now (out .entry)) (infimum (now (f .entry)) (now (g .entry))) ⌝ }

@@ -1,11 +1,10 @@
 // What two factors make together: their infimum with their supremum, and their supremum with whether they are orthogonal.
 ghost use mathlib.Core.Path.{_≡_};
-ghost use Prim.Native.Nat.{_*_, _≤_};
-ghost use lib.ListN.{length, replicate};
+ghost use Prim.Native.Nat.{_*_};
+ghost use lib.ListN.{length};
 ghost use Rattle.rules.specs.Factor.{classes, infimum, supremum, orthogonal};
 ghost use Rattle.factor.specs.Lent.{onCommon, testCommon, overlay};
-ghost use Rattle.standing.specs.Joining.{Below};
-ghost use Rattle.standing.specs.Cells.{Inside, CellSizes, Listed};
+ghost use Rattle.standing.specs.Cells.{InRanges, CellRoom, CellsListed, LabelsListed, WithBounds};
 use crate::cells::CELLS;
 use crate::cells::FEW_CELLS;
 use crate::cells::count_cells;
@@ -61,7 +60,7 @@ fn bounds_whole(
     below: &mut [u8; PLOTS],
     above: &mut [u8; PLOTS],
 ) -> Bounds
-    requires { ⌜ (length (now f) ≤ 240) × (length (now g) ≡ length (now f)) × (a ≤ 256) × (w ≤ 256) × Below a (now f) × Below w (now g) ⌝ }
+    requires { ⌜ InRanges a w (now f) (now g) ⌝ }
     ensures infimum { λ r. ⌜ r .infimum ≡ classes (infimum (now (f .entry)) (now (g .entry))) ⌝ }
     ensures supremum { λ r. ⌜ r .supremum ≡ classes (supremum (now (f .entry)) (now (g .entry))) ⌝ }
     ensures below { λ _. ⌜ now (below .exit) ≡ overlay (now (below .entry)) (infimum (now (f .entry)) (now (g .entry))) ⌝ }
@@ -89,7 +88,7 @@ fn bounds_cells(
     below: &mut [u8; PLOTS],
     above: &mut [u8; PLOTS],
 ) -> Bounds
-    requires { ⌜ (length (now f) ≤ 240) × (length (now g) ≡ length (now f)) × (a ≤ 256) × (w ≤ 256) × Below a (now f) × Below w (now g) × (a * w ≤ length (now numbers)) × (length (now numbers) ≤ 65536) × (now numbers ≡ replicate (length (now numbers)) 0) ⌝ }
+    requires { ⌜ CellRoom a w (now f) (now g) (now numbers) ⌝ }
     ensures infimum { λ r. ⌜ r .infimum ≡ classes (infimum (now (f .entry)) (now (g .entry))) ⌝ }
     ensures supremum { λ r. ⌜ r .supremum ≡ classes (supremum (now (f .entry)) (now (g .entry))) ⌝ }
     ensures below { λ _. ⌜ now (below .exit) ≡ overlay (now (below .entry)) (infimum (now (f .entry)) (now (g .entry))) ⌝ }
@@ -114,7 +113,7 @@ fn bounds_many(
     below: &mut [u8; PLOTS],
     above: &mut [u8; PLOTS],
 ) -> Bounds
-    requires { ⌜ (length (now f) ≤ 240) × (length (now g) ≡ length (now f)) × (a ≤ 256) × (w ≤ 256) × Below a (now f) × Below w (now g) ⌝ }
+    requires { ⌜ InRanges a w (now f) (now g) ⌝ }
     ensures infimum { λ r. ⌜ r .infimum ≡ classes (infimum (now (f .entry)) (now (g .entry))) ⌝ }
     ensures supremum { λ r. ⌜ r .supremum ≡ classes (supremum (now (f .entry)) (now (g .entry))) ⌝ }
     ensures below { λ _. ⌜ now (below .exit) ≡ overlay (now (below .entry)) (infimum (now (f .entry)) (now (g .entry))) ⌝ }
@@ -139,7 +138,7 @@ fn supremum_listed(
     y: &[u8],
     above: &mut [u8; PLOTS],
 ) -> usize
-    requires { ⌜ (length (now f) ≤ 240) × (length (now g) ≡ length (now f)) × (a ≤ 256) × Below a (now f) × Listed (now f) (now g) (now x) (now y) ⌝ }
+    requires { ⌜ LabelsListed a (now f) (now g) (now x) (now y) ⌝ }
     ensures supremum { λ r. ⌜ r ≡ classes (supremum (now (f .entry)) (now (g .entry))) ⌝ }
     ensures above { λ _. ⌜ now (above .exit) ≡ overlay (now (above .entry)) (supremum (now (f .entry)) (now (g .entry))) ⌝ }
 {
@@ -167,7 +166,7 @@ pub fn crossing_of(f: &[u8], g: &[u8], above: &mut [u8; PLOTS]) -> Crossing
 // The same for two columns of one length; the labels of `f` are below `a`, those of `g` below `w`. Of nested factors the one with more
 // labels is the finer, unless labels are left out; that it is finer a walk tells which ends at the first plot that denies it.
 fn crossing_whole(f: &[u8], g: &[u8], a: usize, w: usize, above: &mut [u8; PLOTS]) -> Crossing
-    requires { ⌜ (length (now f) ≤ 240) × (length (now g) ≡ length (now f)) × (a ≤ 256) × (w ≤ 256) × Below a (now f) × Below w (now g) ⌝ }
+    requires { ⌜ InRanges a w (now f) (now g) ⌝ }
     ensures supremum { λ r. ⌜ r .supremum ≡ classes (supremum (now (f .entry)) (now (g .entry))) ⌝ }
     ensures orthogonal { λ r. ⌜ r .orthogonal ≡ orthogonal (length (now (f .entry))) (now (f .entry)) (now (g .entry)) ⌝ }
     ensures above { λ _. ⌜ now (above .exit) ≡ overlay (now (above .entry)) (supremum (now (f .entry)) (now (g .entry))) ⌝ }
@@ -200,7 +199,7 @@ fn crossing_cells(
     in_cells: &mut [u8],
     above: &mut [u8; PLOTS],
 ) -> Crossing
-    requires { ⌜ (length (now f) ≤ 240) × (length (now g) ≡ length (now f)) × (a ≤ 256) × (w ≤ 256) × Below a (now f) × Below w (now g) × (a * w ≤ length (now «in_cells»)) × (length (now «in_cells») ≤ 65536) × (now «in_cells» ≡ replicate (length (now «in_cells»)) 0) ⌝ }
+    requires { ⌜ CellRoom a w (now f) (now g) (now «in_cells») ⌝ }
     ensures supremum { λ r. ⌜ r .supremum ≡ classes (supremum (now (f .entry)) (now (g .entry))) ⌝ }
     ensures orthogonal { λ r. ⌜ r .orthogonal ≡ orthogonal (length (now (f .entry))) (now (f .entry)) (now (g .entry)) ⌝ }
     ensures above { λ _. ⌜ now (above .exit) ≡ overlay (now (above .entry)) (supremum (now (f .entry)) (now (g .entry))) ⌝ }
@@ -222,7 +221,7 @@ fn crossing_listed(
     y: &[u8],
     above: &mut [u8; PLOTS],
 ) -> Crossing
-    requires { ⌜ (length (now f) ≤ 240) × (length (now g) ≡ length (now f)) × (a ≤ 256) × (w ≤ 256) × Below a (now f) × Below w (now g) × (length (now «in_cells») ≤ 65536) × Inside w (length (now «in_cells»)) (now f) (now g) × CellSizes (length (now «in_cells»)) w (length (now f)) (now f) (now g) (now «in_cells») × Listed (now f) (now g) (now x) (now y) ⌝ }
+    requires { ⌜ CellsListed a w (now f) (now g) (now «in_cells») (now x) (now y) ⌝ }
     ensures supremum { λ r. ⌜ r .supremum ≡ classes (supremum (now (f .entry)) (now (g .entry))) ⌝ }
     ensures orthogonal { λ r. ⌜ r .orthogonal ≡ orthogonal (length (now (f .entry))) (now (f .entry)) (now (g .entry)) ⌝ }
     ensures above { λ _. ⌜ now (above .exit) ≡ overlay (now (above .entry)) (supremum (now (f .entry)) (now (g .entry))) ⌝ }
@@ -244,7 +243,7 @@ fn crossing_listed(
 // Whether two columns are orthogonal, by their infimum and supremum: the sizes of each plot's classes of these make the product that those
 // of its classes of the two make.
 fn even_plots(f: &[u8], g: &[u8], below: &[u8], above: &[u8]) -> bool
-    requires { ⌜ (length (now f) ≤ 240) × (length (now g) ≡ length (now f)) × (now below ≡ infimum (now f) (now g)) × (now above ≡ supremum (now f) (now g)) ⌝ }
+    requires { ⌜ WithBounds (now f) (now g) (now below) (now above) ⌝ }
     ensures { λ r. ⌜ r ≡ orthogonal (length (now (f .entry))) (now (f .entry)) (now (g .entry)) ⌝ }
 {
     let in_f = label_sizes(f);
@@ -263,7 +262,7 @@ fn even_plots(f: &[u8], g: &[u8], below: &[u8], above: &[u8]) -> bool
 
 // `crossing_whole` for many cells, without a table of these.
 fn crossing_many(f: &[u8], g: &[u8], a: usize, w: usize, above: &mut [u8; PLOTS]) -> Crossing
-    requires { ⌜ (length (now f) ≤ 240) × (length (now g) ≡ length (now f)) × (a ≤ 256) × (w ≤ 256) × Below a (now f) × Below w (now g) ⌝ }
+    requires { ⌜ InRanges a w (now f) (now g) ⌝ }
     ensures supremum { λ r. ⌜ r .supremum ≡ classes (supremum (now (f .entry)) (now (g .entry))) ⌝ }
     ensures orthogonal { λ r. ⌜ r .orthogonal ≡ orthogonal (length (now (f .entry))) (now (f .entry)) (now (g .entry)) ⌝ }
     ensures above { λ _. ⌜ now (above .exit) ≡ overlay (now (above .entry)) (supremum (now (f .entry)) (now (g .entry))) ⌝ }

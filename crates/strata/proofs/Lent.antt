@@ -1,7 +1,7 @@
 -- Laws of a family in lent memory: its members, and what questions 6 and 15 tell of it.
 -- Assumes nothing.
-use mathlib.Core.Path.{_≡_, refl, ap, _∙_}
-use mathlib.Core.Bool.{Bool, true, false, _&&_}
+use mathlib.Core.Path.{_≡_, ap, _∙_}
+use mathlib.Core.Bool.{true, _&&_}
 use mathlib.Core.List.{List, []}
 use Prim.Native.Nat.{ℕ, _≤_, _<_}
 use native.Mathlib.Omega.{arith}
@@ -11,18 +11,10 @@ use borrow.Author.Tests.{leb-true}
 use Rattle.rules.specs.Family.{membersOf, wellFormed}
 use Rattle.rules.specs.Design.{plotsWithin}
 use Rattle.rules.proofs.Buffer.{length-members, member-is}
+use Rattle.rules.proofs.Sheet.{and-left, and-right}
 use Rattle.rules.proofs.WellFormed.{Accepted, accepted}
 use Rattle.strata.specs.Lent.{Formed}
 use Rattle.families.proofs.Lent.{length-column}
-
-and-left : (a b : Bool) → a && b ≡ true → a ≡ true
-and-left true b e = refl
-and-left false b e = e
-
-and-right : (a b : Bool) → a && b ≡ true → b ≡ true
-and-right true b e = e
-and-right false true e = refl
-and-right false false e = e
 
 module _ {n : ℕ} {b : List ℕ} {size : ℕ} (is : Formed n b size) where
   pub accepted-members : Accepted (membersOf n b size)

@@ -1,7 +1,7 @@
 -- Laws of the relation's words: what the loops build is what the rules say.
 -- Assumes nothing.
 use mathlib.Core.Path.{_≡_, refl, sym, ap, ap₂, _∙_}
-use mathlib.Core.Bool.{Bool, true, false, not, _&&_}
+use mathlib.Core.Bool.{Bool, true, false, not, _&&_, and-true}
 use mathlib.Core.List.{List, []}
 use Prim.Native.Nat.{ℕ, _+_, _-_, _≤_, _<_, _^_}
 use native.Mathlib.Nat.{pow-le-pow-right, lt-of-lt-of-le}
@@ -62,11 +62,7 @@ module _ (words : List ℕ) (i : ℕ) where
   -- nothing masked yet
   pub direct-start : getD words i 0 < 2 ^ 32 → getD words i 0 ≡ wordOf (directBit words i 0) 32
   unfolding directBit every
-  direct-start h = sym (word-ext (directBit words i 0) (bitAt (getD words i 0)) 32 (λ k l. and-right (bitAt (getD words i 0) k)) ∙ word-bits 32 (getD words i 0) h)
-    where
-      and-right : (a : Bool) → a && true ≡ a
-      and-right true = refl
-      and-right false = refl
+  direct-start h = sym (word-ext (directBit words i 0) (bitAt (getD words i 0)) 32 (λ k l. and-true (bitAt (getD words i 0) k)) ∙ word-bits 32 (getD words i 0) h)
 
   -- place m has a bit: its word is masked out
   pub direct-mask : (m : ℕ) → getD words m 0 < 2 ^ 32 → bitAt (getD words i 0) m ≡ true → bitAnd (wordOf (directBit words i m) 32) (4294967295 - getD words m 0) ≡ wordOf (directBit words i (m + 1)) 32

@@ -5,11 +5,12 @@ use mathlib.Core.Bool.{true}
 use mathlib.Core.List.{List}
 use Prim.Native.Nat.{ℕ, _≤_}
 use lib.ListN.{length}
+use Rattle.rules.specs.Limits.{mostPlots, mostMembers, familyBytes}
 use Rattle.rules.specs.Family.{membersOf, wellFormed}
 
 -- a family that questions 6 and 15 accept
 pub record Formed (n : ℕ) (buffer : List ℕ) (size : ℕ) : Type 0 where
-  pub few-plots : n ≤ 240
-  pub long : 7680 ≤ length buffer
-  pub few : size ≤ 32
+  pub few-plots : n ≤ mostPlots
+  pub long : familyBytes ≤ length buffer
+  pub few : size ≤ mostMembers
   pub formed : wellFormed (membersOf n buffer size) ≡ true

@@ -3,12 +3,16 @@
 use mathlib.Core.Path.{_≡_}
 use mathlib.Core.Bool.{Bool, true, false, not, _&&_, _||_}
 use mathlib.Core.List.{List}
-use Prim.Native.Nat.{ℕ, zero, suc, _^_, _≤_, _<_}
+use Prim.Native.Nat.{ℕ, zero, suc, _+_, _^_, _≤_, _<_}
 use lib.Dec.{eqb}
-use lib.ListN.{getD}
+use lib.ListN.{length, getD, replicate}
+use Rattle.rules.specs.Limits.{mostPlots, mostMembers, familyBytes}
 use Rattle.rules.specs.Factor.{every, classes, finer}
-use Rattle.rules.specs.Lists.{wordOf, bitAt}
+use Rattle.rules.specs.Family.{membersOf}
+use Rattle.rules.specs.Lists.{wordOf, bitAt, forPlaces}
+use Rattle.rules.specs.Relation.{coarserWords}
 use Rattle.families.specs.Lent.{columnAt}
+use Rattle.strata.specs.Lent.{Formed}
 
 -- words of 32 bits
 abbrev pub AllWords : List ℕ → Type 0
@@ -29,6 +33,24 @@ pub record FinerFrom (n : ℕ) (buffer : List ℕ) (i j word : ℕ) : Type 0 whe
 abbrev pub Apart : ℕ → List ℕ → ℕ → Type 0
 Apart n buffer i = (j : ℕ) → j < i → classes (columnAt n buffer i) ≡ classes (columnAt n buffer j) → finer n (columnAt n buffer i) (columnAt n buffer j) ≡ false
 
+-- member i of k classes, and a member j before it of m
+abbrev pub CountedBefore : ℕ → List ℕ → ℕ → ℕ → ℕ → ℕ → Type 0
+CountedBefore n buffer i k j m =
+    (n ≤ mostPlots) × (familyBytes ≤ length buffer) × (i < mostMembers) × (j < i) × (k ≡ classes (columnAt n buffer i)) × (m ≡ classes (columnAt n buffer j))
+    × Apart n buffer i
+
+-- the same, with a word of member i that is known from the next member on, and the word of member j
+abbrev pub WordAfter : ℕ → List ℕ → ℕ → ℕ → ℕ → ℕ → ℕ → ℕ → Type 0
+WordAfter n buffer i j word coarser k m =
+    (n ≤ mostPlots) × (familyBytes ≤ length buffer) × (i < mostMembers) × (j < i) × FinerFrom n buffer i (j + 1) word × (coarser ≡ finerWord n buffer j)
+    × (k ≡ classes (columnAt n buffer i)) × (m ≡ classes (columnAt n buffer j)) × Apart n buffer i
+
+-- member i of k classes, and the words and the numbers of classes of all members before it
+abbrev pub WordsBefore : ℕ → List ℕ → ℕ → ℕ → List ℕ → List ℕ → Type 0
+WordsBefore n buffer i k words counts =
+    (n ≤ mostPlots) × (familyBytes ≤ length buffer) × (i < mostMembers) × (k ≡ classes (columnAt n buffer i))
+    × ((j : ℕ) → j < i → getD words j 0 ≡ finerWord n buffer j) × ((j : ℕ) → j < i → getD counts j 0 ≡ classes (columnAt n buffer j)) × Apart n buffer i
+
 -- bit k of word i, unless one of the first m places has a bit in word i and bit k in its own word
 unfoldable pub directBit : List ℕ → ℕ → ℕ → ℕ → Bool
 unfolding bitAt every
@@ -37,12 +59,34 @@ directBit words i m k = bitAt (getD words i 0) k && every m (λ j. not (bitAt (g
 -- word i without what is in the word of a place before it that has a bit in it
 unfoldable pub directWord : List ℕ → ℕ → ℕ
 unfolding wordOf directBit
-directWord words i = wordOf (directBit words i i) 32
+directWord words i = wordOf (directBit words i i) mostMembers
 
 -- the members of the first family that are finer than or equivalent to member t of the second
 unfoldable pub candidateWord : ℕ → List ℕ → ℕ → List ℕ → ℕ → ℕ
 unfolding wordOf finer
 candidateWord n plotBuffer plotSize treatmentBuffer t = wordOf (λ p. finer n (columnAt n plotBuffer p) (columnAt n treatmentBuffer t)) plotSize
+
+-- plot member p with its word, those before it that are candidates for treatment member t, and the place of a member with a class for each plot
+abbrev pub CandidatesBefore : ℕ → List ℕ → ℕ → ℕ → ℕ → List ℕ → ℕ → ℕ → Type 0
+CandidatesBefore n plots p word among treatments t finest =
+    (n ≤ mostPlots) × (familyBytes ≤ length plots) × (familyBytes ≤ length treatments) × (p < mostMembers) × (t < mostMembers) × (word ≡ finerWord n plots p)
+    × (among ≡ candidateWord n plots p treatments t) × (finest ≡ p → classes (columnAt n plots finest) ≡ n)
+
+-- the words of strictly coarser members of a family
+abbrev pub WordsOf : ℕ → List ℕ → ℕ → List ℕ → Type 0
+WordsOf n buffer size words = words ≡ forPlaces 0 (coarserWords n (membersOf n buffer size))
+
+-- a plot family and its words, treatment member t, and the place of a member with a class for each plot
+abbrev pub CandidatesAsked : ℕ → List ℕ → ℕ → List ℕ → List ℕ → ℕ → ℕ → Type 0
+CandidatesAsked n plots size words treatments t finest =
+    Formed n plots size × WordsOf n plots size words × (familyBytes ≤ length treatments) × (t < mostMembers)
+    × (finest < size → classes (columnAt n plots finest) ≡ n)
+
+-- a plot family and its words, a treatment family, and places that hold zeros
+abbrev pub PlacesAsked : ℕ → List ℕ → ℕ → List ℕ → ℕ → List ℕ → List ℕ → Type 0
+PlacesAsked n plots plotSize treatments treatmentSize words places =
+    Formed n plots plotSize × (familyBytes ≤ length treatments) × (treatmentSize ≤ mostMembers) × WordsOf n plots plotSize words
+    × (places ≡ replicate mostMembers 0)
 
 -- q, with its word of coarser members, is no candidate, or p itself, or finer than p
 unfoldable pub below : ℕ → ℕ → ℕ → ℕ → Bool

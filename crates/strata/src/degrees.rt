@@ -3,13 +3,14 @@ ghost use mathlib.Core.Path.{_≡_};
 ghost use Prim.Native.Nat.{_≤_};
 ghost use lib.IntN.{pos, _-ℤ_};
 ghost use lib.ListN.{getD, replicate};
+ghost use Rattle.rules.specs.Limits.{mostMembers};
 ghost use Rattle.rules.specs.Family.{membersOf};
 ghost use Rattle.rules.specs.Lists.{forPlaces, bitAt};
-ghost use Rattle.rules.specs.Relation.{coarserWords};
 ghost use Rattle.rules.specs.Degrees.{degrees, degreesRefused};
 ghost use Rattle.strata.specs.Answers.{degreesIn, degreesFound};
 ghost use Rattle.strata.specs.Lent.{Formed};
 ghost use Rattle.strata.specs.Sums.{Small, AllSmall, sumPassing};
+ghost use Rattle.strata.specs.Words.{WordsOf};
 use crate::DegreesReport;
 use crate::family::member_classes;
 use crate::order::coarser_words;
@@ -28,7 +29,7 @@ pub fn refused(q: u8) -> DegreesReport
 
 // `start` less the numbers at those of the first `m` places whose bit in `word` is set.
 pub fn less(start: i64, word: u32, numbers: &[i64; MEMBERS], m: usize) -> i64
-    requires { ⌜ (m ≤ 32) × Small start × AllSmall (now numbers) ⌝ }
+    requires { ⌜ (m ≤ mostMembers) × Small start × AllSmall (now numbers) ⌝ }
     ensures { λ r. ⌜ r ≡ start -ℤ sumPassing (bitAt word) (λ j. getD (now (numbers .entry)) j (pos 0)) m ⌝ }
 {
     let mut left = start;
@@ -49,7 +50,7 @@ pub fn fill_by_words(
     words: &[u32; MEMBERS],
     numbers: &mut [i64; MEMBERS],
 )
-    requires { ⌜ Formed n (now family) size × (now words ≡ forPlaces 0 (coarserWords n (membersOf n (now family) size))) × (now numbers ≡ replicate 32 (pos 0)) ⌝ }
+    requires { ⌜ Formed n (now family) size × WordsOf n (now family) size (now words) × (now numbers ≡ replicate mostMembers (pos 0)) ⌝ }
     ensures { λ _. ⌜ now (numbers .exit) ≡ forPlaces (pos 0) (degrees n (membersOf n (now (family .entry)) size)) ⌝ }
 {
     for i in 0..size {
@@ -62,7 +63,7 @@ pub fn fill_by_words(
 
 // Writes the degrees of freedom of all members of a family that 15 accepts, where there are zeros.
 pub fn fill_degrees(family: &[u8], n: usize, size: usize, numbers: &mut [i64; MEMBERS])
-    requires { ⌜ Formed n (now family) size × (now numbers ≡ replicate 32 (pos 0)) ⌝ }
+    requires { ⌜ Formed n (now family) size × (now numbers ≡ replicate mostMembers (pos 0)) ⌝ }
     ensures { λ _. ⌜ now (numbers .exit) ≡ forPlaces (pos 0) (degrees n (membersOf n (now (family .entry)) size)) ⌝ }
 {
     let words = coarser_words(family, n, size);

@@ -2,44 +2,25 @@
 ghost use mathlib.Core.Path.{_≡_};
 ghost use Prim.Native.Nat.{_≤_, _<_};
 ghost use lib.ListN.{length};
+ghost use Rattle.rules.specs.Limits.{mostPlots, mostMembers, familyBytes};
 ghost use Rattle.rules.specs.Factor.{number, classes, finer};
 ghost use Rattle.families.specs.Lent.{columnAt};
-use limits::PLOTS;
+use factor::largest;
+use families::member;
 
 // Whether member `i` of `f` is finer than or equivalent to member `j` of `g`.
 pub fn member_finer(f: &[u8], i: usize, g: &[u8], j: usize, n: usize) -> bool
-    requires { ⌜ (n ≤ 240) × (7680 ≤ length (now f)) × (7680 ≤ length (now g)) × (i < 32) × (j < 32) ⌝ }
+    requires { ⌜ (n ≤ mostPlots) × (familyBytes ≤ length (now f)) × (familyBytes ≤ length (now g)) × (i < mostMembers) × (j < mostMembers) ⌝ }
     ensures { λ r. ⌜ r ≡ finer n (columnAt n (now (f .entry)) i) (columnAt n (now (g .entry)) j) ⌝ }
 {
-    let a = PLOTS * i;
-    let b = PLOTS * j;
-    let c = a + n;
-    let d = b + n;
-    factor::finer(&f[a..c], &g[b..d])
+    factor::finer(member(f, i, n), member(g, j, n))
 }
 
-// How many classes a numbered column has: its largest number. The walk goes to the end, so that many plots are looked at at a time.
-fn largest(column: &[u8]) -> u8
-    requires { ⌜ number (now column) ≡ now column ⌝ }
-    ensures { λ r. ⌜ r ≡ classes (now (column .entry)) ⌝ }
-{
-    let mut k: u8 = 0;
-    for u in 0..column.len() {
-        let x = column[u];
-        if k < x {
-            k = x;
-        }
-    }
-    k
-}
-
-// How many classes a numbered member has.
+// How many classes a numbered member has: its largest number.
 pub fn member_classes(family: &[u8], i: usize, n: usize) -> usize
-    requires { ⌜ (n ≤ 240) × (7680 ≤ length (now family)) × (i < 32) × (number (columnAt n (now family) i) ≡ columnAt n (now family) i) ⌝ }
+    requires { ⌜ (n ≤ mostPlots) × (familyBytes ≤ length (now family)) × (i < mostMembers) × (number (columnAt n (now family) i) ≡ columnAt n (now family) i) ⌝ }
     ensures { λ r. ⌜ r ≡ classes (columnAt n (now (family .entry)) i) ⌝ }
 {
-    let a = PLOTS * i;
-    let e = a + n;
-    let k = largest(&family[a..e]);
+    let k = largest(member(family, i, n));
     k as usize
 }

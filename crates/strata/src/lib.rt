@@ -1,10 +1,9 @@
 // Relation, degrees of freedom and strata of families already made. Each entry asks 6, then 15; strata then ask 16.
 ghost use mathlib.Core.Path.{_≡_};
-ghost use Rattle.rules.specs.Family.{membersOf};
 ghost use Rattle.rules.specs.Relation.{relation};
 ghost use Rattle.rules.specs.Degrees.{degreesOfFreedom};
 ghost use Rattle.rules.specs.Strata.{strata};
-ghost use Rattle.strata.specs.Answers.{relationIn, degreesIn, strataIn, analysisIn, withDegrees};
+ghost use Rattle.strata.specs.Answers.{relationIn, degreesIn, strataIn, analysisIn, strataAnalysis};
 use limits::MEMBERS;
 
 mod degrees;
@@ -102,7 +101,8 @@ pub fn strata(
 }
 
 // The same in lent arrays, with the degrees of freedom of each plot member (`totals`) and of each treatment member (`degrees`): all 0 past
-// the sizes and after a refusal, whatever they held. Answers the question that failed, or 0.
+// the sizes and after a refusal, whatever they held. Answers the question that failed, or 0. Nine parameters: two families with their sizes,
+// and an array for each list.
 pub fn analysis(
     plot_family: &[u8],
     plot_size: usize,
@@ -114,7 +114,7 @@ pub fn analysis(
     places: &mut [usize; MEMBERS],
     residuals: &mut [i64; MEMBERS],
 ) -> u8
-    ensures { λ r. ⌜ analysisIn r (now (totals .exit)) (now (degrees .exit)) (now (places .exit)) (now (residuals .exit)) ≡ withDegrees plots (membersOf plots (now («plot_family» .entry)) «plot_size») (membersOf plots (now («treatment_family» .entry)) «treatment_size») (strata plots (now («plot_family» .entry)) «plot_size» (now («treatment_family» .entry)) «treatment_size») ⌝ }
+    ensures { λ r. ⌜ analysisIn r (now (totals .exit)) (now (degrees .exit)) (now (places .exit)) (now (residuals .exit)) ≡ strataAnalysis plots (now («plot_family» .entry)) «plot_size» (now («treatment_family» .entry)) «treatment_size» ⌝ }
 {
     *totals = [0i64; MEMBERS];
     *degrees = [0i64; MEMBERS];

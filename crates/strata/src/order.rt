@@ -1,16 +1,17 @@
 // The words of a family's relation: bit j of word i is for member j, both from 0.
 ghost use mathlib.Core.Path.{_≡_};
-ghost use Prim.Native.Nat.{ℕ, _+_, _≤_, _<_};
+ghost use Prim.Native.Nat.{_<_};
 ghost use lib.Count.{ones};
-ghost use lib.ListN.{length, getD};
-ghost use Rattle.rules.specs.Factor.{classes, finer};
+ghost use lib.ListN.{getD};
+ghost use Rattle.rules.specs.Limits.{mostMembers};
+ghost use Rattle.rules.specs.Factor.{finer};
 ghost use Rattle.rules.specs.Family.{membersOf};
 ghost use Rattle.rules.specs.Lists.{tabulate, forPlaces, bitAt};
 ghost use Rattle.rules.specs.Relation.{coarserWords, relationOf, relationRefused};
 ghost use Rattle.families.specs.Lent.{columnAt};
 ghost use Rattle.strata.specs.Answers.{relationIn};
 ghost use Rattle.strata.specs.Lent.{Formed};
-ghost use Rattle.strata.specs.Words.{AllWords, finerWord, FinerFrom, Apart, directWord};
+ghost use Rattle.strata.specs.Words.{AllWords, CountedBefore, FinerFrom, WordAfter, WordsBefore, directWord, finerWord};
 use crate::RelationReport;
 use crate::family::member_classes;
 use crate::family::member_finer;
@@ -31,7 +32,7 @@ pub fn refused(q: u8) -> RelationReport
 
 // Whether bit `j` of a word is set.
 pub fn has(word: u32, j: usize) -> bool
-    requires { ⌜ j < 32 ⌝ }
+    requires { ⌜ j < mostMembers ⌝ }
     ensures { λ r. ⌜ r ≡ bitAt word j ⌝ }
 {
     (word >> j) & 1 == 1
@@ -40,7 +41,7 @@ pub fn has(word: u32, j: usize) -> bool
 // Whether member `i`, of `k` classes, is finer than member `j`, of `other` classes. A class for each plot is finer than all, and one
 // class coarser; of different members with as many classes neither is finer; else the columns decide.
 fn counted_finer(family: &[u8], n: usize, i: usize, k: usize, j: usize, other: usize) -> bool
-    requires { ⌜ (n ≤ 240) × (7680 ≤ length (now family)) × (i < 32) × (j < i) × (k ≡ classes (columnAt n (now family) i)) × (other ≡ classes (columnAt n (now family) j)) × Apart n (now family) i ⌝ }
+    requires { ⌜ CountedBefore n (now family) i k j other ⌝ }
     ensures { λ r. ⌜ r ≡ finer n (columnAt n (now (family .entry)) i) (columnAt n (now (family .entry)) j) ⌝ }
 {
     if k == n {
@@ -67,7 +68,7 @@ fn with_member(
     k: usize,
     other: usize,
 ) -> u32
-    requires { ⌜ (n ≤ 240) × (7680 ≤ length (now family)) × (i < 32) × (j < i) × FinerFrom n (now family) i (j + 1) word × (coarser ≡ finerWord n (now family) j) × (k ≡ classes (columnAt n (now family) i)) × (other ≡ classes (columnAt n (now family) j)) × Apart n (now family) i ⌝ }
+    requires { ⌜ WordAfter n (now family) i j word coarser k other ⌝ }
     ensures { λ r. ⌜ FinerFrom n (now (family .entry)) i j r ⌝ }
 {
     if has(word, j) {
@@ -88,7 +89,7 @@ fn coarser_word(
     words: &[u32; MEMBERS],
     counts: &[u8; MEMBERS],
 ) -> u32
-    requires { ⌜ (n ≤ 240) × (7680 ≤ length (now family)) × (i < 32) × (k ≡ classes (columnAt n (now family) i)) × ((j : ℕ) → j < i → getD (now words) j 0 ≡ finerWord n (now family) j) × ((j : ℕ) → j < i → getD (now counts) j 0 ≡ classes (columnAt n (now family) j)) × Apart n (now family) i ⌝ }
+    requires { ⌜ WordsBefore n (now family) i k (now words) (now counts) ⌝ }
     ensures { λ r. ⌜ r ≡ finerWord n (now (family .entry)) i ⌝ }
 {
     let mut word: u32 = 0;
@@ -120,7 +121,7 @@ pub fn coarser_words(family: &[u8], n: usize, size: usize) -> [u32; MEMBERS]
 
 // The neighbours directly above member `i`: what is coarser than a coarser member is masked out.
 fn direct_word(words: &[u32; MEMBERS], i: usize) -> u32
-    requires { ⌜ (i < 32) × AllWords (now words) ⌝ }
+    requires { ⌜ (i < mostMembers) × AllWords (now words) ⌝ }
     ensures { λ r. ⌜ r ≡ directWord (now (words .entry)) i ⌝ }
 {
     let coarser = words[i];
@@ -136,7 +137,7 @@ fn direct_word(words: &[u32; MEMBERS], i: usize) -> u32
 // The words of neighbours directly above.
 fn direct_words(words: &[u32; MEMBERS]) -> [u32; MEMBERS]
     requires { ⌜ AllWords (now words) ⌝ }
-    ensures { λ r. ⌜ r ≡ tabulate (directWord (now (words .entry))) 32 ⌝ }
+    ensures { λ r. ⌜ r ≡ tabulate (directWord (now (words .entry))) mostMembers ⌝ }
 {
     let mut direct = [0u32; MEMBERS];
     for i in 0..MEMBERS {
@@ -148,7 +149,7 @@ fn direct_words(words: &[u32; MEMBERS]) -> [u32; MEMBERS]
 
 // How many bits of each word are set.
 fn bit_counts(words: &[u32; MEMBERS]) -> [u32; MEMBERS]
-    ensures { λ r. ⌜ r ≡ tabulate (λ i. ones (getD (now (words .entry)) i 0)) 32 ⌝ }
+    ensures { λ r. ⌜ r ≡ tabulate (λ i. ones (getD (now (words .entry)) i 0)) mostMembers ⌝ }
 {
     let mut counts = [0u32; MEMBERS];
     for i in 0..MEMBERS {

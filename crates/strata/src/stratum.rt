@@ -1,21 +1,18 @@
 // Strata and residuals. Places are counted from 0 inside, from 1 in the answers.
 ghost use mathlib.Core.Path.{_≡_};
 ghost use mathlib.Core.Bool.{not};
-ghost use mathlib.Core.List.{map};
 ghost use Prim.Native.Nat.{_≤_, _<_};
 ghost use lib.Dec.{eqb};
-ghost use lib.IntN.{pos};
-ghost use lib.ListN.{length, getD, replicate};
+ghost use lib.ListN.{getD};
+ghost use Rattle.rules.specs.Limits.{mostMembers};
 ghost use Rattle.rules.specs.Factor.{every, classes, finer};
-ghost use Rattle.rules.specs.Family.{membersOf};
-ghost use Rattle.rules.specs.Lists.{tabulate, forPlaces, wordOf};
-ghost use Rattle.rules.specs.Relation.{coarserWords};
-ghost use Rattle.rules.specs.Strata.{stratum, allHaveStratum, question15, question16};
+ghost use Rattle.rules.specs.Lists.{wordOf};
+ghost use Rattle.rules.specs.Strata.{question15, question16};
 ghost use Rattle.families.specs.Lent.{columnAt};
-ghost use Rattle.strata.specs.Answers.{analysisIn, Cleared, withDegrees};
+ghost use Rattle.strata.specs.Answers.{analysisIn, analysisFrom, Cleared, LentCleared, strataPlaces, allPlaced};
 ghost use Rattle.strata.specs.Lent.{Formed};
-ghost use Rattle.strata.specs.Sums.{AllSmall, residualAt};
-ghost use Rattle.strata.specs.Words.{finerWord, candidateWord, below, coarsest, firstPassing};
+ghost use Rattle.strata.specs.Sums.{Unsubtracted, residualsOf};
+ghost use Rattle.strata.specs.Words.{CandidatesBefore, CandidatesAsked, PlacesAsked, candidateWord, below, coarsest, firstPassing};
 use crate::degrees::fill_by_words;
 use crate::degrees::fill_degrees;
 use crate::degrees::less;
@@ -50,7 +47,7 @@ fn is_candidate(
     n: usize,
     finest: usize,
 ) -> bool
-    requires { ⌜ (n ≤ 240) × (7680 ≤ length (now «plot_family»)) × (7680 ≤ length (now «treatment_family»)) × (p < 32) × (t < 32) × (word ≡ finerWord n (now «plot_family») p) × (among ≡ candidateWord n (now «plot_family») p (now «treatment_family») t) × (finest ≡ p → classes (columnAt n (now «plot_family») finest) ≡ n) ⌝ }
+    requires { ⌜ CandidatesBefore n (now «plot_family») p word among (now «treatment_family») t finest ⌝ }
     ensures { λ r. ⌜ r ≡ finer n (columnAt n (now («plot_family» .entry)) p) (columnAt n (now («treatment_family» .entry)) t) ⌝ }
 {
     if word & among != 0 {
@@ -72,7 +69,7 @@ fn candidates(
     n: usize,
     finest: usize,
 ) -> u32
-    requires { ⌜ Formed n (now «plot_family») «plot_size» × (now words ≡ forPlaces 0 (coarserWords n (membersOf n (now «plot_family») «plot_size»))) × (7680 ≤ length (now «treatment_family»)) × (t < 32) × (finest < «plot_size» → classes (columnAt n (now «plot_family») finest) ≡ n) ⌝ }
+    requires { ⌜ CandidatesAsked n (now «plot_family») «plot_size» (now words) (now «treatment_family») t finest ⌝ }
     ensures { λ r. ⌜ r ≡ candidateWord n (now («plot_family» .entry)) «plot_size» (now («treatment_family» .entry)) t ⌝ }
 {
     let mut among: u32 = 0;
@@ -87,7 +84,7 @@ fn candidates(
 
 // Whether plot member `q`, with its word of coarser members, is no candidate, or `p` itself, or finer than `p`.
 fn is_below(word: u32, among: u32, p: usize, q: usize) -> bool
-    requires { ⌜ (p < 32) × (q < 32) ⌝ }
+    requires { ⌜ (p < mostMembers) × (q < mostMembers) ⌝ }
     ensures { λ r. ⌜ r ≡ below word among p q ⌝ }
 {
     if !has(among, q) {
@@ -101,7 +98,7 @@ fn is_below(word: u32, among: u32, p: usize, q: usize) -> bool
 
 // Whether `p` is a candidate to which every other candidate is finer.
 fn is_coarsest(words: &[u32; MEMBERS], size: usize, among: u32, p: usize) -> bool
-    requires { ⌜ (size ≤ 32) × (p < 32) ⌝ }
+    requires { ⌜ (size ≤ mostMembers) × (p < mostMembers) ⌝ }
     ensures { λ r. ⌜ r ≡ coarsest (now (words .entry)) size among p ⌝ }
 {
     if !has(among, p) {
@@ -117,7 +114,7 @@ fn is_coarsest(words: &[u32; MEMBERS], size: usize, among: u32, p: usize) -> boo
 
 // The place of the coarsest candidate, from 1, or 0 where there is none.
 fn coarsest_place(words: &[u32; MEMBERS], size: usize, among: u32) -> usize
-    requires { ⌜ size ≤ 32 ⌝ }
+    requires { ⌜ size ≤ mostMembers ⌝ }
     ensures { λ r. ⌜ r ≡ firstPassing (coarsest (now (words .entry)) size among) 0 size ⌝ }
 {
     for p in 0..size {
@@ -130,7 +127,7 @@ fn coarsest_place(words: &[u32; MEMBERS], size: usize, among: u32) -> usize
 
 // Whether each of the first `size` places is one.
 fn all_placed(places: &[usize; MEMBERS], size: usize) -> bool
-    requires { ⌜ size ≤ 32 ⌝ }
+    requires { ⌜ size ≤ mostMembers ⌝ }
     ensures { λ r. ⌜ r ≡ every size (λ t. not (eqb (getD (now (places .entry)) t 0) 0)) ⌝ }
 {
     for t in 0..size {
@@ -151,9 +148,9 @@ fn fill_places(
     words: &[u32; MEMBERS],
     places: &mut [usize; MEMBERS],
 ) -> bool
-    requires { ⌜ Formed n (now «plot_family») «plot_size» × (7680 ≤ length (now «treatment_family»)) × («treatment_size» ≤ 32) × (now words ≡ forPlaces 0 (coarserWords n (membersOf n (now «plot_family») «plot_size»))) × (now places ≡ replicate 32 0) ⌝ }
-    ensures answer { λ r. ⌜ r ≡ allHaveStratum n (membersOf n (now («plot_family» .entry)) «plot_size») (membersOf n (now («treatment_family» .entry)) «treatment_size») ⌝ }
-    ensures places { λ _. ⌜ now (places .exit) ≡ forPlaces 0 (map (stratum n (membersOf n (now («plot_family» .entry)) «plot_size»)) (membersOf n (now («treatment_family» .entry)) «treatment_size»)) ⌝ }
+    requires { ⌜ PlacesAsked n (now «plot_family») «plot_size» (now «treatment_family») «treatment_size» (now words) (now places) ⌝ }
+    ensures answer { λ r. ⌜ r ≡ allPlaced n (now («plot_family» .entry)) «plot_size» (now («treatment_family» .entry)) «treatment_size» ⌝ }
+    ensures places { λ _. ⌜ now (places .exit) ≡ strataPlaces n (now («plot_family» .entry)) «plot_size» (now («treatment_family» .entry)) «treatment_size» ⌝ }
 {
     let finest = finest_place(plot_family, n, plot_size);
     for t in 0..treatment_size {
@@ -174,7 +171,7 @@ fn fill_places(
 
 // The treatment members whose stratum has the place `place`.
 fn stratum_word(places: &[usize; MEMBERS], size: usize, place: usize) -> u32
-    requires { ⌜ size ≤ 32 ⌝ }
+    requires { ⌜ size ≤ mostMembers ⌝ }
     ensures { λ r. ⌜ r ≡ wordOf (λ t. eqb (getD (now (places .entry)) t 0) place) size ⌝ }
 {
     let mut word: u32 = 0;
@@ -196,8 +193,8 @@ fn fill_residuals(
     treatment_size: usize,
     left: &mut [i64; MEMBERS],
 )
-    requires { ⌜ («plot_size» ≤ 32) × («treatment_size» ≤ 32) × AllSmall (now own) × AllSmall (now numbers) × (now left ≡ replicate 32 (pos 0)) ⌝ }
-    ensures { λ _. ⌜ now (left .exit) ≡ forPlaces (pos 0) (tabulate (residualAt (now (own .entry)) (now (numbers .entry)) (now (places .entry)) «treatment_size») «plot_size») ⌝ }
+    requires { ⌜ Unsubtracted «plot_size» «treatment_size» (now own) (now numbers) (now left) ⌝ }
+    ensures { λ _. ⌜ now (left .exit) ≡ residualsOf (now (own .entry)) (now (numbers .entry)) (now (places .entry)) «treatment_size» «plot_size» ⌝ }
 {
     for p in 0..plot_size {
         let word = stratum_word(places, treatment_size, p + 1);
@@ -207,7 +204,7 @@ fn fill_residuals(
     }
 }
 
-// From question 16 on, of families that 15 accepts.
+// From question 16 on, of families that 15 accepts. Nine parameters: two families with their sizes, and an array for each list answered.
 fn from_16(
     plot_family: &[u8],
     plot_size: usize,
@@ -220,7 +217,7 @@ fn from_16(
     left: &mut [i64; MEMBERS],
 ) -> u8
     requires { ⌜ Formed n (now «plot_family») «plot_size» × Formed n (now «treatment_family») «treatment_size» × Cleared (now totals) (now numbers) (now places) (now left) ⌝ }
-    ensures { λ r. ⌜ analysisIn r (now (totals .exit)) (now (numbers .exit)) (now (places .exit)) (now (left .exit)) ≡ withDegrees n (membersOf n (now («plot_family» .entry)) «plot_size») (membersOf n (now («treatment_family» .entry)) «treatment_size») (question16 n (membersOf n (now («plot_family» .entry)) «plot_size») (membersOf n (now («treatment_family» .entry)) «treatment_size»)) ⌝ }
+    ensures { λ r. ⌜ analysisIn r (now (totals .exit)) (now (numbers .exit)) (now (places .exit)) (now (left .exit)) ≡ analysisFrom question16 n (now («plot_family» .entry)) «plot_size» (now («treatment_family» .entry)) «treatment_size» ⌝ }
 {
     let words = coarser_words(plot_family, n, plot_size);
     if !fill_places(
@@ -241,7 +238,7 @@ fn from_16(
     0
 }
 
-// From question 15 on, once 6 is answered.
+// From question 15 on, once 6 is answered; the parameters as above.
 pub fn from_15(
     plot_family: &[u8],
     plot_size: usize,
@@ -253,8 +250,8 @@ pub fn from_15(
     places: &mut [usize; MEMBERS],
     left: &mut [i64; MEMBERS],
 ) -> u8
-    requires { ⌜ (n ≤ 240) × (7680 ≤ length (now «plot_family»)) × (7680 ≤ length (now «treatment_family»)) × Cleared (now totals) (now numbers) (now places) (now left) ⌝ }
-    ensures { λ r. ⌜ analysisIn r (now (totals .exit)) (now (numbers .exit)) (now (places .exit)) (now (left .exit)) ≡ withDegrees n (membersOf n (now («plot_family» .entry)) «plot_size») (membersOf n (now («treatment_family» .entry)) «treatment_size») (question15 n (membersOf n (now («plot_family» .entry)) «plot_size») (membersOf n (now («treatment_family» .entry)) «treatment_size»)) ⌝ }
+    requires { ⌜ LentCleared n (now «plot_family») (now «treatment_family») (now totals) (now numbers) (now places) (now left) ⌝ }
+    ensures { λ r. ⌜ analysisIn r (now (totals .exit)) (now (numbers .exit)) (now (places .exit)) (now (left .exit)) ≡ analysisFrom question15 n (now («plot_family» .entry)) «plot_size» (now («treatment_family» .entry)) «treatment_size» ⌝ }
 {
     if !well_formed(plot_family, n, plot_size) {
         return 15;

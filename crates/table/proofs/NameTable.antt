@@ -22,10 +22,10 @@ use Rattle.rules.proofs.NameSize.{name-length}
 use Rattle.rules.proofs.Numbering.{by-cases}
 use Rattle.families.specs.Lent.{columnAt}
 use Rattle.families.proofs.Lent.{part-of, length-column}
-use Rattle.naming.specs.Answers.{memberFits, nameFor, startingWith}
+use Rattle.naming.specs.Answers.{memberFits, namingCounted, startingWith}
 use Rattle.naming.specs.Members.{namesWritten, lengthsWritten, membersFit, memberName}
 use Rattle.naming.proofs.Entry.{named-for}
-use Rattle.table.specs.Names.{Nameable, Named, nameIn, namesIn, placedName}
+use Rattle.table.specs.Names.{Nameable, NameSlots, nameIn, namesIn, placedName}
 
 -- ---- one name
 
@@ -38,13 +38,13 @@ fits-place text levels buffer n count i room w k h r =
 
 -- what naming the part answers is the name at the place
 pub name-placed : (kind : Kind) (text levels buffer : List ℕ) (n count place room : ℕ) → Nameable text levels buffer n → count ≡ countKind (markOf kind) (header text) → count ≤ 6 → 1 ≤ place → place ≤ 32 → 96 ≤ room
-    → nameFor kind text levels n count (take (240 * (place - 1) + n - 240 * (place - 1)) (drop (240 * (place - 1)) buffer)) place room ≡ placedName kind text n levels buffer place
+    → namingCounted kind text levels n count (take (240 * (place - 1) + n - 240 * (place - 1)) (drop (240 * (place - 1)) buffer)) place room ≡ record { refusal = 0; name = placedName kind text n levels buffer place }
 unfolding placedName
 name-placed kind text levels buffer n count zero room w is few l h r = absurd (not-suc-le-zero l)
 name-placed kind text levels buffer n count (suc i) room w is few l h r =
     let e : suc i - 1 ≡ i = omega arith in
-    ap (λ (k : ℕ). nameFor kind text levels n count (take (240 * k + n - 240 * k) (drop (240 * k) buffer)) (suc i) room) e
-    ∙ ap (λ (F : List ℕ). nameFor kind text levels n count F (suc i) room) (part-of n i buffer)
+    ap (λ (k : ℕ). namingCounted kind text levels n count (take (240 * k + n - 240 * k) (drop (240 * k) buffer)) (suc i) room) e
+    ∙ ap (λ (F : List ℕ). namingCounted kind text levels n count F (suc i) room) (part-of n i buffer)
     ∙ named-for kind text levels n count (columnAt n buffer i) (suc i) room (w .form) is h (fits-place text levels buffer n count i room w few (omega arith) r)
 
 -- no name at place 0
@@ -172,5 +172,5 @@ filled-names kind text n levels buffer size names lengths h f =
     one-more : (j : ℕ) → suc j ≡ 1 + j
     one-more j = omega arith
 
-pub filled-named : (name : ℕ → List ℕ) (names lengths : List ℕ) (size : ℕ) → 96 * size ≤ length names → size ≤ length lengths → Filled name names lengths size → Named names lengths size
+pub filled-named : (name : ℕ → List ℕ) (names lengths : List ℕ) (size : ℕ) → 96 * size ≤ length names → size ≤ length lengths → Filled name names lengths size → NameSlots names lengths size
 filled-named name names lengths size h l f = record { room = h; counted = l; short = λ j k. f j k .0 }

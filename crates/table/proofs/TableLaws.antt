@@ -14,22 +14,19 @@ use Rattle.rules.specs.Lists.{forPlaces}
 use Rattle.rules.specs.Family.{Family, membersOf}
 use Rattle.rules.specs.Relation.{memberAt}
 use Rattle.rules.specs.Design.{Answer, fullDesign, plotBuffer, treatmentBuffer}
-use Rattle.rules.specs.Sheet.{Outcome, read, refused, question3, readingFrom3, reading, levelsAfter}
+use Rattle.rules.specs.Sheet.{Outcome, read, refused, question3, reading, levelsAfter}
 use Rattle.rules.specs.Naming.{Kind, plot, treatment, nameAt, nameOn}
 use Rattle.rules.specs.Table.{Row, acceptedRows, designRefusedRow, designRows, outcomeRows, tableRows, tableText, skeletonTable, emptyTable, rowsBytes, dash, placeName, strataRows, firstKind, secondKind, familyOf, refusedRow, namesFrom}
 use Rattle.rules.specs.Degrees.{degrees}
 use Rattle.rules.specs.Strata.{stratum, residuals, strata}
 use Rattle.rules.proofs.Buffer.{member-is, length-members}
 use Rattle.rules.proofs.Places.{length-places, at-places}
-use Rattle.rules.proofs.Sheet.{too-short, too-long, text-fits, length-after}
+use Rattle.rules.proofs.Sheet.{length-after}
 use Rattle.rules.proofs.DegreesLaws.{length-degrees}
 use Rattle.rules.proofs.Printing.{strata-answered}
 use Rattle.rules.proofs.Made.{Tells, Placed, plot-back, plot-buffer-length, treatment-back, treatment-buffer-length}
 use Rattle.design.specs.Answers.{FullNumbers, fullNumbersOf}
 use Rattle.naming.specs.Answers.{startingWith}
-use Rattle.sheet.specs.declared.header.Header.{Header}
-use Rattle.sheet.specs.Answers.{headed, linesRead, linesAfter}
-use Rattle.sheet.proofs.QuestionLaws.{refused-3, lines-read, lines-after}
 use Rattle.strata.proofs.StratumLaws.{length-residuals}
 use Rattle.strata.specs.Answers.{Analysis, withDegrees}
 use Rattle.table.specs.Names.{Nameable, placedName, tableOf}
@@ -235,35 +232,6 @@ module _ (text : List ℕ) where
   pub refused-text : (q : ℕ) → refused q ≡ reading text emptyTable → rowsBytes (refusedRow q dash dash ∷ []) ≡ tableText text
   unfolding tableText tableRows outcomeRows
   refused-text q e = ap (λ (o : Outcome). rowsBytes (outcomeRows text o)) e
-
-  -- of one that is empty, or too long
-  table-room : 2880 ≤ length emptyTable
-  unfolding emptyTable
-  table-room = omega (arith, length-replicate {A = ℕ} 2880 0)
-
-  pub short-text : length text < 1 → rowsBytes (refusedRow 2 dash dash ∷ []) ≡ tableText text
-  short-text h = refused-text 2 (sym (too-short text emptyTable table-room h))
-
-  pub long-text : 32768 < length text → rowsBytes (refusedRow 2 dash dash ∷ []) ≡ tableText text
-  long-text h = refused-text 2 (sym (too-long text emptyTable table-room h))
-
-  -- of one whose first line has not the form
-  pub headless-text : 1 ≤ length text → length text ≤ 32768 → question3 text ≡ false → rowsBytes (refusedRow 3 dash dash ∷ []) ≡ tableText text
-  headless-text h k q = refused-text 3 (sym (text-fits text emptyTable table-room h k ∙ refused-3 text q))
-
-  -- what is read by the header of the text
-  module _ (h : Header) (e : h ≡ headed text) (some : 1 ≤ length text) (few : length text ≤ 32768) where
-    by-text : reading text emptyTable ≡ readingFrom3 text
-    by-text = text-fits text emptyTable table-room some few
-
-    pub header-read : linesRead h text emptyTable ≡ reading text emptyTable
-    header-read = ap (λ (h : Header). linesRead h text emptyTable) e ∙ lines-read text emptyTable table-room ∙ sym by-text
-
-    -- the level table of the reading
-    pub header-table : (n p t : ℕ) (levels : List ℕ) → read n p t ≡ reading text emptyTable → levels ≡ linesAfter h text emptyTable → levels ≡ levelsAfter (reading text emptyTable) text emptyTable
-    header-table n p t levels r w =
-        w ∙ ap (λ (h : Header). linesAfter h text emptyTable) e ∙ lines-after text emptyTable table-room n p t (sym by-text ∙ sym r)
-        ∙ ap (λ (o : Outcome). levelsAfter o text emptyTable) (sym by-text)
 
   pub levels-long : (levels : List ℕ) → levels ≡ levelsAfter (reading text emptyTable) text emptyTable → 2880 ≤ length levels
   unfolding emptyTable

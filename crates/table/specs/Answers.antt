@@ -1,19 +1,28 @@
 -- The enum that the entry answers, by the rules' definitions.
 -- Assumes nothing.
+use mathlib.Core.Bool.{Bool, true, false}
 use Prim.Native.Nat.{ℕ}
+use lib.Dec.{eqb}
+use lib.ListN.{length}
 use Rattle.rules.specs.Sheet.{Outcome, read, refused}
+use Rattle.rules.specs.Table.{TableAnswer}
 use Rattle.table.specs.declared.Printed.{Printed}
 use Rattle.table.specs.declared.Printed.the-variants.{Text, Refused}
 
--- the question that failed, 0 for none
-abbrev pub refusalOf : Printed → ℕ
-refusalOf (Text m) = 0
-refusalOf (Refused q) = q
+-- whether the text is written, the number of the question that failed or 0, and how many bytes the text has
+pub record PrintNumbers : Type 0 where
+  pub accepted : Bool
+  pub refusal : ℕ
+  pub size : ℕ
 
--- how many bytes the text has
-abbrev pub lengthOf : Printed → ℕ
-lengthOf (Text m) = m
-lengthOf (Refused q) = 0
+-- each case of the enum
+unfoldable pub printNumbers : Printed → PrintNumbers
+printNumbers (Text m) = record { accepted = true; refusal = 0; size = m }
+printNumbers (Refused q) = record { accepted = false; refusal = q; size = 0 }
+
+-- an answer of the rules
+unfoldable pub printNumbersOf : TableAnswer → PrintNumbers
+printNumbersOf a = record { accepted = eqb (a .refusal) 0; refusal = a .refusal; size = length (a .text) }
 
 -- the number of a refused reading, 0 for a sheet that was read
 abbrev pub numberOf : Outcome → ℕ

@@ -37,7 +37,7 @@ unfolding tabulate nameIn
 namesIn names lengths size = tabulate (nameIn names lengths) size
 
 -- there is room for the names of so many members, and no name is longer than 96 bytes
-pub record Named (names lengths : List ℕ) (size : ℕ) : Type 0 where
+pub record NameSlots (names lengths : List ℕ) (size : ℕ) : Type 0 where
   pub room : 96 * size ≤ length names
   pub counted : size ≤ length lengths
   pub short : (j : ℕ) → j < size → getD lengths j 0 ≤ 96

@@ -12,10 +12,10 @@ ghost use Rattle.rules.specs.Table.{tableText, skeletonTable, tableBuffer, rows
 ghost use Rattle.decimal.specs.Writing.{written, placeAfter};
 ghost use Rattle.design.specs.Answers.{fullNumbers};
 ghost use Rattle.naming.specs.Answers.{startingWith};
-ghost use Rattle.sheet.specs.Answers.{outcomeOf, headed};
-ghost use Rattle.table.specs.Answers.{refusalOf, lengthOf, numberOf};
+ghost use Rattle.sheet.specs.Answers.{outcomeOf};
+ghost use Rattle.table.specs.Answers.{printNumbers, printNumbersOf, numberOf};
 ghost use Rattle.table.specs.Designs.{Accepted, bufferFor, placedRow, namedRows};
-ghost use Rattle.table.specs.Names.{Nameable, Named, namesIn, placedName};
+ghost use Rattle.table.specs.Names.{Nameable, NameSlots, namesIn, placedName};
 
 mod names;
 mod rows;
@@ -28,10 +28,8 @@ use limits::LEVELS;
 use limits::Level;
 use limits::MEMBERS;
 use limits::NAME;
-use limits::TEXT;
 use naming::Kind;
 use sheet::Counts;
-use sheet::Header;
 use sheet::Reading;
 
 // Bytes of a buffer for the printed text.
@@ -53,43 +51,23 @@ pub enum Printed {
 
 // Writes what is printed for a sheet's text: the skeleton table, or the line of a refusal. 6: the buffer is too short.
 pub fn skeleton_table(text: &[u8], out: &mut [u8]) -> Printed
-    ensures refusal { λ r. ⌜ refusalOf r ≡ skeletonTable (now (text .entry)) (length (now (out .entry))) .refusal ⌝ }
-    ensures answer { λ r. ⌜ lengthOf r ≡ length (skeletonTable (now (text .entry)) (length (now (out .entry))) .text) ⌝ }
+    ensures answer { λ r. ⌜ printNumbers r ≡ printNumbersOf (skeletonTable (now (text .entry)) (length (now (out .entry)))) ⌝ }
     ensures buffer { λ _. ⌜ now (out .exit) ≡ tableBuffer (now (out .entry)) (skeletonTable (now (text .entry)) (length (now (out .entry)))) ⌝ }
 {
     if out.len() < TABLE {
         return Printed::Refused(6);
     }
-    Printed::Text(print(text, out))
+    let length = print(text, out);
+    Printed::Text(length)
 }
 
-// Writes the whole text: questions 2 and 3 first, which need no level table.
+// Writes the whole text: questions 1 to 5 by the reader, whose enum tells the counts or the refusal.
 fn print(text: &[u8], out: &mut [u8]) -> usize
     ensures answer { λ r. ⌜ r ≡ placeAfter (now (out .entry)) 0 (tableText (now (text .entry))) ⌝ }
     ensures bytes { λ _. ⌜ now (out .exit) ≡ written (now (out .entry)) 0 (tableText (now (text .entry))) ⌝ }
 {
-    if text.len() < 1 {
-        return rows::put_refused(2, b"-", b"-", out);
-    }
-    if TEXT < text.len() {
-        return rows::put_refused(2, b"-", b"-", out);
-    }
-    let h = sheet::read_header(text);
-    let lines = h.end;
-    if lines == 0 {
-        return rows::put_refused(3, b"-", b"-", out);
-    }
-    print_sheet(h, text, out)
-}
-
-// Writes the whole text of a sheet whose first line is read: questions 4 and 5 first.
-fn print_sheet(h: Header, text: &[u8], out: &mut [u8]) -> usize
-    requires { ⌜ (h ≡ headed (now text)) × (1 ≤ length (now text)) × (length (now text) ≤ 32768) ⌝ }
-    ensures answer { λ r. ⌜ r ≡ placeAfter (now (out .entry)) 0 (tableText (now (text .entry))) ⌝ }
-    ensures bytes { λ _. ⌜ now (out .exit) ≡ written (now (out .entry)) 0 (tableText (now (text .entry))) ⌝ }
-{
     let mut levels = [0u16; LEVELS];
-    let reading = sheet::read_lines(h, text, &mut levels);
+    let reading = sheet::read_sheet(text, &mut levels);
     let Reading::Read(counts) = reading else {
         return rows::put_refused(reading_refusal(reading), b"-", b"-", out);
     };
@@ -411,7 +389,7 @@ fn print_sources(
     size: usize,
     out: &mut [u8],
 ) -> usize
-    requires { ⌜ (question3 (now text) ≡ true) × (2880 ≤ length (now levels)) × Accepted plots (now «plot_family») «plot_size» (now family) size × Named (now strata) (now «strata_lengths») «plot_size» × (columns ≡ countKind treatmentMark (header (now text))) ⌝ }
+    requires { ⌜ (question3 (now text) ≡ true) × (2880 ≤ length (now levels)) × Accepted plots (now «plot_family») «plot_size» (now family) size × NameSlots (now strata) (now «strata_lengths») «plot_size» × (columns ≡ countKind treatmentMark (header (now text))) ⌝ }
     ensures answer { λ r. ⌜ r ≡ placeAfter (now (out .entry)) 0 (rowsBytes (namedRows plots (membersOf plots (now («plot_family» .entry)) «plot_size») (membersOf plots (now (family .entry)) size) (namesIn (now (strata .entry)) (now («strata_lengths» .entry)) «plot_size») (namesFrom treatment (now (text .entry)) plots (now (levels .entry)) (membersOf plots (now (family .entry)) size) 1 size))) ⌝ }
     ensures bytes { λ _. ⌜ now (out .exit) ≡ written (now (out .entry)) 0 (rowsBytes (namedRows plots (membersOf plots (now («plot_family» .entry)) «plot_size») (membersOf plots (now (family .entry)) size) (namesIn (now (strata .entry)) (now («strata_lengths» .entry)) «plot_size») (namesFrom treatment (now (text .entry)) plots (now (levels .entry)) (membersOf plots (now (family .entry)) size) 1 size))) ⌝ }
 {
@@ -469,7 +447,7 @@ fn print_named(
     lengths: &mut [usize],
     out: &mut [u8],
 ) -> usize
-    requires { ⌜ (question3 (now text) ≡ true) × (2880 ≤ length (now levels)) × Accepted plots (now «plot_family») «plot_size» (now family) size × Named (now strata) (now «strata_lengths») «plot_size» × (96 * size ≤ length (now names)) × (size ≤ length (now lengths)) × (columns ≡ countKind treatmentMark (header (now text))) ⌝ }
+    requires { ⌜ (question3 (now text) ≡ true) × (2880 ≤ length (now levels)) × Accepted plots (now «plot_family») «plot_size» (now family) size × NameSlots (now strata) (now «strata_lengths») «plot_size» × (96 * size ≤ length (now names)) × (size ≤ length (now lengths)) × (columns ≡ countKind treatmentMark (header (now text))) ⌝ }
     ensures answer { λ r. ⌜ r ≡ placeAfter (now (out .entry)) 0 (rowsBytes (namedRows plots (membersOf plots (now («plot_family» .entry)) «plot_size») (membersOf plots (now (family .entry)) size) (namesIn (now (strata .entry)) (now («strata_lengths» .entry)) «plot_size») (namesFrom treatment (now (text .entry)) plots (now (levels .entry)) (membersOf plots (now (family .entry)) size) 1 size))) ⌝ }
     ensures bytes { λ _. ⌜ now (out .exit) ≡ written (now (out .entry)) 0 (rowsBytes (namedRows plots (membersOf plots (now («plot_family» .entry)) «plot_size») (membersOf plots (now (family .entry)) size) (namesIn (now (strata .entry)) (now («strata_lengths» .entry)) «plot_size») (namesFrom treatment (now (text .entry)) plots (now (levels .entry)) (membersOf plots (now (family .entry)) size) 1 size))) ⌝ }
 {
@@ -511,7 +489,7 @@ fn print_degrees(
     size: usize,
     out: &mut [u8],
 ) -> usize
-    requires { ⌜ Accepted plots (now «plot_family») «plot_size» (now family) size × Named (now strata) (now «strata_lengths») «plot_size» × Named (now names) (now lengths) size ⌝ }
+    requires { ⌜ Accepted plots (now «plot_family») «plot_size» (now family) size × NameSlots (now strata) (now «strata_lengths») «plot_size» × NameSlots (now names) (now lengths) size ⌝ }
     ensures answer { λ r. ⌜ r ≡ placeAfter (now (out .entry)) 0 (rowsBytes (namedRows plots (membersOf plots (now («plot_family» .entry)) «plot_size») (membersOf plots (now (family .entry)) size) (namesIn (now (strata .entry)) (now («strata_lengths» .entry)) «plot_size») (namesIn (now (names .entry)) (now (lengths .entry)) size))) ⌝ }
     ensures bytes { λ _. ⌜ now (out .exit) ≡ written (now (out .entry)) 0 (rowsBytes (namedRows plots (membersOf plots (now («plot_family» .entry)) «plot_size») (membersOf plots (now (family .entry)) size) (namesIn (now (strata .entry)) (now («strata_lengths» .entry)) «plot_size») (namesIn (now (names .entry)) (now (lengths .entry)) size))) ⌝ }
 {

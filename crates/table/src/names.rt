@@ -6,11 +6,12 @@ ghost use Rattle.rules.specs.Family.{membersOf};
 ghost use Rattle.rules.specs.Naming.{markOf};
 ghost use Rattle.rules.specs.Sheet.{countKind, header};
 ghost use Rattle.rules.specs.Table.{namesFrom};
-ghost use Rattle.naming.specs.Answers.{kindOf, startingWith};
-ghost use Rattle.table.specs.Names.{Nameable, Named, namesIn, placedName};
+ghost use Rattle.naming.specs.Answers.{kindOf, startingWith, nameNumbers};
+ghost use Rattle.table.specs.Names.{Nameable, NameSlots, namesIn, placedName};
 use limits::Level;
 use limits::PLOTS;
 use naming::Kind;
+use naming::Named;
 
 // Names each of the first `size` members in its 96 bytes, by the `count` columns of the kind, and keeps how many bytes the name has.
 pub fn fill_names(
@@ -26,7 +27,7 @@ pub fn fill_names(
 )
     requires { ⌜ Nameable (now text) (now levels) (now family) plots × (size ≤ 32) × (96 * size ≤ length (now names)) × (size ≤ length (now lengths)) × (count ≡ countKind (markOf (kindOf kind)) (header (now text))) ⌝ }
     ensures names { λ _. ⌜ namesIn (now (names .exit)) (now (lengths .exit)) size ≡ namesFrom (kindOf kind) (now (text .entry)) plots (now (levels .entry)) (membersOf plots (now (family .entry)) size) 1 size ⌝ }
-    ensures named { λ _. ⌜ Named (now (names .exit)) (now (lengths .exit)) size ⌝ }
+    ensures named { λ _. ⌜ NameSlots (now (names .exit)) (now (lengths .exit)) size ⌝ }
 {
     naming::name_members(
         text,
@@ -62,5 +63,16 @@ pub fn name_at(
     }
     let a = PLOTS * (place - 1);
     let e = a + plots;
-    naming::name_counted(text, levels, plots, kind, count, &family[a..e], place, name)
+    let named = naming::name_counted(text, levels, plots, kind, count, &family[a..e], place, name);
+    length_of(named)
+}
+
+// How many bytes a name has; 0 where there is none.
+fn length_of(named: Named) -> usize
+    ensures { λ r. ⌜ r ≡ nameNumbers named .size ⌝ }
+{
+    match named {
+        Named::Written(m) => m,
+        Named::Refused(_) => 0,
+    }
 }

@@ -7,7 +7,7 @@ ghost use lib.ListN.{length, take};
 ghost use Rattle.rules.specs.Table.{rowBytes, rowsBytes, signed, sourceRows, residualRows, stratumRows, strataRows, refusedRow, wordAll, wordTotal};
 ghost use Rattle.rules.specs.Lists.{decimalOf};
 ghost use Rattle.decimal.specs.Writing.{written, placeAfter};
-ghost use Rattle.table.specs.Names.{nameIn, namesIn, among, residualOf, tableOf, Named};
+ghost use Rattle.table.specs.Names.{nameIn, namesIn, among, residualOf, tableOf, NameSlots};
 use decimal::write_byte;
 use decimal::write_bytes;
 use decimal::write_decimal;
@@ -74,7 +74,7 @@ fn put_sources(
     out: &mut [u8],
     at: usize,
 ) -> usize
-    requires { ⌜ (size ≤ 32) × Named (now names) (now lengths) size × (length (now places) ≡ 32) × (length (now degrees) ≡ 32) ⌝ }
+    requires { ⌜ (size ≤ 32) × NameSlots (now names) (now lengths) size × (length (now places) ≡ 32) × (length (now degrees) ≡ 32) ⌝ }
     ensures answer { λ r. ⌜ r ≡ placeAfter (now (out .entry)) at (rowsBytes (sourceRows (now (stratum .entry)) i (namesIn (now (names .entry)) (now (lengths .entry)) size) (take size (now (places .entry))) (take size (now (degrees .entry))))) ⌝ }
     ensures bytes { λ _. ⌜ now (out .exit) ≡ written (now (out .entry)) at (rowsBytes (sourceRows (now (stratum .entry)) i (namesIn (now (names .entry)) (now (lengths .entry)) size) (take size (now (places .entry))) (take size (now (degrees .entry))))) ⌝ }
 {
@@ -129,7 +129,7 @@ fn put_stratum(
     out: &mut [u8],
     at: usize,
 ) -> usize
-    requires { ⌜ (size ≤ 32) × Named (now names) (now lengths) size × (length (now places) ≡ 32) × (length (now degrees) ≡ 32) ⌝ }
+    requires { ⌜ (size ≤ 32) × NameSlots (now names) (now lengths) size × (length (now places) ≡ 32) × (length (now degrees) ≡ 32) ⌝ }
     ensures answer { λ r. ⌜ r ≡ placeAfter (now (out .entry)) at (rowsBytes (stratumRows (now (stratum .entry)) i (namesIn (now (names .entry)) (now (lengths .entry)) size) (take size (now (places .entry))) (take size (now (degrees .entry))) total residual)) ⌝ }
     ensures bytes { λ _. ⌜ now (out .exit) ≡ written (now (out .entry)) at (rowsBytes (stratumRows (now (stratum .entry)) i (namesIn (now (names .entry)) (now (lengths .entry)) size) (take size (now (places .entry))) (take size (now (degrees .entry))) total residual)) ⌝ }
 {
@@ -154,7 +154,7 @@ pub fn put_strata(
     out: &mut [u8],
     at: usize,
 ) -> usize
-    requires { ⌜ (size ≤ 32) × Named (now names) (now lengths) size × (count ≤ 32) × Named (now strata) (now «strata_lengths») count × (length (now places) ≡ 32) × (length (now degrees) ≡ 32) × (length (now totals) ≡ 32) × (length (now residuals) ≡ 32) ⌝ }
+    requires { ⌜ (size ≤ 32) × NameSlots (now names) (now lengths) size × (count ≤ 32) × NameSlots (now strata) (now «strata_lengths») count × (length (now places) ≡ 32) × (length (now degrees) ≡ 32) × (length (now totals) ≡ 32) × (length (now residuals) ≡ 32) ⌝ }
     ensures answer { λ r. ⌜ r ≡ placeAfter (now (out .entry)) at (rowsBytes (strataRows 1 (namesIn (now (strata .entry)) (now («strata_lengths» .entry)) count) (take count (now (totals .entry))) (take count (now (residuals .entry))) (namesIn (now (names .entry)) (now (lengths .entry)) size) (take size (now (places .entry))) (take size (now (degrees .entry))))) ⌝ }
     ensures bytes { λ _. ⌜ now (out .exit) ≡ written (now (out .entry)) at (rowsBytes (strataRows 1 (namesIn (now (strata .entry)) (now («strata_lengths» .entry)) count) (take count (now (totals .entry))) (take count (now (residuals .entry))) (namesIn (now (names .entry)) (now (lengths .entry)) size) (take size (now (places .entry))) (take size (now (degrees .entry))))) ⌝ }
 {
@@ -196,7 +196,7 @@ pub fn put_table(
     degrees: &[i64; MEMBERS],
     out: &mut [u8],
 ) -> usize
-    requires { ⌜ (size ≤ 32) × Named (now names) (now lengths) size × (count ≤ 32) × Named (now strata) (now «strata_lengths») count × (length (now places) ≡ 32) × (length (now degrees) ≡ 32) × (length (now totals) ≡ 32) × (length (now residuals) ≡ 32) ⌝ }
+    requires { ⌜ (size ≤ 32) × NameSlots (now names) (now lengths) size × (count ≤ 32) × NameSlots (now strata) (now «strata_lengths») count × (length (now places) ≡ 32) × (length (now degrees) ≡ 32) × (length (now totals) ≡ 32) × (length (now residuals) ≡ 32) ⌝ }
     ensures answer { λ r. ⌜ r ≡ placeAfter (now (out .entry)) 0 (rowsBytes (tableOf plots (strataRows 1 (namesIn (now (strata .entry)) (now («strata_lengths» .entry)) count) (take count (now (totals .entry))) (take count (now (residuals .entry))) (namesIn (now (names .entry)) (now (lengths .entry)) size) (take size (now (places .entry))) (take size (now (degrees .entry)))))) ⌝ }
     ensures bytes { λ _. ⌜ now (out .exit) ≡ written (now (out .entry)) 0 (rowsBytes (tableOf plots (strataRows 1 (namesIn (now (strata .entry)) (now («strata_lengths» .entry)) count) (take count (now (totals .entry))) (take count (now (residuals .entry))) (namesIn (now (names .entry)) (now (lengths .entry)) size) (take size (now (places .entry))) (take size (now (degrees .entry)))))) ⌝ }
 {

@@ -1,6 +1,6 @@
 //! Columns of class numbers: numbering, and the walk over two of them that gives infimum and supremum.
 
-use crate::{COLUMNS, PLOTS};
+use crate::{Level, COLUMNS, PLOTS};
 
 /// Class numbers from 1, one a point; points past those in use hold anything.
 pub type Column = [u8; PLOTS];
@@ -17,7 +17,7 @@ pub struct Columns {
 
 impl Columns {
     /// Numbers the columns whose cells start at the given column of a level table; every level is nonzero.
-    pub fn number(levels: &[u16], first: usize, count: usize, plots: usize) -> Columns {
+    pub fn number(levels: &[Level], first: usize, count: usize, plots: usize) -> Columns {
         let mut found = Columns { count, classes: [0; COLUMNS], columns: [[0; PLOTS]; COLUMNS] };
         for c in 0..count {
             let cells = &levels[PLOTS * (first + c)..PLOTS * (first + c) + plots];
@@ -28,7 +28,7 @@ impl Columns {
 }
 
 /// Numbers levels by first appearance; answers the number of classes.
-pub fn number(levels: &[u16], column: &mut Column) -> u8 {
+pub fn number(levels: &[Level], column: &mut Column) -> u8 {
     if levels.iter().fold(0, |most, &level| most.max(level)) < 256 {
         number_small(levels, column)
     } else {
@@ -37,7 +37,7 @@ pub fn number(levels: &[u16], column: &mut Column) -> u8 {
 }
 
 /// Levels below 256: a table from level to class.
-fn number_small(levels: &[u16], column: &mut Column) -> u8 {
+fn number_small(levels: &[Level], column: &mut Column) -> u8 {
     let mut class: ByClass = [0; 256];
     let mut count = 0;
     for (&level, number) in levels.iter().zip(column) {
@@ -51,15 +51,19 @@ fn number_small(levels: &[u16], column: &mut Column) -> u8 {
     count
 }
 
-/// Any levels but 0: a table of 512 slots, at most 240 of them taken.
-fn number_any(levels: &[u16], column: &mut Column) -> u8 {
-    let mut label = [0u16; 512];
-    let mut class = [0u8; 512];
+/// Slots of the table for any levels, and the odd number that scatters levels over them.
+const SLOTS: usize = 512;
+const SCATTER: Level = (0x9E37_79B9_7F4A_7C15_u64 >> (u64::BITS - Level::BITS)) as Level;
+
+/// Any levels but 0: a table of slots, at most 240 of them taken.
+fn number_any(levels: &[Level], column: &mut Column) -> u8 {
+    let mut label: [Level; SLOTS] = [0; SLOTS];
+    let mut class = [0u8; SLOTS];
     let mut count = 0;
     for (&level, number) in levels.iter().zip(column) {
-        let mut slot = usize::from(level.wrapping_mul(0x9E37) >> 7) % 512;
+        let mut slot = (level.wrapping_mul(SCATTER) >> (Level::BITS - SLOTS.ilog2())) as usize;
         while label[slot] != level && label[slot] != 0 {
-            slot = (slot + 1) % 512;
+            slot = (slot + 1) % SLOTS;
         }
         if label[slot] == 0 {
             count += 1;

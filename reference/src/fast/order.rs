@@ -1,4 +1,4 @@
-//! Order, degrees of freedom and strata of families already made.
+//! Families already made: how one is read, and the order of its members.
 
 use super::column::{is_finer, leaders, Column};
 use crate::{FAMILY, MEMBERS, PLOTS};
@@ -61,7 +61,7 @@ impl<'a> Family<'a> {
 
     /// The coarser members of one whose leaders are given, with the words of those before it. They have fewer classes, so
     /// they stand before it; what is coarser than one of them needs no look.
-    fn coarser_word(&self, i: usize, leaders: &Column, words: &[u32; MEMBERS]) -> u32 {
+    pub fn coarser_word(&self, i: usize, leaders: &Column, words: &[u32; MEMBERS]) -> u32 {
         let mut word = 0;
         for j in (0..i).rev() {
             if word >> j & 1 == 0 && self.classes[j] < self.classes[i] && is_finer(leaders, self.column(j)) {
@@ -95,90 +95,6 @@ pub fn ones(mut word: u32) -> impl Iterator<Item = usize> {
 }
 
 /// The first part of question 6 for a family already made.
-fn within(plots: usize, buffer: &[u8]) -> bool {
+pub fn within(plots: usize, buffer: &[u8]) -> bool {
     (1..=PLOTS).contains(&plots) && buffer.len() >= FAMILY
-}
-
-/// The relation: its size, the words of coarser members, those of direct neighbours and their counts.
-pub fn relation(family: &[u8], plots: usize, size: usize) -> (u32, [u32; 97]) {
-    let mut answer = [0; 97];
-    if !within(plots, family) {
-        return (6, answer);
-    }
-    let Some(family) = Family::read(family, plots, size) else {
-        return (15, answer);
-    };
-    let words = family.coarser();
-    answer[0] = size as u32;
-    for i in 0..size {
-        let beyond = ones(words[i]).fold(0, |beyond, j| beyond | words[j]);
-        let direct = words[i] & !beyond;
-        answer[1 + i] = words[i];
-        answer[1 + MEMBERS + i] = direct;
-        answer[1 + 2 * MEMBERS + i] = direct.count_ones();
-    }
-    (0, answer)
-}
-
-/// Degrees of freedom of all members.
-pub fn degrees(family: &[u8], plots: usize, size: usize) -> (u32, [i64; 32]) {
-    if !within(plots, family) {
-        return (6, [0; MEMBERS]);
-    }
-    match Family::read(family, plots, size) {
-        Some(family) => (0, family.degrees(&family.coarser())),
-        None => (15, [0; MEMBERS]),
-    }
-}
-
-/// The order of the plot family and the strata of all treatment members, places from 0; None when one has none. The coarsest
-/// candidate stands first, and those finer than it are candidates too, so only the others need a look.
-pub fn places(plots: &Family, treatments: &Family) -> Option<([u32; MEMBERS], [u8; MEMBERS])> {
-    const NONE: u8 = u8::MAX;
-    let mut words = [0; MEMBERS];
-    let mut places = [NONE; MEMBERS];
-    for i in 0..plots.size {
-        let leaders = leaders(plots.column(i));
-        words[i] = plots.coarser_word(i, &leaders, &words);
-        for (j, place) in places[..treatments.size].iter_mut().enumerate() {
-            let known = *place != NONE && words[i] >> *place & 1 == 1;
-            if known || plots.classes[i] < treatments.classes[j] || !is_finer(&leaders, treatments.column(j)) {
-                continue;
-            }
-            if *place != NONE {
-                return None;
-            }
-            *place = i as u8;
-        }
-    }
-    let found = !places[..treatments.size].contains(&NONE);
-    found.then_some((words, places))
-}
-
-/// Strata by treatment member and residuals by plot member.
-pub fn strata(
-    plot_buffer: &[u8],
-    plot_size: usize,
-    treatment_buffer: &[u8],
-    treatment_size: usize,
-    plots: usize,
-) -> (u32, [i64; 64]) {
-    let mut answer = [0; 2 * MEMBERS];
-    if !within(plots, plot_buffer) || !within(plots, treatment_buffer) {
-        return (6, answer);
-    }
-    let families = (Family::read(plot_buffer, plots, plot_size), Family::read(treatment_buffer, plots, treatment_size));
-    let (Some(plot_family), Some(treatment_family)) = families else {
-        return (15, answer);
-    };
-    let Some((coarser, places)) = places(&plot_family, &treatment_family) else {
-        return (16, answer);
-    };
-    let treatment_degrees = treatment_family.degrees(&treatment_family.coarser());
-    answer[MEMBERS..].copy_from_slice(&plot_family.degrees(&coarser));
-    for j in 0..treatment_size {
-        answer[j] = i64::from(places[j]) + 1;
-        answer[MEMBERS + usize::from(places[j])] -= treatment_degrees[j];
-    }
-    (0, answer)
 }

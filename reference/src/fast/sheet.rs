@@ -1,6 +1,6 @@
-//! Questions 1 to 5.
+//! The form of a sheet: questions 3 to 5.
 
-use crate::{COLUMNS, LEVELS, PLOTS, TEXT};
+use crate::{Level, COLUMNS, LEVELS, PLOTS};
 
 const LINE_END: u8 = 10;
 const TAB: u8 = 9;
@@ -9,7 +9,7 @@ const TAB: u8 = 9;
 pub struct Header<'a> {
     pub fields: usize,
     names: [&'a [u8]; 2 * COLUMNS],
-    columns: [u8; 2 * COLUMNS],
+    pub columns: [u8; 2 * COLUMNS],
     pub plot_columns: usize,
     pub treatment_columns: usize,
     /// Where the plot lines begin.
@@ -75,7 +75,7 @@ impl<'a> Header<'a> {
     }
 
     /// Questions 4 and 5: the plot lines into a table of one's own; the number of plots, or the refusal.
-    pub fn plot_lines(&self, text: &[u8], levels: &mut [u16; LEVELS]) -> Result<usize, u32> {
+    pub fn plot_lines(&self, text: &[u8], levels: &mut [Level; LEVELS]) -> Result<usize, u32> {
         let mut rest = &text[self.length..];
         let mut plots = 0;
         while !rest.is_empty() {
@@ -100,43 +100,22 @@ impl<'a> Header<'a> {
     }
 }
 
+/// Digits of the highest level.
+const DIGITS: usize = Level::MAX.ilog10() as usize + 1;
+
 /// A level at the beginning and its length; a byte that is no digit follows it.
 #[inline]
-fn level(text: &[u8]) -> Option<(u16, usize)> {
-    let mut value = 0u32;
-    for (i, byte) in text.iter().take(6).enumerate() {
+fn level(text: &[u8]) -> Option<(Level, usize)> {
+    let mut value = 0u64;
+    for (i, byte) in text.iter().take(DIGITS + 1).enumerate() {
         let digit = byte.wrapping_sub(b'0');
         if digit > 9 {
-            return if value == 0 { None } else { u16::try_from(value).ok().map(|value| (value, i)) };
+            return if value == 0 { None } else { Level::try_from(value).ok().map(|value| (value, i)) };
         }
         if i == 0 && digit == 0 {
             return None;
         }
-        value = 10 * value + u32::from(digit);
+        value = 10 * value + u64::from(digit);
     }
     None
-}
-
-/// The reader: questions 1 to 5.
-pub fn read_sheet(text: &[u8], levels: &mut [u16]) -> (u32, [u64; 3]) {
-    if levels.len() < LEVELS {
-        return (1, [0; 3]);
-    }
-    if !(1..=TEXT).contains(&text.len()) {
-        return (2, [0; 3]);
-    }
-    let Some(header) = Header::read(text) else {
-        return (3, [0; 3]);
-    };
-    let mut found = [0; LEVELS];
-    match header.plot_lines(text, &mut found) {
-        Err(refusal) => (refusal, [0; 3]),
-        Ok(plots) => {
-            for &column in &header.columns[..header.fields] {
-                let at = PLOTS * usize::from(column);
-                levels[at..at + plots].copy_from_slice(&found[at..at + plots]);
-            }
-            (0, [plots, header.plot_columns, header.treatment_columns].map(|count| count as u64))
-        }
-    }
 }

@@ -105,3 +105,9 @@ pub fn read(buffer: &[u8], plots: usize, size: usize) -> Option<Vec<Factor>> {
     let ordered = members.windows(2).all(|pair| place_key(&pair[0]) < place_key(&pair[1]));
     (numbered && ordered).then_some(members)
 }
+
+/// The part of question 6 that these entries ask: the plot count and the buffer's length. "A family's size itself is judged
+/// by 15."
+pub fn within_limits(plots: usize, buffer: &[u8]) -> bool {
+    (1..=PLOTS).contains(&plots) && buffer.len() >= FAMILY
+}

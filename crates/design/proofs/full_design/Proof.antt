@@ -40,7 +40,7 @@ in-limits : (c : tie.Else1) → FullLimits (c .before .before .before .before .b
 in-limits c = full-limits _ _ _ _ _ _ _ (sym (c .before .full-within .ensures) ∙ not-false _ (c .if1 .left))
 
 all-nonzero-requires : tie.Need-all-nonzero-requires
-all-nonzero-requires c κs = let l = in-limits c in (l .plots .most, omega (arith, l .plots .columns), l .plots .table)
+all-nonzero-requires c κs = search needs
 
 full-refused-requires-2 : tie.Need-full-refused-requires-2
 full-refused-requires-2 c κs = search needs
@@ -60,7 +60,7 @@ returns-2 c =
     promised (a .plots) (a .plot-columns) (a .treatment-columns) (a .k) levels p b p b (fullNumbers (c .full-refused2 .result)) (c .full-refused2 .ensures ∙ ap fullNumbersOf (sym e)) (ap (plotBuffer p) (sym e)) (ap (treatmentBuffer b) (sym e))
 
 all-nonzero-requires-2 : tie.Need-all-nonzero-requires-2
-all-nonzero-requires-2 c κs = let l = in-limits (c .before .before) in (l .plots .most, omega (arith, l .treatments), l .plots .table)
+all-nonzero-requires-2 c κs = search needs
 
 full-refused-requires-3 : tie.Need-full-refused-requires-3
 full-refused-requires-3 c κs = search needs

@@ -38,7 +38,7 @@ in-limits : (c : tie.Else1) → Limits (c .before .before .before .before .args 
 in-limits c = limits _ _ _ _ (sym (c .before .within .ensures) ∙ not-false _ (c .if1 .left))
 
 all-nonzero-requires : tie.Need-all-nonzero-requires
-all-nonzero-requires c κs = let l = in-limits c in (l .most, omega (arith, l .columns), l .table)
+all-nonzero-requires c κs = search needs
 
 refused-requires-2 : tie.Need-refused-requires-2
 refused-requires-2 c κs = search needs

@@ -15,9 +15,9 @@ use Rattle.rules.specs.Naming.{markOf, firstColumn, kindColumns, nameAt, NameAn
 use Rattle.rules.proofs.Buffer.{length-members, member-is}
 use Rattle.rules.proofs.WellFormed.{accepted}
 use Rattle.families.proofs.Lent.{part-of, formed-in}
-use Rattle.naming.specs.Answers.{kindOf, nameFor, startingWith}
+use Rattle.naming.specs.Answers.{kindOf, namingCounted}
 use Rattle.naming.proofs.Tables.{length-part}
-use Rattle.naming.proofs.Entry.{few-columns, first-column, named-for, naming-7, naming-15, naming-found, Ranges, ranges, ranges-fit}
+use Rattle.naming.proofs.Entry.{few-columns, first-column, named-for, answered, refusing, naming-7, naming-15, naming-found, Ranges, ranges, ranges-fit}
 use borrow.Author.Needs.{needs}
 use Rattle.naming.proofs.from_7.Statement.{statement}
 use Rattle.naming.proofs.from_7.Tie as tie
@@ -58,7 +58,7 @@ returns c =
     let w = ranges n (a .size) (a .place) (length levels) (length buffer) (length out) (s .pre .1) in
     let asked : allNonzero (kindColumns k text n levels) ≡ c .before .all-nonzero .result = sym (c .before .all-nonzero .ensures ∙ ap₂ (λ (i m : ℕ). allNonzero (columnsFrom n levels i m)) (c .before .before .first .ensures) (s .pre .2)) in
     let e = naming-7 k text n levels S (a .place) (asked ∙ not-true _ (c .if1 .taken)) in
-    (sym (ap (λ (r : NameAnswer). r .refusal) e), (sym (ap (λ (r : NameAnswer). length (r .name)) e), sym (ap (nameBuffer out) e)))
+    refusing 7 out _ (omega arith) e
 
 well-formed-requires : tie.Need-well-formed-requires
 well-formed-requires c κs = search needs
@@ -79,7 +79,7 @@ returns-2 c =
     let asked : allNonzero (kindColumns k text n levels) ≡ c .before .before .before .all-nonzero .result = sym (c .before .before .before .all-nonzero .ensures ∙ ap₂ (λ (i m : ℕ). allNonzero (columnsFrom n levels i m)) (c .before .before .before .before .first .ensures) (s .pre .2)) in
     let f = sym (c .before .well-formed .ensures ∙ formed-in n buffer (a .size) (w .few-plots) (w .family)) ∙ not-true _ (c .if2 .taken) in
     let e = naming-15 k text n levels S (a .place) (asked ∙ not-false _ (c .before .before .if1 .left)) f in
-    (sym (ap (λ (r : NameAnswer). r .refusal) e), (sym (ap (λ (r : NameAnswer). length (r .name)) e), sym (ap (nameBuffer out) e)))
+    refusing 15 out _ (omega arith) e
 
 -- the place is one of 32, within the family
 bounds : (c : tie.Else2)
@@ -147,16 +147,10 @@ returns-3 c =
     let on : length (getD S i []) ≡ n = ap length is ∙ length-part n (240 * i) buffer (omega (arith, b .1, w .first, w .few-plots, w .family)) in
     let few = few-columns (a .kind) text (s .pre .0) in
     let fitting = ranges-fit n (a .count) (a .size) (a .place) (length levels) (length buffer) (length out) (length (getD S i [])) w (omega (arith, s .pre .2)) on in
-    let same : nameFor k text levels n (a .count) (take (240 * i + n - 240 * i) (drop (240 * i) buffer)) (a .place) (length out) ≡ nameAt k text n levels S (a .place) =
-    ap (λ (F : Column). nameFor k text levels n (a .count) F (a .place) (length out)) (part-of n i buffer ∙ sym is)
+    let same : namingCounted k text levels n (a .count) (take (240 * i + n - 240 * i) (drop (240 * i) buffer)) (a .place) (length out) ≡ record { refusal = 0; name = nameAt k text n levels S (a .place) } =
+    ap (λ (F : Column). namingCounted k text levels n (a .count) F (a .place) (length out)) (part-of n i buffer ∙ sym is)
     ∙ named-for k text levels n (a .count) (getD S i []) (a .place) (length out) (s .pre .0) (s .pre .2) (b .1) fitting in
-    let r = c .before .before .name-counted .ensures in (
-      sym (ap (λ (r : NameAnswer). r .refusal) e),
-      (
-        r .0 ∙ ap length same ∙ sym (ap (λ (r : NameAnswer). length (r .name)) e),
-        r .1 ∙ ap (λ (W : List ℕ). startingWith W out) same ∙ sym (ap (nameBuffer out) e),
-      ),
-    )
+    answered _ out _ _ _ (e ∙ sym same) (c .before .before .name-counted .ensures)
 
 pub from-7-spec : {M : Type 1} → statement M
 from-7-spec =

@@ -8,7 +8,7 @@ use borrow.Author.Tests.{not-true, not-false}
 use Rattle.rules.specs.Naming.{NameAnswer, nameBuffer}
 use Rattle.sheet.proofs.QuestionLaws.{headed-none, headed-some}
 use Rattle.naming.specs.Answers.{kindOf}
-use Rattle.naming.proofs.Entry.{count-is, naming-2, naming-3, naming-6, naming-on, short-text, long-text, good-text}
+use Rattle.naming.proofs.Entry.{count-is, answered, refusing, naming-2, naming-3, naming-6, naming-on, short-text, long-text, good-text}
 use borrow.Author.Needs.{needs}
 use Rattle.naming.proofs.member_name.Statement.{statement}
 use Rattle.naming.proofs.member_name.Tie as tie
@@ -22,7 +22,7 @@ returns c =
     let k = kindOf (a .kind) in
     let out = now (a .name) in
     let e = naming-2 k text levels buffer (a .plots) (a .size) (a .place) (length out) (short-text text (c .if1 .taken)) in
-    (sym (ap (λ (r : NameAnswer). r .refusal) e), (sym (ap (λ (r : NameAnswer). length (r .name)) e), sym (ap (nameBuffer out) e)))
+    refusing 2 out _ (omega arith) e
 
 returns-2 : tie.Need-returns-2
 returns-2 c =
@@ -33,7 +33,7 @@ returns-2 c =
     let k = kindOf (a .kind) in
     let out = now (a .name) in
     let e = naming-2 k text levels buffer (a .plots) (a .size) (a .place) (length out) (long-text text (c .if2 .taken)) in
-    (sym (ap (λ (r : NameAnswer). r .refusal) e), (sym (ap (λ (r : NameAnswer). length (r .name)) e), sym (ap (nameBuffer out) e)))
+    refusing 2 out _ (omega arith) e
 
 read-header-requires : tie.Need-read-header-requires
 read-header-requires c κs = search needs
@@ -48,7 +48,7 @@ returns-3 c =
     let out = now (a .name) in
     let h = c .before .read-header in
     let e = naming-3 k text levels buffer (a .plots) (a .size) (a .place) (length out) (good-text text (omega arith) (omega arith)) (headed-none text (h .result) (h .ensures) (c .if3 .taken)) in
-    (sym (ap (λ (r : NameAnswer). r .refusal) e), (sym (ap (λ (r : NameAnswer). length (r .name)) e), sym (ap (nameBuffer out) e)))
+    refusing 3 out _ (omega arith) e
 
 within-requires : tie.Need-within-requires
 within-requires c κs = search needs
@@ -64,7 +64,7 @@ returns-4 c =
     let h = c .before .before .before .read-header in
     let q = headed-some text (h .result) (h .ensures) (c .before .before .if3 .left) in
     let e = naming-6 k text levels buffer (a .plots) (a .size) (a .place) (length out) (good-text text (omega arith) (omega arith)) q (sym (c .before .within .ensures) ∙ not-true _ (c .if4 .taken)) in
-    (sym (ap (λ (r : NameAnswer). r .refusal) e), (sym (ap (λ (r : NameAnswer). length (r .name)) e), sym (ap (nameBuffer out) e)))
+    refusing 6 out _ (omega arith) e
 
 count-requires : tie.Need-count-requires
 count-requires c κs = search needs
@@ -96,7 +96,7 @@ returns-5 c =
     let q = headed-some text (h .result) (h .ensures) (c .before .before .before .before .before .before .before .if3 .left) in
     let e = naming-on k text levels buffer (a .plots) (a .size) (a .place) (length out) (good-text text (omega arith) (omega arith)) q (sym (c .before .before .before .before .before .before .within .ensures) ∙ not-false _ (c .before .before .before .before .before .if4 .left)) in
     let r = c .before .before .from-7 .ensures in
-    (r .0 ∙ sym (ap (λ (r : NameAnswer). r .refusal) e), (r .1 .0 ∙ sym (ap (λ (r : NameAnswer). length (r .name)) e), r .1 .1 ∙ sym (ap (nameBuffer out) e)))
+    answered _ out _ _ _ e r
 
 pub member-name-spec : {M : Type 1} → statement M
 member-name-spec =

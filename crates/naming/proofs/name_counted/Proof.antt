@@ -11,9 +11,9 @@ use Rattle.rules.specs.Family.{columnsFrom}
 use Rattle.rules.specs.Sheet.{columnNames, header}
 use Rattle.rules.specs.Names.{nameOf, bytesOf}
 use Rattle.rules.specs.Naming.{firstColumn}
-use Rattle.naming.specs.Answers.{kindOf, countedOn, nameFor, startingWith}
+use Rattle.naming.specs.Answers.{kindOf, countedOn, namingCounted}
 use Rattle.naming.proofs.Members.{written-held, place-held}
-use Rattle.naming.proofs.Entry.{first-column, fits, unnamed, named}
+use Rattle.naming.proofs.Entry.{first-column, fits, unnamed, named, accepting, refusing}
 use borrow.Author.Needs.{needs}
 use Rattle.naming.proofs.name_counted.Statement.{statement}
 use Rattle.naming.proofs.name_counted.Tie as tie
@@ -26,7 +26,7 @@ returns c =
     let a = c .before .before .before .before .before .before .args in
     let out = now (a .name) in
     let e = unnamed (kindOf (a .kind)) (now (a .text)) (now (a .levels)) (a .plots) (a .count) (now (a .member)) (a .place) (length out) (sym (c .before .member-fits .ensures) ∙ not-true _ (c .if1 .taken)) in
-    (sym (ap length e), sym (ap (λ (W : List ℕ). startingWith W out) e))
+    refusing 6 out _ (omega arith) e
 
 mark-requires : tie.Need-mark-requires
 mark-requires c κs = search needs
@@ -62,9 +62,10 @@ returns-2 c =
     let W = bytesOf (columnNames (mark .result) (header text)) (nameOf (a .plots) (columnsFrom (a .plots) levels (first .result) (a .count)) (a .place) F) in
     let is : W ≡ countedOn k text (a .plots) levels (a .count) (a .place) F =
     ap₂ (λ (m i : ℕ). bytesOf (columnNames m (header text)) (nameOf (a .plots) (columnsFrom (a .plots) levels i (a .count)) (a .place) F)) (mark .ensures) (first .ensures) in
-    let same : take (length out) W ≡ nameFor k text levels (a .plots) (a .count) F (a .place) (length out) = ap (take (length out)) is ∙ sym (named k text levels (a .plots) (a .count) F (a .place) (length out) e) in
+    let same : namingCounted k text levels (a .plots) (a .count) F (a .place) (length out) ≡ record { refusal = 0; name = take (length out) W } =
+    named k text levels (a .plots) (a .count) F (a .place) (length out) e ∙ ap (λ (X : List ℕ). record { refusal = 0; name = take (length out) X }) (sym is) in
     let w = c .before .before .put-name .ensures in
-    (w .0 ∙ place-held out W ∙ ap length same, w .1 ∙ written-held out W ∙ ap (λ (X : List ℕ). startingWith X out) same)
+    accepting _ out _ (take (length out) W) _ same (w .0 ∙ place-held out W) (w .1 ∙ written-held out W)
 
 pub name-counted-spec : {M : Type 1} → statement M
 name-counted-spec =

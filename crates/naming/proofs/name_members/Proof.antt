@@ -23,7 +23,7 @@ members-fit-requires c κs = search needs
 returns : tie.Need-returns
 returns c =
     let e = sym (c .before .members-fit .ensures) ∙ not-true _ (c .if1 .taken) in
-    (sym e, (rw e, rw e))
+    (rw e, (rw e, rw e))
 
 mark-requires : tie.Need-mark-requires
 mark-requires c κs = search needs
@@ -65,7 +65,7 @@ returns-2 c =
     let named = nameBy (columnNames (mark .result) (header text)) (columnsFrom (a .plots) (now (a .levels)) (first .result) (a .count)) (a .plots) (now (a .family)) in
     let name = countedName k text (a .plots) (now (a .levels)) (a .count) (now (a .family)) in
     let same : (i : ℕ) → held named i ≡ held name i = λ i. ap (take 96) (counted-by k text (a .plots) (now (a .levels)) (a .count) (now (a .family)) (mark .result) (first .result) (mark .ensures) (first .ensures) i) in
-    (sym e, (rw e (w .0 ∙ names-ext (held named) (held name) (now (a .names)) (a .size) (λ i h. same i)), rw e (w .1 ∙ lengths-ext (held named) (held name) (now (a .lengths)) (a .size) (λ i h. same i))))
+    (rw e, (rw e (w .0 ∙ names-ext (held named) (held name) (now (a .names)) (a .size) (λ i h. same i)), rw e (w .1 ∙ lengths-ext (held named) (held name) (now (a .lengths)) (a .size) (λ i h. same i))))
 
 pub name-members-spec : {M : Type 1} → statement M
 name-members-spec =

@@ -3,8 +3,7 @@
 use mathlib.Core.Path.{_≡_, sym, ap, _∙_}
 use mathlib.Core.List.{[], _∷_}
 use borrow.Author.Needs.{needs}
-use Prim.Native.Nat.{ℕ}
-use Rattle.table.specs.Answers.{refusalOf, lengthOf}
+use Rattle.table.specs.Answers.{PrintNumbers, printNumbers, printNumbersOf}
 use Rattle.rachdoum.proofs.rachdoum_skeleton.Statement.{statement}
 use Rattle.rachdoum.proofs.rachdoum_skeleton.Tie as tie
 
@@ -21,23 +20,23 @@ same-length : tie.Need-same-length
 same-length c = search needs
 
 returns : tie.Need-returns
+unfolding printNumbers printNumbersOf
 returns c =
     let q = c .before .before in
     let f = q .before .before .before .before in
-    let e = sym (ap refusalOf (q .found .given .1)) ∙ f .skeleton-table .ensures .0 in
-    let l = sym (ap lengthOf (q .found .given .1)) ∙ f .skeleton-table .ensures .1 .0 in
-    (e, (f .skeleton-table .ensures .1 .1, ap (λ m. m ∷ []) l))
+    let r = sym (ap printNumbers (q .found .given .1)) ∙ f .skeleton-table .ensures .0 in
+    (ap (λ (x : PrintNumbers). x .refusal) r, (f .skeleton-table .ensures .1, ap (λ (x : PrintNumbers). x .size ∷ []) r))
 
 same-length-2 : tie.Need-same-length-2
 same-length-2 c = search needs
 
 returns-2 : tie.Need-returns-2
+unfolding printNumbers printNumbersOf
 returns-2 c =
     let q = c .before .before in
     let f = q .before .before .before .before in
-    let e = sym (ap refusalOf (q .found2 .given .1)) ∙ f .skeleton-table .ensures .0 in
-    let l = sym (ap lengthOf (q .found2 .given .1)) ∙ f .skeleton-table .ensures .1 .0 in
-    (e, (f .skeleton-table .ensures .1 .1, ap (λ m. m ∷ []) l))
+    let r = sym (ap printNumbers (q .found2 .given .1)) ∙ f .skeleton-table .ensures .0 in
+    (ap (λ (x : PrintNumbers). x .refusal) r, (f .skeleton-table .ensures .1, ap (λ (x : PrintNumbers). x .size ∷ []) r))
 
 pub rachdoum-skeleton-spec : {M : Type 1} → statement M
 rachdoum-skeleton-spec =

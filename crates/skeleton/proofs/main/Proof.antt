@@ -10,16 +10,17 @@ use borrow.Author.Needs.{needs}
 use Rattle.rules.specs.Table.{skeletonTable, tableBuffer}
 use Rattle.table.specs.declared.Printed.{Printed}
 use Rattle.table.specs.declared.Printed.the-variants.{Text}
-use Rattle.table.specs.Answers.{lengthOf}
+use Rattle.table.specs.Answers.{PrintNumbers, printNumbers, printNumbersOf}
 use Rattle.skeleton.proofs.main.Statement.{statement}
 use Rattle.skeleton.proofs.main.Tie as tie
 
 -- a text that starts a buffer is within it
 within : (text : List ℕ) (room : ℕ) (before after : List ℕ) (answer : Printed) (m : ℕ)
-    → answer ≡ Text m → lengthOf answer ≡ length (skeletonTable text room .text) → after ≡ tableBuffer before (skeletonTable text room) → m ≤ length after
+    → answer ≡ Text m → printNumbers answer ≡ printNumbersOf (skeletonTable text room) → after ≡ tableBuffer before (skeletonTable text room) → m ≤ length after
+unfolding printNumbers printNumbersOf
 within text room before after answer m e l w =
     let t : List ℕ = skeletonTable text room .text in
-    rw (w, length-append t (drop (length t) before), sym l ∙ ap lengthOf e) (omega arith)
+    rw (w, length-append t (drop (length t) before), ap (λ (x : PrintNumbers). x .size) (sym l ∙ ap printNumbers e)) (omega arith)
 
 slice-aggregate-read-input : tie.Need-slice-aggregate-read-input
 slice-aggregate-read-input c = search needs
@@ -62,7 +63,7 @@ returns-2 c = search needs
 array-share-prefix-out : tie.Need-array-share-prefix-out
 array-share-prefix-out c =
     let r = c .before .before .before .before .skeleton-table .ensures in
-    within _ _ _ _ _ _ (c .before .answer .given .1) (r .1 .0) (r .1 .1)
+    within _ _ _ _ _ _ (c .before .answer .given .1) (r .0) (r .1)
 
 slice-aggregate-write-all : tie.Need-slice-aggregate-write-all
 slice-aggregate-write-all c = sym (length-take-le _ _ (array-share-prefix-out (c .before)))

@@ -1,13 +1,36 @@
--- `print`: the line of a refusal by 2 or 3, or the text of a sheet that these accept.
+-- `print`: the line of a refusal by 1 to 5, or the text of the design.
 -- Assumes nothing.
-use native.Mathlib.Omega.{arith}
+use mathlib.Core.Path.{_≡_, sym, ap, _∙_}
+use mathlib.Core.List.{List, [], _∷_}
+use Prim.Native.Nat.{ℕ}
 use denote.Ref.{now}
 use borrow.Author.Needs.{needs}
+use Rattle.rules.specs.Sheet.{read, reading, levelsAfter}
+use Rattle.rules.specs.Table.{rowsBytes, refusedRow, dash, emptyTable}
+use Rattle.rules.proofs.ReadSheets.{read-questions}
+use Rattle.rules.proofs.Sheet.{read-accepts}
 use Rattle.decimal.proofs.Writing.{wrote-as}
-use Rattle.sheet.proofs.QuestionLaws.{headed-none}
-use Rattle.table.proofs.TableLaws.{short-text, long-text, headless-text}
+use Rattle.sheet.specs.Answers.{outcomeOf}
+use Rattle.sheet.specs.declared.Reading.{Reading}
+use Rattle.table.specs.Answers.{numberOf}
+use Rattle.table.proofs.TableLaws.{refused-text, read-text, levels-long}
 use Rattle.table.proofs.print.Statement.{statement}
 use Rattle.table.proofs.print.Tie as tie
+
+slice-aggregate-read-sheet : tie.Need-slice-aggregate-read-sheet
+slice-aggregate-read-sheet c = search needs
+
+read-sheet-requires : tie.Need-read-sheet-requires
+read-sheet-requires c κs = search needs
+
+enum-known-reading : tie.Need-enum-known-reading
+enum-known-reading c = search needs
+
+enum-told : tie.Need-enum-told
+enum-told c = search needs
+
+reading-refusal-requires : tie.Need-reading-refusal-requires
+reading-refusal-requires c κs = search needs
 
 slice-aggregate-put-refused : tie.Need-slice-aggregate-put-refused
 slice-aggregate-put-refused c = search needs
@@ -22,78 +45,70 @@ same-length : tie.Need-same-length
 same-length c = search needs
 
 returns : tie.Need-returns
+unfolding emptyTable
 returns c =
-    let a = c .before .before .before .before .before .before .before .before .before .args in
-    wrote-as (now (a .out)) 0 (short-text (now (a .text)) (omega arith)) (c .before .before .put-refused .ensures)
+    let s = c .before .before .before .before .before .before .before .before .before .before .before .before .before .before in
+    let a = s .args in
+    let sheet = c .before .before .before .before .before .before .before .before .before .before .read-sheet in
+    let told = c .before .before .before .before .before .before .before .enum-told .given in
+    let q = told .0 .0 in
+    let is = c .before .before .before .before .before .before .reading-refusal .ensures ∙ ap (λ (x : Reading). numberOf (outcomeOf x)) (told .1) in
+    wrote-as (now (a .out)) 0
+    (ap (λ (m : ℕ). rowsBytes (refusedRow m dash dash ∷ [])) is ∙ refused-text (now (a .text)) q (sym (ap outcomeOf (told .1)) ∙ sheet .ensures .0))
+    (c .before .before .put-refused .ensures)
 
-slice-aggregate-put-refused-3 : tie.Need-slice-aggregate-put-refused-3
-slice-aggregate-put-refused-3 c = search needs
+slice-aggregate-print-design : tie.Need-slice-aggregate-print-design
+slice-aggregate-print-design c = search needs
 
-slice-aggregate-put-refused-4 : tie.Need-slice-aggregate-put-refused-4
-slice-aggregate-put-refused-4 c = search needs
-
-put-refused-requires-2 : tie.Need-put-refused-requires-2
-put-refused-requires-2 c κs = search needs
+print-design-requires : tie.Need-print-design-requires
+unfolding emptyTable
+print-design-requires c κs =
+    let s = c .before .before .before .before .before .before .before .before .before .before in
+    let text = now (s .args .text) in
+    let sheet = c .before .before .before .before .before .before .read-sheet in
+    let given = c .before .before .before .reading .given in
+    let k = given .0 .0 in
+    let e : reading text emptyTable ≡ read (k .plots) (k .«plot_columns») (k .«treatment_columns») = sym (sheet .ensures .0) ∙ ap outcomeOf (given .1) in
+    let w = read-accepts text emptyTable (k .plots) (k .«plot_columns») (k .«treatment_columns») e in (
+      read-questions text emptyTable (k .plots) (k .«plot_columns») (k .«treatment_columns») e .1,
+      w .plots-some,
+      w .plots-few,
+      levels-long text (sheet .last .1 .0) (sheet .ensures .1),
+      w .plot-columns,
+      w .treatment-columns,
+    )
 
 same-length-2 : tie.Need-same-length-2
 same-length-2 c = search needs
 
 returns-2 : tie.Need-returns-2
+unfolding emptyTable
 returns-2 c =
-    let a = c .before .before .before .before .before .before .before .before .before .before .args in
-    wrote-as (now (a .out)) 0 (long-text (now (a .text)) (omega arith)) (c .before .before .put-refused2 .ensures)
-
-read-header-requires : tie.Need-read-header-requires
-read-header-requires c κs = search needs
-
-slice-aggregate-put-refused-5 : tie.Need-slice-aggregate-put-refused-5
-slice-aggregate-put-refused-5 c = search needs
-
-slice-aggregate-put-refused-6 : tie.Need-slice-aggregate-put-refused-6
-slice-aggregate-put-refused-6 c = search needs
-
-put-refused-requires-3 : tie.Need-put-refused-requires-3
-put-refused-requires-3 c κs = search needs
-
-same-length-3 : tie.Need-same-length-3
-same-length-3 c = search needs
-
-returns-3 : tie.Need-returns-3
-returns-3 c =
-    let d = c .before .before .before .before .before .before in
-    let a = c .before .before .before .before .before .before .before .before .before .before .before .before .args in
-    let h = d .before .read-header in
-    wrote-as (now (a .out)) 0 (headless-text (now (a .text)) (omega arith) (omega arith) (headed-none (now (a .text)) (h .result) (h .ensures) (d .if3 .taken))) (c .before .before .put-refused3 .ensures)
-
-print-sheet-requires : tie.Need-print-sheet-requires
-print-sheet-requires c κs = search needs
-
-same-length-4 : tie.Need-same-length-4
-same-length-4 c = search needs
-
-returns-4 : tie.Need-returns-4
-returns-4 c = search needs
+    let s = c .before .before .before .before .before .before .before .before .before .before .before .before .before in
+    let a = s .args in
+    let sheet = c .before .before .before .before .before .before .before .before .before .read-sheet in
+    let given = c .before .before .before .before .before .before .reading .given in
+    let k = given .0 .0 in
+    let e : read (k .plots) (k .«plot_columns») (k .«treatment_columns») ≡ reading (now (a .text)) emptyTable = sym (ap outcomeOf (given .1)) ∙ sheet .ensures .0 in
+    wrote-as (now (a .out)) 0
+    (read-text (now (a .text)) (k .plots) (k .«plot_columns») (k .«treatment_columns») (sheet .last .1 .0) e (sheet .ensures .1))
+    (c .before .before .print-design .ensures)
 
 pub print-spec : {M : Type 1} → statement M
 print-spec =
     tie.close
     (tie.spec
+    slice-aggregate-read-sheet
+    read-sheet-requires
+    enum-known-reading
+    enum-told
+    reading-refusal-requires
     slice-aggregate-put-refused
     slice-aggregate-put-refused-2
     put-refused-requires
     same-length
     returns
-    slice-aggregate-put-refused-3
-    slice-aggregate-put-refused-4
-    put-refused-requires-2
+    slice-aggregate-print-design
+    print-design-requires
     same-length-2
-    returns-2
-    read-header-requires
-    slice-aggregate-put-refused-5
-    slice-aggregate-put-refused-6
-    put-refused-requires-3
-    same-length-3
-    returns-3
-    print-sheet-requires
-    same-length-4
-    returns-4)
+    returns-2)

@@ -14,8 +14,8 @@ use Rattle.rules.specs.Family.{membersOf}
 use Rattle.rules.proofs.Bounds.{length-infimum′, length-supremum′}
 use Rattle.rules.proofs.ClassCount.{classes-most}
 use Rattle.rules.proofs.Orthogonality.{byCounts}
-use Rattle.design.specs.State.{columnIn, noted, Placed, grownTo, over, on}
-use Rattle.design.proofs.Common.{overlay-front}
+use Rattle.design.specs.State.{columnAt, noted, PlacedMember, grownTo, over, on}
+use Rattle.factor.proofs.Lent.{take-overlay}
 use Rattle.design.proofs.Start.{held-on, placed-on}
 use Rattle.design.proofs.Work.{size-members, held-length, Stood, stood, stood-as, column-kept, kept-at, pair-here, pair-keeps, work-infimum, over-infimum, work-supremum, over-supremum, work-both}
 use Rattle.design.proofs.KnownOrder.{noted-words, known-grown, known-supremum, known-infimum}
@@ -28,7 +28,7 @@ start m = m .before .before .before .before .before
 
 -- what an operation makes of the two members
 abbrev made : (Column → Column → Column) → tie.After-member-bounds → Column
-made op m = let s = start m in op (columnIn (s .args .n) (now (s .args .store)) (s .args .i)) (columnIn (s .args .n) (now (s .args .store)) (s .args .j))
+made op m = let s = start m in op (columnAt (s .args .n) (now (s .args .store)) (s .args .i)) (columnAt (s .args .n) (now (s .args .store)) (s .args .j))
 
 module _ (m : tie.After-member-bounds) where
   abbrev n : ℕ
@@ -42,10 +42,10 @@ module _ (m : tie.After-member-bounds) where
   above = m .member-bounds .last .1 .1 .1 .1 .1 .0
 
   -- both members have n plots
-  i-plots : length (columnIn n (now (start m .args .store)) (start m .args .i)) ≡ n
+  i-plots : length (columnAt n (now (start m .args .store)) (start m .args .i)) ≡ n
   i-plots = held-length (start m .pre .0) (start m .args .i) (start m .pre .1)
 
-  j-plots : length (columnIn n (now (start m .args .store)) (start m .args .j)) ≡ n
+  j-plots : length (columnAt n (now (start m .args .store)) (start m .args .j)) ≡ n
   j-plots = held-length (start m .pre .0) (start m .args .j) (omega (arith, start m .pre .1, start m .pre .2))
 
   -- so have the infimum and the supremum
@@ -59,12 +59,12 @@ module _ (m : tie.After-member-bounds) where
   below-front : take n below ≡ made infimum m
   below-front =
       let l : List ℕ = replicate 240 0 in
-      ap (take n) (m .member-bounds .ensures .1 .1 .0) ∙ overlay-front n l (made infimum m) below-plots
+      ap (take n) (m .member-bounds .ensures .1 .1 .0) ∙ take-overlay l (made infimum m) n below-plots
 
   above-front : take n above ≡ made supremum m
   above-front =
       let l : List ℕ = replicate 240 0 in
-      ap (take n) (m .member-bounds .ensures .1 .1 .1) ∙ overlay-front n l (made supremum m) above-plots
+      ap (take n) (m .member-bounds .ensures .1 .1 .1) ∙ take-overlay l (made supremum m) n above-plots
 
   -- as many bytes as there are plots
   below-length : length (take n below) ≡ n
@@ -80,7 +80,7 @@ written x = x .before .before .before
 -- the mark says whether the numbers of classes make one product
 mark-is : (x : tie.After-same-product)
     → let a = start (written x) .args in
-    x .same-product .result ≡ byCounts (columnIn (a .n) (now (a .store)) (a .i)) (columnIn (a .n) (now (a .store)) (a .j))
+    x .same-product .result ≡ byCounts (columnAt (a .n) (now (a .store)) (a .i)) (columnAt (a .n) (now (a .store)) (a .j))
 mark-is x =
     let m = written x in
     let s = start m in
@@ -102,7 +102,7 @@ first g = g .before .before .before .before
 -- the infimum was placed
 placed : (p : tie.After-place)
     → let a = start (bounds p) .args in
-    Placed (a .n) (membersOf (a .n) (now (a .store)) (a .size)) (made infimum (bounds p)) (p .place .result) (p .place .last .0) (p .place .last .1 .0)
+    PlacedMember (a .n) (membersOf (a .n) (now (a .store)) (a .size)) (made infimum (bounds p)) (p .place .result) (p .place .last .0) (p .place .last .1 .0)
 placed p =
     let m = bounds p in
     placed-on _ (now (start m .args .store)) (start m .args .size) _ _ _ _ _ (below-front m) (below-plots m) (p .place .ensures)
@@ -129,7 +129,7 @@ j-in g = let s = start (bounds (first g)) in omega (arith, i-in g, s .pre .2)
 abbrev joined : tie.After-grown → Column
 joined g =
     let a = start (bounds (first g)) .args in
-    supremum (columnIn (a .n) (first g .place .last .0) (a .i)) (columnIn (a .n) (first g .place .last .0) (a .j))
+    supremum (columnAt (a .n) (first g .place .last .0) (a .i)) (columnAt (a .n) (first g .place .last .0) (a .j))
 
 -- it is the one that was written
 joined-is : (g : tie.After-grown) → take (start (bounds (first g)) .args .n) (above (bounds (first g))) ≡ joined g
@@ -149,7 +149,7 @@ second q = q .before .before .before .before .before
 placed-2 : (q : tie.After-place2)
     → let g = second q in
     let a = start (bounds (first g)) .args in
-    Placed (a .n) (membersOf (a .n) (first g .place .last .0) (g .grown .result)) (joined g) (q .place2 .result) (q .place2 .last .0) (q .place2 .last .1 .0)
+    PlacedMember (a .n) (membersOf (a .n) (first g .place .last .0) (g .grown .result)) (joined g) (q .place2 .result) (q .place2 .last .0) (q .place2 .last .1 .0)
 placed-2 q =
     let g = second q in
     placed-on _ (first g .place .last .0) (g .grown .result) _ _ _ _ _ (joined-is g) (joined-plots g) (q .place2 .ensures)

@@ -12,8 +12,8 @@ use Rattle.rules.specs.Factor.{Column, classes, supremum, orthogonal}
 use Rattle.rules.specs.Family.{membersOf}
 use Rattle.rules.proofs.Bounds.{length-supremum′}
 use Rattle.rules.proofs.ClassCount.{classes-most}
-use Rattle.design.specs.State.{columnIn, Placed, grownTo, over, on}
-use Rattle.design.proofs.Common.{overlay-front}
+use Rattle.design.specs.State.{columnAt, PlacedMember, grownTo, over, on}
+use Rattle.factor.proofs.Lent.{take-overlay}
 use Rattle.design.proofs.Start.{held-on, placed-on}
 use Rattle.design.proofs.Work.{size-members, held-length, Stood, stood, kept-at, pair-here, work-supremum, over-supremum, work-join}
 use Rattle.design.proofs.KnownOrder.{known-grown, known-supremum}
@@ -26,10 +26,10 @@ start m = m .before .before .before .before
 
 -- the members
 abbrev A : tie.After-member-crossing → Column
-A m = let s = start m in columnIn (s .args .n) (now (s .args .store)) (s .args .i)
+A m = let s = start m in columnAt (s .args .n) (now (s .args .store)) (s .args .i)
 
 abbrev B : tie.After-member-crossing → Column
-B m = let s = start m in columnIn (s .args .n) (now (s .args .store)) (s .args .j)
+B m = let s = start m in columnAt (s .args .n) (now (s .args .store)) (s .args .j)
 
 module _ (m : tie.After-member-crossing) where
   -- the array once the supremum is written
@@ -44,7 +44,7 @@ module _ (m : tie.After-member-crossing) where
   front : take (start m .args .n) array ≡ supremum (A m) (B m)
   front =
       let l : List ℕ = replicate 240 0 in
-      ap (take (start m .args .n)) (m .member-crossing .ensures .1 .1) ∙ overlay-front (start m .args .n) l (supremum (A m) (B m)) on-plots
+      ap (take (start m .args .n)) (m .member-crossing .ensures .1 .1) ∙ take-overlay l (supremum (A m) (B m)) (start m .args .n) on-plots
 
   -- as many bytes as there are plots
   front-length : length (take (start m .args .n) array) ≡ start m .args .n
@@ -57,7 +57,7 @@ crossing p = p .before .before .before .before .before
 -- it was placed
 placed : (p : tie.After-place)
     → let a = start (crossing p) .args in
-    Placed (a .n) (membersOf (a .n) (now (a .store)) (a .size)) (supremum (A (crossing p)) (B (crossing p))) (p .place .result) (p .place .last .0) (p .place .last .1 .0)
+    PlacedMember (a .n) (membersOf (a .n) (now (a .store)) (a .size)) (supremum (A (crossing p)) (B (crossing p))) (p .place .result) (p .place .last .0) (p .place .last .1 .0)
 placed p =
     let m = crossing p in
     placed-on _ (now (start m .args .store)) (start m .args .size) _ _ _ _ _ (front m) (on-plots m) (p .place .ensures)

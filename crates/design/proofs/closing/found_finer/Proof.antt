@@ -7,7 +7,7 @@ use borrow.Author.Needs.{needs}
 use denote.Ref.{now}
 use Rattle.rules.proofs.Members.{clash}
 use Rattle.rules.proofs.Classes.{finer-test}
-use Rattle.design.specs.State.{columnIn, Known}
+use Rattle.design.specs.State.{columnAt, Known}
 use Rattle.design.proofs.KnownOrder.{told-order, known-noted}
 use Rattle.design.proofs.closing.found_finer.Statement.{statement}
 use Rattle.design.proofs.closing.found_finer.Tie as tie
@@ -52,7 +52,7 @@ returns-4 c =
     let store = now (s .args .store) in
     let n = s .args .n in
     let e = sym (m .member-finer .ensures) ∙ t .if4 .taken in
-    let k = known-noted (s .pre .0 .few) (s .pre .1) (s .pre .2) (finer-test n (columnIn n store (s .args .i)) (columnIn n store (s .args .j)) .0 e) (s .pre .3) in
+    let k = known-noted (s .pre .0 .few) (s .pre .1) (s .pre .2) (finer-test n (columnAt n store (s .args .i)) (columnAt n store (s .args .j)) .0 e) (s .pre .3) in
     (λ _. e, subst (λ (above : List ℕ). Known n store above (s .args .size)) (sym (c .note-finer .ensures)) k)
 
 returns-5 : tie.Need-returns-5

@@ -9,7 +9,7 @@ use denote.Ref.{now}
 use lib.ListN.{length, take, replicate}
 use Rattle.rules.specs.Factor.{Column, number, classes}
 use Rattle.rules.proofs.Numbering.{number-number}
-use Rattle.design.specs.State.{columnIn, Held, Begun}
+use Rattle.design.specs.State.{columnAt, Held, Begun}
 use Rattle.design.proofs.Start.{after-placed, begun-more, placed-on, held-on, length-numbered, classes-numbered, take-numbered, long-numbered}
 use Rattle.design.proofs.columns.place_column.Statement.{statement}
 use Rattle.design.proofs.columns.place_column.Tie as tie
@@ -20,7 +20,7 @@ start w = w .before .before .before .before .before
 
 -- the column of the table, numbered
 abbrev column : tie.After-number-levels → Column
-column w = number (columnIn (start w .args .n) (now (start w .args .levels)) (start w .args .c))
+column w = number (columnAt (start w .args .n) (now (start w .args .levels)) (start w .args .c))
 
 -- what is placed is that column
 taken : (w : tie.After-number-levels) → take (start w .args .n) (w .number-levels .last .1 .0) ≡ column w
@@ -102,7 +102,7 @@ returns c =
     let e = c .grown .ensures in (
       (subst (λ (k : ℕ). Held (s .args .n) (q .place .last .0) (q .place .last .1 .0) k) (sym e) (a .held), subst (λ (k : ℕ). k ≤ s .args .size + 1) (sym e) (a .most)),
       λ As b. subst (λ (k : ℕ). Begun (s .args .n) (As ++ column w ∷ []) (q .place .last .0) (q .place .last .1 .0) k) (sym e)
-          (begun-more (s .args .n) As (now (s .args .store)) (now (s .args .counts)) (s .args .size) b (s .pre .1) (column w) (number-number (columnIn (s .args .n) (now (s .args .levels)) (s .args .c))) (q .place .result) (q .place .last .0) (q .place .last .1 .0) p),
+          (begun-more (s .args .n) As (now (s .args .store)) (now (s .args .counts)) (s .args .size) b (s .pre .1) (column w) (number-number (columnAt (s .args .n) (now (s .args .levels)) (s .args .c))) (q .place .result) (q .place .last .0) (q .place .last .1 .0) p),
     )
 
 pub place-column-spec : {M : Type 1} → statement M

@@ -6,8 +6,8 @@ use native.Mathlib.Omega.{arith}
 use denote.Ref.{now}
 use lib.ListN.{length, take, drop}
 use Rattle.rules.specs.Factor.{Column, number, classes}
-use Rattle.design.specs.State.{columnIn}
-use Rattle.design.proofs.Asked.{part-is, length-column}
+use Rattle.design.specs.State.{columnAt}
+use Rattle.factor.proofs.Lent.{part-of, length-part}
 use Rattle.design.proofs.Joins.{growing-on, grown-on, entered-on, adds-on}
 use borrow.Author.Needs.{needs}
 use Rattle.design.proofs.crossing.add_member.Statement.{statement}
@@ -18,14 +18,14 @@ abbrev lent : tie.Start → Column
 lent s = let a = s .args in take (240 * a .i + a .n - 240 * a .i) (drop (240 * a .i) (now (a .family)))
 
 abbrev column : tie.Start → Column
-column s = let a = s .args in columnIn (a .n) (now (a .family)) (a .i)
+column s = let a = s .args in columnAt (a .n) (now (a .family)) (a .i)
 
 is : (s : tie.Start) → lent s ≡ column s
-is s = part-is (s .args .n) (240 * s .args .i) (now (s .args .family))
+is s = part-of (s .args .n) (s .args .i) (now (s .args .family))
 
 -- it is on n plots
 length-is : (s : tie.Start) → length (column s) ≡ s .args .n
-length-is s = length-column (s .args .n) (s .args .i) (now (s .args .family)) (omega (arith, s .pre .0 .held .most, s .pre .1 .place, s .pre .1 .room))
+length-is s = length-part (s .args .n) (s .args .i) (now (s .args .family)) (omega (arith, s .pre .0 .held .most, s .pre .1 .place, s .pre .1 .room))
 
 mul-from : tie.Need-mul-from
 mul-from c = search needs

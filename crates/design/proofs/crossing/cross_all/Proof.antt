@@ -13,7 +13,7 @@ use Rattle.rules.specs.Factor.{Column}
 use Rattle.rules.specs.Family.{Family, membersOf}
 use Rattle.rules.specs.Closing.{onlySupremum, productsOf, products}
 use Rattle.rules.proofs.Numbering.{by-cases}
-use Rattle.design.specs.State.{columnIn, Begun}
+use Rattle.design.specs.State.{columnAt, Begun}
 use Rattle.design.specs.Treatments.{Placing, begun, orthogonalAt}
 use Rattle.design.specs.Crossing.{heldOf, Growing, Joins}
 use Rattle.design.proofs.Start.{begun-none}
@@ -108,7 +108,7 @@ loop-again c =
     let start = b .before .before .before .before .before .before in
     let s = start .args in
     let i = b .loop .i - 1 in
-    let F = columnIn (s .n) (now (s .plot)) i in
+    let F = columnAt (s .n) (now (s .plot)) i in
     let P = membersOf (s .n) (now (s .plot)) (s .plot-size) in
     let next : b .loop .i ≡ i + 1 = omega (arith, t .loop-test .taken) in
     let o = c .if1 .left in

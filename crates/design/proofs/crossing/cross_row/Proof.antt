@@ -13,7 +13,7 @@ use Rattle.rules.specs.Factor.{Column, supremum}
 use Rattle.rules.specs.Family.{membersOf}
 use Rattle.rules.specs.Closing.{onlySupremum, productsOf}
 use Rattle.rules.proofs.Numbering.{by-cases}
-use Rattle.design.specs.State.{columnIn}
+use Rattle.design.specs.State.{columnAt}
 use Rattle.design.specs.Treatments.{Placing, orthogonalAt}
 use Rattle.design.specs.Crossing.{heldOf, Growing, Joins}
 use Rattle.design.proofs.Joins.{row-none, row-more}
@@ -26,7 +26,7 @@ Inv-loop plot f first first-size firsts finer-firsts n store₀ counts₀ size j
     × Growing n store counts now
     × Joins n plot first store (heldOf now) joins
     × ((k : ℕ) → j ≤ k → k < first-size → orthogonalAt n plot first (f .place) k ≡ true)
-    × ((As : List Column) → Placing n As store₀ counts₀ size → Placing n (As ++ productsOf onlySupremum (columnIn n plot (f .place)) (drop j (membersOf n first first-size))) store counts now)
+    × ((As : List Column) → Placing n As store₀ counts₀ size → Placing n (As ++ productsOf onlySupremum (columnAt n plot (f .place)) (drop j (membersOf n first first-size))) store counts now)
 
 abbrev μ-loop : tie.MeasureT-loop
 μ-loop plot f first first-size firsts finer-firsts n store₀ counts₀ size joins₀ now₀ j₀ store counts joins now j = j
@@ -43,7 +43,7 @@ loop-holds c =
       start .pre .0,
       start .pre .1,
       λ k a b. absurd (omega arith),
-      λ As p. subst (λ (l : List Column). Placing (s .n) l (now (s .store)) (now (s .counts)) (s .size)) (sym (row-none (s .n) (start .pre .0 .held .most) (now (s .first)) (s .first-size) As (columnIn (s .n) (now (s .plot)) (s .f .place)))) p,
+      λ As p. subst (λ (l : List Column). Placing (s .n) l (now (s .store)) (now (s .counts)) (s .size)) (sym (row-none (s .n) (start .pre .0 .held .most) (now (s .first)) (s .first-size) As (columnAt (s .n) (now (s .plot)) (s .f .place)))) p,
     )
 
 sub-j : tie.Need-sub-j Inv-loop μ-loop
@@ -107,7 +107,7 @@ loop-again c =
     let b = q .before .before .before .before .before .before .before in
     let start = b .before .before .before .before in
     let s = start .args in
-    let F = columnIn (s .n) (now (s .plot)) (s .f .place) in
+    let F = columnAt (s .n) (now (s .plot)) (s .f .place) in
     let T = membersOf (s .n) (now (s .first)) (s .first-size) in
     let j = b .loop .j - 1 in
     let next : b .loop .j ≡ j + 1 = omega (arith, q .before .before .before .before .before .before .loop-test .taken) in
@@ -121,7 +121,7 @@ loop-again c =
       λ k a h. by-cases (eqb k j) (λ z. rw (eqb-true k j z) e) (λ z. b .loop .inv .3 k (omega (arith, eqb-false k j z)) h),
       λ As p.
           row-more (s .n) (start .pre .0 .held .most) (now (s .first)) (s .first-size) As F j (omega arith)
-          (subst (λ (x : ℕ). Placing (s .n) ((As ++ productsOf onlySupremum F (drop x T)) ++ supremum F (columnIn (s .n) (now (s .first)) j) ∷ []) store counts (q .cross-pair .result .size)) next
+          (subst (λ (x : ℕ). Placing (s .n) ((As ++ productsOf onlySupremum F (drop x T)) ++ supremum F (columnAt (s .n) (now (s .first)) j) ∷ []) store counts (q .cross-pair .result .size)) next
           (q .cross-pair .ensures .1 .1 o (As ++ productsOf onlySupremum F (drop (b .loop .j) T)) (b .loop .inv .4 As p))),
     )
 
@@ -133,7 +133,7 @@ returns-2 c =
     let b = c .before in
     let start = b .before .before .before .before in
     let s = start .args in
-    let F = columnIn (s .n) (now (s .plot)) (s .f .place) in
+    let F = columnAt (s .n) (now (s .plot)) (s .f .place) in
     let T = membersOf (s .n) (now (s .first)) (s .first-size) in
     let e : b .loop .j ≡ 0 = omega arith in (
       λ _ k h. b .loop .inv .3 k (omega arith) h,

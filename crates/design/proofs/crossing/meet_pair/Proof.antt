@@ -5,7 +5,7 @@ use Prim.Native.Nat.{ℕ, suc, _+_, _*_, _-_}
 use native.Mathlib.Omega.{arith}
 use denote.Ref.{now}
 use lib.ListN.{set}
-use Rattle.design.specs.State.{columnIn}
+use Rattle.design.specs.State.{columnAt}
 use Rattle.design.specs.Crossing.{heldOf, Joins}
 use Rattle.design.proofs.Suprema.{member-in-buffer, number-made}
 use Rattle.design.proofs.Joins.{joins-more, joined-adds}
@@ -45,8 +45,8 @@ returns-2 c = let f = c .before in
     let e : told ≡ suc (told - 1) = omega arith in
     let w = f .following .ensures (told - 1) e in
     let small = s .pre .0 .held .most in
-    let F = columnIn (a .n) (now (a .plot)) (a .f .place) in
-    let G = columnIn (a .n) (now (a .first)) (a .g .place) in
+    let F = columnAt (a .n) (now (a .plot)) (a .f .place) in
+    let G = columnAt (a .n) (now (a .first)) (a .g .place) in
     let numbered = number-made (a .n) (a .f .place) (a .g .place) (now (a .plot)) (now (a .first)) small (member-in-buffer (a .n) (a .f .place) (a .f .count) (now (a .plot)) small (s .pre .2)) (member-in-buffer (a .n) (a .g .place) (a .g .count) (now (a .first)) small (s .pre .4)) in (
       sym (w .test),
       (

@@ -1,6 +1,6 @@
 -- `walk_pair` meets its contract: the column that is added is the supremum.
 -- Assumes nothing.
-use mathlib.Core.Path.{_≡_, refl, sym, ap, ap₂, _∙_}
+use mathlib.Core.Path.{_≡_, refl, sym, ap, _∙_}
 use mathlib.Core.List.{List}
 use Prim.Native.Nat.{ℕ, _+_, _*_, _≤_}
 use native.Mathlib.Omega.{arith}
@@ -9,10 +9,9 @@ use denote.Ref.{now}
 use lib.ListN.{length, take, replicate}
 use Rattle.rules.specs.Factor.{Column, number, classes, supremum, orthogonal}
 use Rattle.rules.proofs.Members.{clash}
-use Rattle.factor.specs.Lent.{testCommon}
-use Rattle.design.specs.State.{columnIn}
-use Rattle.design.proofs.Asked.{part-is, length-column}
-use Rattle.design.proofs.Suprema.{lent-test, length-made, number-made, classes-made, take-made, long-made}
+use Rattle.factor.proofs.Lent.{part-of, test-parts}
+use Rattle.design.specs.State.{columnAt}
+use Rattle.design.proofs.Suprema.{length-made, number-made, classes-made, take-made, long-made}
 use Rattle.design.proofs.Joins.{growing-on, grown-on, entered-on, adds-on, joins-entered}
 use borrow.Author.Needs.{needs}
 use Rattle.design.proofs.crossing.walk_pair.Statement.{statement}
@@ -24,10 +23,10 @@ start w = w .before .before .before .before .before .before .before
 
 -- the two members
 abbrev F : tie.After-crossing-of → Column
-F w = columnIn (start w .args .n) (now (start w .args .plot)) (start w .args .i)
+F w = columnAt (start w .args .n) (now (start w .args .plot)) (start w .args .i)
 
 abbrev G : tie.After-crossing-of → Column
-G w = columnIn (start w .args .n) (now (start w .args .first)) (start w .args .j)
+G w = columnAt (start w .args .n) (now (start w .args .first)) (start w .args .j)
 
 -- they lie in their buffers
 in-plot : (w : tie.After-crossing-of) → 240 * start w .args .i + start w .args .n ≤ length (now (start w .args .plot))
@@ -71,8 +70,7 @@ tested : (w : tie.After-crossing-of) → w .crossing-of .result .orthogonal ≡ 
 tested w =
     let s = start w .args in
     w .crossing-of .ensures .1 .0
-    ∙ ap₂ (testCommon orthogonal) (part-is (s .n) (240 * s .i) (now (s .plot))) (part-is (s .n) (240 * s .j) (now (s .first)))
-    ∙ lent-test orthogonal (s .n) (F w) (G w) (length-column (s .n) (s .i) (now (s .plot)) (in-plot w)) (length-column (s .n) (s .j) (now (s .first)) (in-first w)) (start w .pre .0 .held .most)
+    ∙ test-parts orthogonal (s .n) (now (s .plot)) (now (s .first)) (s .i) (s .j) (start w .pre .0 .held .most) (in-plot w) (in-first w) _ _ (part-of (s .n) (s .i) (now (s .plot))) (part-of (s .n) (s .j) (now (s .first)))
 
 mul-a : tie.Need-mul-a
 mul-a c = search needs

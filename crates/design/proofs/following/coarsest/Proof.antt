@@ -12,12 +12,12 @@ use mir.Syntax.{w64}
 use mir.Val.{Fits}
 use denote.Ref.{now}
 use Rattle.rules.specs.Lists.{bitAt}
-use Rattle.design.specs.Crossing.{Chosen}
+use Rattle.design.specs.Crossing.{ChosenJoin}
 use Rattle.design.proofs.following.coarsest.Statement.{statement}
 use Rattle.design.proofs.following.coarsest.Tie as tie
 
 abbrev Inv-loop : tie.InvT-loop
-Inv-loop joins counts at step word from best₀ k₀ best k = ((best ≡ 0) ⊎ Chosen joins at step word best)
+Inv-loop joins counts at step word from best₀ k₀ best k = ((best ≡ 0) ⊎ ChosenJoin joins at step word best)
 
 abbrev μ-loop : tie.MeasureT-loop
 μ-loop joins counts at step word from best₀ k₀ best k = 32 - k
@@ -33,7 +33,7 @@ bit word k e = eq-eqb (word / 2 ^ k % 2) 1 (sym (and-mask (word / 2 ^ k) 1) ∙ 
 
 -- what is found may be kept
 abbrev Good : tie.At-loop Inv-loop μ-loop → ℕ → Type 0
-Good b x = let a = b .before .args in (x ≡ 0) ⊎ Chosen (now (a .joins)) (a .at) (a .step) (a .word) x
+Good b x = let a = b .before .args in (x ≡ 0) ⊎ ChosenJoin (now (a .joins)) (a .at) (a .step) (a .word) x
 
 -- its cell
 cell : (c : tie.Then2 Inv-loop μ-loop) → let b = c .before .before .before in let a = b .before .args in (a .at + a .step * b .loop .k < 1024) × (getD (now (a .joins)) (a .at + a .step * b .loop .k) 0 ≤ 32)

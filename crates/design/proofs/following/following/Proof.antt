@@ -7,7 +7,7 @@ use native.Mathlib.Omega.{arith}
 use denote.Ref.{now}
 use lib.ListN.{getD}
 use Rattle.rules.specs.Factor.{Finer, classes}
-use Rattle.design.specs.State.{columnIn}
+use Rattle.design.specs.State.{columnAt}
 use Rattle.design.specs.Crossing.{heldOf, Join}
 use Rattle.design.proofs.Joins.{plot-cells, plot-most, plot-counted, plot-follows, first-cells, first-most, first-counted, first-above, first-follows}
 use borrow.Author.Needs.{needs}
@@ -20,14 +20,14 @@ start w = w .before .before .before .before .before
 
 -- the supremum of the two members stands at place q
 abbrev Joined : tie.After-coarsest2 → ℕ → Type 0
-Joined w q = let a = start w .args in Join (a .n) (columnIn (a .n) (now (a .plot)) (a .f .place)) (columnIn (a .n) (now (a .first)) (a .g .place)) (now (a .store)) (heldOf (a .size)) q
+Joined w q = let a = start w .args in Join (a .n) (columnAt (a .n) (now (a .plot)) (a .f .place)) (columnAt (a .n) (now (a .first)) (a .g .place)) (now (a .store)) (heldOf (a .size)) q
 
 -- one of the two is finer than the member there
 abbrev PlotUnder : tie.After-coarsest2 → ℕ → Type 0
-PlotUnder w q = let a = start w .args in Finer (a .n) (columnIn (a .n) (now (a .plot)) (a .f .place)) (columnIn (a .n) (now (a .store)) q)
+PlotUnder w q = let a = start w .args in Finer (a .n) (columnAt (a .n) (now (a .plot)) (a .f .place)) (columnAt (a .n) (now (a .store)) q)
 
 abbrev FirstUnder : tie.After-coarsest2 → ℕ → Type 0
-FirstUnder w q = let a = start w .args in Finer (a .n) (columnIn (a .n) (now (a .first)) (a .g .place)) (columnIn (a .n) (now (a .store)) q)
+FirstUnder w q = let a = start w .args in Finer (a .n) (columnAt (a .n) (now (a .first)) (a .g .place)) (columnAt (a .n) (now (a .store)) q)
 
 module _ (w : tie.After-coarsest2) where
   most-plots : w .before .coarsest .result ≤ 32
@@ -55,7 +55,7 @@ module _ (w : tie.After-coarsest2) where
         first-above (a .n) (now (a .plot)) (now (a .first)) (now (a .store)) (now (a .counts)) (a .size) (now (a .joins)) (s .pre .0 .held .most) (s .pre .2 .room) (s .pre .4 .room) (s .pre .0) (s .pre .1) (a .f .place) (a .g .place) (a .g .finer) (s .pre .2 .place) (s .pre .4 .place) (s .pre .5) (w .coarsest2 .result) (w .coarsest2 .ensures) q (sym h ∙ e)
 
     -- whose number of classes is known in either case
-    either : (r ≡ w .before .coarsest .result) ⊎ (r ≡ w .coarsest2 .result) → r ≡ suc q → let a = start w .args in (q < 32) × (getD (now (a .counts)) q 0 ≡ classes (columnIn (a .n) (now (a .store)) q))
+    either : (r ≡ w .before .coarsest .result) ⊎ (r ≡ w .coarsest2 .result) → r ≡ suc q → let a = start w .args in (q < 32) × (getD (now (a .counts)) q 0 ≡ classes (columnAt (a .n) (now (a .store)) q))
     either c e = let s = start w in let a = s .args in
         ⊎-elim
         (λ h. plot-counted (a .n) (now (a .plot)) (now (a .first)) (now (a .store)) (now (a .counts)) (a .size) (now (a .joins)) (s .pre .0 .held .most) (s .pre .2 .room) (s .pre .4 .room) (s .pre .0) (s .pre .1) (a .f .place) (a .g .place) (a .f .finer) (s .pre .2 .place) (s .pre .4 .place) (s .pre .3) (w .before .coarsest .result) (w .before .coarsest .ensures) q (sym h ∙ e))

@@ -7,13 +7,13 @@ use denote.Ref.{now}
 use lib.ListN.{getD}
 use Rattle.rules.specs.Factor.{Finer, classes}
 use Rattle.rules.proofs.Classes.{finer-test}
-use Rattle.design.specs.State.{columnIn}
+use Rattle.design.specs.State.{columnAt}
 use borrow.Author.Needs.{needs}
 use Rattle.design.proofs.following.under.Statement.{statement}
 use Rattle.design.proofs.following.under.Tie as tie
 
 -- the member is one of the store
-placed : (s : tie.Start) → (s .args .at ≡ 0 → ⊥) → (s .args .at - 1 < 32) × (getD (now (s .args .counts)) (s .args .at - 1) 0 ≡ classes (columnIn (s .args .n) (now (s .args .store)) (s .args .at - 1)))
+placed : (s : tie.Start) → (s .args .at ≡ 0 → ⊥) → (s .args .at - 1 < 32) × (getD (now (s .args .counts)) (s .args .at - 1) 0 ≡ classes (columnAt (s .args .n) (now (s .args .store)) (s .args .at - 1)))
 placed s d = s .pre .4 (s .args .at - 1) (omega arith)
 
 returns : tie.Need-returns
@@ -36,10 +36,10 @@ returns-2 c =
     let s = c .before .before .before .before .before in
     let n = s .args .n in
     let store = now (s .args .store) in
-    let F = columnIn n (now (s .args .family)) (s .args .i) in
+    let F = columnAt n (now (s .args .family)) (s .args .i) in
     λ e q h.
     let p : q ≡ s .args .at - 1 = omega arith in
-    subst (λ (k : ℕ). Finer n F (columnIn n store k)) (sym p) (finer-test n F (columnIn n store (s .args .at - 1)) .0 (c .found-finer .ensures e))
+    subst (λ (k : ℕ). Finer n F (columnAt n store k)) (sym p) (finer-test n F (columnAt n store (s .args .at - 1)) .0 (c .found-finer .ensures e))
 
 pub under-spec : {M : Type 1} → statement M
 under-spec =

@@ -1,35 +1,37 @@
 -- `class_counts` meets its contract: the first `i` members are counted.
 -- Assumes nothing.
-use mathlib.Core.Path.{_≡_, refl, sym, ap, _∙_}
+use mathlib.Core.Path.{_≡_, refl, ap, _∙_}
 use mathlib.Core.Bool.{Bool, true, false}
 use mathlib.Core.List.{List}
-use Prim.Native.Nat.{ℕ, _+_, _-_, _*_, _≤_, _<_}
+use Prim.Native.Nat.{ℕ, _+_, _-_, _≤_, _<_}
 use native.Mathlib.Nat.{not-suc-le-zero}
 use native.Mathlib.Omega.{arith}
 use borrow.Author.Tests.{eqb-true, eqb-false}
+use borrow.Author.Needs.{needs}
 use denote.Ref.{now}
 use lib.Dec.{eqb}
 use lib.ListN.{length, getD, set, length-set, length-replicate}
 use lib.Seq.{getD-set-same, getD-set-other}
-use Rattle.rules.specs.Factor.{number, classes}
-use Rattle.design.specs.State.{columnIn}
-use Rattle.design.proofs.Asked.{part-is}
+use Rattle.rules.specs.Factor.{classes}
+use Rattle.design.specs.State.{columnAt}
+use Rattle.factor.specs.Labels.{largest}
+use Rattle.factor.proofs.LargestLabel.{largest-classes}
 use Rattle.design.proofs.nesting.class_counts.Statement.{statement}
 use Rattle.design.proofs.nesting.class_counts.Tie as tie
 
 abbrev Inv-loop : tie.InvT-loop
 Inv-loop family n size counts₀ i₀ counts i =
-    (i ≤ size) × (length counts ≡ 32) × ((p : ℕ) → p < i → getD counts p 0 ≡ classes (columnIn n family p))
+    (i ≤ size) × (length counts ≡ 32) × ((p : ℕ) → p < i → getD counts p 0 ≡ classes (columnAt n family p))
 
 abbrev μ-loop : tie.MeasureT-loop
 μ-loop family n size counts₀ i₀ counts i = size - i
 
 -- one member more is counted
-turn : (n i k : ℕ) (family counts : List ℕ) → i < length counts → k ≡ classes (columnIn n family i) → ((p : ℕ) → p < i → getD counts p 0 ≡ classes (columnIn n family p))
-    → (p : ℕ) → p < i + 1 → getD (set counts i k) p 0 ≡ classes (columnIn n family p)
+turn : (n i k : ℕ) (family counts : List ℕ) → i < length counts → k ≡ classes (columnAt n family i) → ((p : ℕ) → p < i → getD counts p 0 ≡ classes (columnAt n family p))
+    → (p : ℕ) → p < i + 1 → getD (set counts i k) p 0 ≡ classes (columnAt n family p)
 turn n i k family counts h e before p l = go (eqb p i) refl
   where
-    go : (b : Bool) → eqb p i ≡ b → getD (set counts i k) p 0 ≡ classes (columnIn n family p)
+    go : (b : Bool) → eqb p i ≡ b → getD (set counts i k) p 0 ≡ classes (columnAt n family p)
     go true q =
         let s : p ≡ i = eqb-true p i q in
         rw s (getD-set-same counts i k 0 h ∙ e)
@@ -42,37 +44,21 @@ abbrev here : tie.After-largest Inv-loop μ-loop → tie.At-loop Inv-loop μ-loo
 here w = w .before .before .before
 
 -- the number of classes of member i
-counted : (w : tie.After-largest Inv-loop μ-loop) → let s = here w .before .before .args in w .largest .result ≡ classes (columnIn (s .n) (now (s .family)) (here w .loop .i))
+counted : (w : tie.After-largest Inv-loop μ-loop) → let s = here w .before .before .args in w .largest .result ≡ classes (columnAt (s .n) (now (s .family)) (here w .loop .i))
 counted w =
-    let s = here w .before .before .args in
-    w .largest .ensures ∙ ap classes (part-is (s .n) (240 * here w .loop .i) (now (s .family)))
+    let b = here w in
+    let start = b .before .before in
+    let s = start .args in
+    w .largest .ensures ∙ ap largest (w .before .member .ensures) ∙ largest-classes (columnAt (s .n) (now (s .family)) (b .loop .i)) (start .pre .1 .numbered (b .loop .i) (omega arith))
 
 loop-holds : tie.Need-loop-holds Inv-loop μ-loop
 loop-holds c = (omega arith, length-replicate {A = ℕ} 32 0, λ p h. absurd (not-suc-le-zero h))
 
-mul-at : tie.Need-mul-at Inv-loop μ-loop
-mul-at c = omega arith
-
-add-end : tie.Need-add-end Inv-loop μ-loop
-add-end c = omega arith
-
-sub-largest : tie.Need-sub-largest Inv-loop μ-loop
-sub-largest c = omega arith
-
-part-largest-start : tie.Need-part-largest-start Inv-loop μ-loop
-part-largest-start c = omega arith
-
-part-largest-end : tie.Need-part-largest-end Inv-loop μ-loop
-part-largest-end c = omega arith
+member-requires : tie.Need-member-requires Inv-loop μ-loop
+member-requires c κs = search needs
 
 largest-requires : tie.Need-largest-requires Inv-loop μ-loop
-largest-requires c κs =
-    let b = c .before .before in
-    let start = b .before .before in
-    let s = start .args in
-    let i = b .loop .i in
-    let is = part-is (s .n) (240 * i) (now (s .family)) in
-    ap number is ∙ start .pre .1 .numbered i (omega arith) ∙ sym is
+largest-requires c κs = search needs
 
 array-write-counts : tie.Need-array-write-counts Inv-loop μ-loop
 array-write-counts c = omega arith
@@ -107,11 +93,7 @@ class-counts-spec =
     Inv-loop
     μ-loop
     loop-holds
-    mul-at
-    add-end
-    sub-largest
-    part-largest-start
-    part-largest-end
+    member-requires
     largest-requires
     array-write-counts
     add-i

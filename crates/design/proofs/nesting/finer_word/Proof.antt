@@ -3,13 +3,13 @@
 use Prim.Native.Nat.{_+_, _-_, _≤_}
 use native.Mathlib.Omega.{arith}
 use denote.Ref.{now}
-use Rattle.design.specs.Crossing.{Below}
+use Rattle.design.specs.Crossing.{FinerBits}
 use Rattle.design.proofs.FinerWords.{below-none}
 use Rattle.design.proofs.nesting.finer_word.Statement.{statement}
 use Rattle.design.proofs.nesting.finer_word.Tie as tie
 
 abbrev Inv-loop : tie.InvT-loop
-Inv-loop family counts words size n i word₀ k₀ word k = (i + 1 ≤ k) × (k ≤ size) × Below n family word i
+Inv-loop family counts words size n i word₀ k₀ word k = (i + 1 ≤ k) × (k ≤ size) × FinerBits n family word i
 
 abbrev μ-loop : tie.MeasureT-loop
 μ-loop family counts words size n i word₀ k₀ word k = size - k

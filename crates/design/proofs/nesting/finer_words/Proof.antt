@@ -5,13 +5,13 @@ use Prim.Native.Nat.{ℕ, _-_, _≤_}
 use native.Mathlib.Omega.{arith}
 use lib.ListN.{length, getD, length-set, length-replicate}
 use denote.Ref.{now}
-use Rattle.design.specs.Crossing.{Below}
+use Rattle.design.specs.Crossing.{FinerBits}
 use Rattle.design.proofs.FinerWords.{words-none, words-more}
 use Rattle.design.proofs.nesting.finer_words.Statement.{statement}
 use Rattle.design.proofs.nesting.finer_words.Tie as tie
 
 abbrev Inv-loop : tie.InvT-loop
-Inv-loop family counts size n words₀ i₀ words i = (i ≤ size) × (length words ≡ 32) × ((k : ℕ) → Below n family (getD words k 0) k)
+Inv-loop family counts size n words₀ i₀ words i = (i ≤ size) × (length words ≡ 32) × ((k : ℕ) → FinerBits n family (getD words k 0) k)
 
 abbrev μ-loop : tie.MeasureT-loop
 μ-loop family counts size n words₀ i₀ words i = i

@@ -3,7 +3,7 @@
 use denote.Ref.{now}
 use lib.ListN.{getD}
 use Rattle.rules.proofs.Classes.{finer-test}
-use Rattle.design.specs.State.{columnIn}
+use Rattle.design.specs.State.{columnAt}
 use Rattle.design.proofs.FinerWords.{below-more}
 use borrow.Author.Needs.{needs}
 use Rattle.design.proofs.nesting.noted_word.Statement.{statement}
@@ -45,7 +45,7 @@ returns-2 c = let t = c .before in
     let a = s .args in
     let n = a .n in
     let family = now (a .family) in
-    below-more n family (a .i) (a .k) (a .word) (getD (now (a .words)) (a .k) 0) (s .pre .3 .place) (finer-test n (columnIn n family (a .k)) (columnIn n family (a .i)) .0 (t .before .found-finer .ensures (t .if2 .taken))) (s .pre .4) (s .pre .5)
+    below-more n family (a .i) (a .k) (a .word) (getD (now (a .words)) (a .k) 0) (s .pre .3 .place) (finer-test n (columnAt n family (a .k)) (columnAt n family (a .i)) .0 (t .before .found-finer .ensures (t .if2 .taken))) (s .pre .4) (s .pre .5)
 
 returns-3 : tie.Need-returns-3
 returns-3 c = search needs

@@ -12,7 +12,7 @@ use Rattle.rules.specs.Factor.{Column, classes, equality}
 use Rattle.rules.specs.Family.{membersOf}
 use Rattle.rules.proofs.ClassCount.{classes-equality}
 use Rattle.rules.proofs.Extremes.{length-equality}
-use Rattle.design.specs.State.{Held, Placed, grownTo, Begun, Work, Closed}
+use Rattle.design.specs.State.{Held, PlacedMember, grownTo, Begun, Work, Closed}
 use Rattle.design.specs.Judging.{unlisted}
 use Rattle.design.specs.Points.{Gathered}
 use Rattle.design.proofs.Choosing.{closed-on, closed-over, begun-own}
@@ -82,7 +82,7 @@ length-is e = let n = start (closer (spreader e)) .args .n in ap length (e .equa
 abbrev maker : tie.After-place → tie.After-equality
 maker y = y .before .before .before .before
 
-placed : (y : tie.After-place) → let t = spreader (maker y) in let q = closer t in Placed (start q .args .n) (membersOf (start q .args .n) (spread t) (q .close .result)) (equality (start q .args .n)) (y .place .result) (y .place .last .0) (y .place .last .1 .0)
+placed : (y : tie.After-place) → let t = spreader (maker y) in let q = closer t in PlacedMember (start q .args .n) (membersOf (start q .args .n) (spread t) (q .close .result)) (equality (start q .args .n)) (y .place .result) (y .place .last .0) (y .place .last .1 .0)
 placed y =
     let t = spreader (maker y) in
     let q = closer t in

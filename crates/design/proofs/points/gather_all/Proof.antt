@@ -12,8 +12,8 @@ use lib.Seq.{take-all, length-take-le}
 use Rattle.rules.specs.Factor.{Column, classes, equality}
 use Rattle.rules.specs.Family.{Family, membersOf}
 use Rattle.rules.proofs.ClassCount.{classes-most, each-class-is}
-use Rattle.design.specs.State.{columnIn, Held, grownTo}
-use Rattle.design.specs.Points.{onPlots, Gathered}
+use Rattle.design.specs.State.{columnAt, Held, grownTo}
+use Rattle.design.specs.Points.{pointsOnPlots, Gathered}
 use Rattle.design.proofs.Start.{held-on, placed-on, after-placed}
 use Rattle.design.proofs.Work.{size-members, held-length, column-in, members-more}
 use Rattle.design.proofs.PointLaws.{points-most, ranged, plots-part, classes-plots}
@@ -45,9 +45,9 @@ length-is w = length-take-le (start w .args .m) (w .gathered .result) (rw (w .ga
 
 -- the member
 abbrev member : tie.After-gathered Inv-loop μ-loop → Column
-member w = columnIn (start w .args .n) (now (start w .args .store)) (w .before .before .before .before .loop .i)
+member w = columnAt (start w .args .n) (now (start w .args .store)) (w .before .before .before .before .loop .i)
 
-is-member : (w : tie.After-gathered Inv-loop μ-loop) → onPlots (take (start w .args .n) (now (start w .args .points))) (column w) ≡ member w
+is-member : (w : tie.After-gathered Inv-loop μ-loop) → pointsOnPlots (take (start w .args .n) (now (start w .args .points))) (column w) ≡ member w
 is-member w = plots-part (start w .pre .1) (w .gathered .result) ∙ w .gathered .ensures .1
 
 loop-holds : tie.Need-loop-holds Inv-loop μ-loop
@@ -65,7 +65,7 @@ cast-if1 c =
     let h = s .pre .0 in
     let i = b .loop .i in
     let l : i < s .args .size = omega arith in
-    omega (arith, h .counted i l, classes-most (columnIn (s .args .n) (now (s .args .store)) i), held-length h i l, h .most)
+    omega (arith, h .counted i l, classes-most (columnAt (s .args .n) (now (s .args .store)) i), held-length h i l, h .most)
 
 gathered-requires : tie.Need-gathered-requires Inv-loop μ-loop
 gathered-requires c κs =
@@ -120,7 +120,7 @@ loop-again c =
     let most = after-placed m (b .loop .own) (b .loop .own-counts) (b .loop .some) (b .loop .inv .2 .held) less (column w) (v .6 .result) (v .6 .last .0) (v .6 .last .1 .0) p .most in
     (omega arith, rw (v .12 ∙ v .9 .ensures) (omega (arith, most)), rw (members-more h i l, v .10, v .11, v .12 ∙ v .9 .ensures) g))
     (λ v.
-    let F = columnIn (s .args .n) (now (s .args .store)) i in
+    let F = columnAt (s .args .n) (now (s .args .store)) i in
     let e : F ≡ equality (s .args .n) = each-class-is (s .args .n) F (held-length h i l) (s .pre .3 F (column-in h i l)) .0 (sym (h .counted i l) ∙ v .0 .left) in
     (omega arith, rw (v .3) (omega arith), rw (members-more h i l, v .1, v .2, v .3) (gathered-same (b .loop .inv .2) F e)))
     (c .if1 .came)

@@ -8,7 +8,7 @@ use denote.Ref.{now}
 use lib.ListN.{length, getD, drop, length-set}
 use lib.Seq.{getD-take, getD-drop}
 use Rattle.rules.specs.Factor.{at}
-use Rattle.design.specs.State.{columnIn}
+use Rattle.design.specs.State.{columnAt}
 use Rattle.design.proofs.Common.{column-length}
 use Rattle.design.proofs.Pasted.{in-range}
 use Rattle.design.proofs.Gathering.{gathered-plot, gathered-plots}
@@ -16,7 +16,7 @@ use Rattle.design.proofs.points.gathered.Statement.{statement}
 use Rattle.design.proofs.points.gathered.Tie as tie
 
 abbrev Inv-loop : tie.InvT-loop
-Inv-loop store i n points at₀ column₀ u₀ column u = (u ≤ n) × (length column ≡ 240) × ((v : ℕ) → v < u → at column (at points v - 1) ≡ at (columnIn n store i) v)
+Inv-loop store i n points at₀ column₀ u₀ column u = (u ≤ n) × (length column ≡ 240) × ((v : ℕ) → v < u → at column (at points v - 1) ≡ at (columnAt n store i) v)
 
 abbrev μ-loop : tie.MeasureT-loop
 μ-loop store i n points at₀ column₀ u₀ column u = n - u
@@ -68,7 +68,7 @@ loop-again c =
     let p = now (s .args .points) in
     let store = now (s .args .store) in
     let u = b .loop .u in
-    let F = columnIn n store (s .args .i) in
+    let F = columnAt n store (s .args .i) in
     let v : at F u ≡ getD store (240 * s .args .i + u) 0 = getD-take n (drop (240 * s .args .i) store) u 0 (omega arith) ∙ getD-drop (240 * s .args .i) store u 0 in
     (omega arith, simp length-set (b .loop .inv .1), gathered-plot n p F (b .loop .column) u (omega arith) (s .pre .3) (s .pre .4) (b .loop .inv .1) (b .loop .inv .2) (getD store (240 * s .args .i + u) 0) (sym v))
 
@@ -77,7 +77,7 @@ returns c =
     let b = c .before in
     let s = b .before in
     let e : b .loop .u ≡ s .args .n = omega arith in
-    (b .loop .inv .1, gathered-plots (s .args .n) (now (s .args .points)) (columnIn (s .args .n) (now (s .args .store)) (s .args .i)) (b .loop .column) (s .pre .3) (column-length (s .args .n) (now (s .args .store)) (s .args .i) (s .pre .0) (s .pre .1) (s .pre .2)) (rw e at (b .loop .inv .2)))
+    (b .loop .inv .1, gathered-plots (s .args .n) (now (s .args .points)) (columnAt (s .args .n) (now (s .args .store)) (s .args .i)) (b .loop .column) (s .pre .3) (column-length (s .args .n) (now (s .args .store)) (s .args .i) (s .pre .0) (s .pre .1) (s .pre .2)) (rw e at (b .loop .inv .2)))
 
 pub gathered-spec : {M : Type 1} → statement M
 gathered-spec =

@@ -8,7 +8,7 @@ use native.Mathlib.Omega.{arith}
 use denote.Ref.{now}
 use lib.ListN.{getD, take}
 use Rattle.rules.proofs.ClassCount.{classes-most}
-use Rattle.design.specs.State.{columnIn}
+use Rattle.design.specs.State.{columnAt}
 use Rattle.design.proofs.Common.{column-length}
 use Rattle.design.proofs.Gathering.{Met, met-none, met-same, met-more}
 use Rattle.design.proofs.points.meet_members.Statement.{statement}
@@ -19,7 +19,7 @@ abbrev Parts : ℕ → List ℕ → ℕ → Type 0
 Parts n counts k = getD counts k 0 ≡ n → ⊥
 
 abbrev Inv-loop : tie.InvT-loop
-Inv-loop store counts size n points₀ m₀ i₀ points m i = (i ≤ size) × Met n m (take n points) (columnIn n store) (Parts n counts) i
+Inv-loop store counts size n points₀ m₀ i₀ points m i = (i ≤ size) × Met n m (take n points) (columnAt n store) (Parts n counts) i
 
 abbrev μ-loop : tie.MeasureT-loop
 μ-loop store counts size n points₀ m₀ i₀ points m i = size - i
@@ -28,7 +28,7 @@ loop-holds : tie.Need-loop-holds Inv-loop μ-loop
 loop-holds c =
     let s = c .before in
     let a = s .args in
-    (omega arith, met-none (a .n) (s .pre .0 .some) (take (a .n) (now (a .points))) (columnIn (a .n) (now (a .store))) (Parts (a .n) (now (a .counts))) (s .pre .1))
+    (omega arith, met-none (a .n) (s .pre .0 .some) (take (a .n) (now (a .points))) (columnAt (a .n) (now (a .store))) (Parts (a .n) (now (a .counts))) (s .pre .1))
 
 element-copy-out-if1 : tie.Need-element-copy-out-if1 Inv-loop μ-loop
 element-copy-out-if1 c = omega (arith, c .before .before .before .pre .0 .few)
@@ -40,7 +40,7 @@ cast-if1 c =
     let a = s .args in
     let h = s .pre .0 in
     let i = b .loop .i in
-    let F = columnIn (a .n) (now (a .store)) i in
+    let F = columnAt (a .n) (now (a .store)) i in
     let small : i < 32 = omega (arith, h .few) in
     omega (arith, h .counted i (omega arith), classes-most F, column-length (a .n) (now (a .store)) i (h .most) (h .room) small, h .most)
 
@@ -70,8 +70,8 @@ loop-again c =
     let l = column-length n store i (h .most) (h .room) (omega (arith, h .few)) in (
       omega arith,
       ⊎-elim
-          (λ v. met-more n (b .loop .m) p (columnIn n store) (Parts n counts) i (b .loop .inv .1) (c .if1 .m) (take n (c .if1 .points)) (v .4 ∙ v .2 .ensures .0) (ap (take n) (v .3) ∙ v .2 .ensures .1) l)
-          (λ v. met-same n (b .loop .m) p (columnIn n store) (Parts n counts) i (b .loop .inv .1) (c .if1 .m) (take n (c .if1 .points)) (v .2) (ap (take n) (v .1)) (λ d. d (v .0 .left)))
+          (λ v. met-more n (b .loop .m) p (columnAt n store) (Parts n counts) i (b .loop .inv .1) (c .if1 .m) (take n (c .if1 .points)) (v .4 ∙ v .2 .ensures .0) (ap (take n) (v .3) ∙ v .2 .ensures .1) l)
+          (λ v. met-same n (b .loop .m) p (columnAt n store) (Parts n counts) i (b .loop .inv .1) (c .if1 .m) (take n (c .if1 .points)) (v .2) (ap (take n) (v .1)) (λ d. d (v .0 .left)))
           (c .if1 .came),
     )
 

@@ -9,22 +9,22 @@ use denote.Ref.{now}
 use lib.ListN.{length, getD, take, drop, set, length-set, length-take}
 use lib.Seq.{take-suc, take-suc-set, getD-take, getD-drop}
 use Rattle.rules.specs.Factor.{Column, at}
-use Rattle.design.specs.State.{columnIn}
-use Rattle.design.specs.Points.{onPlots}
+use Rattle.design.specs.State.{columnAt}
+use Rattle.design.specs.Points.{pointsOnPlots}
 use Rattle.design.proofs.Pasted.{in-range}
 use Rattle.design.proofs.points.spread.Statement.{statement}
 use Rattle.design.proofs.points.spread.Tie as tie
 
 -- one plot more
-plots-more : (p F : Column) (u : ℕ) → u < length p → onPlots (take (u + 1) p) F ≡ onPlots (take u p) F ++ at F (at p u - 1) ∷ []
-unfolding onPlots
+plots-more : (p F : Column) (u : ℕ) → u < length p → pointsOnPlots (take (u + 1) p) F ≡ pointsOnPlots (take u p) F ++ at F (at p u - 1) ∷ []
+unfolding pointsOnPlots
 plots-more p F u h =
     ap (λ (k : ℕ). map (λ (x : ℕ). at F (x - 1)) (take k p)) (add-one u)
     ∙ ap (map (λ (x : ℕ). at F (x - 1))) (take-suc p u 0 h)
     ∙ map-append (λ (x : ℕ). at F (x - 1)) (take u p) (at p u ∷ [])
 
 abbrev Inv-loop : tie.InvT-loop
-Inv-loop own i n points at₀ column₀ u₀ column u = (u ≤ n) × (length column ≡ 240) × (take u column ≡ onPlots (take u points) (columnIn 240 own i))
+Inv-loop own i n points at₀ column₀ u₀ column u = (u ≤ n) × (length column ≡ 240) × (take u column ≡ pointsOnPlots (take u points) (columnAt 240 own i))
 
 abbrev μ-loop : tie.MeasureT-loop
 μ-loop own i n points at₀ column₀ u₀ column u = n - u
@@ -33,7 +33,7 @@ mul-at : tie.Need-mul-at Inv-loop μ-loop
 mul-at c = omega arith
 
 loop-holds : tie.Need-loop-holds Inv-loop μ-loop
-unfolding onPlots
+unfolding pointsOnPlots
 loop-holds c = (omega arith, refl, refl)
 
 element-copy-out-x : tie.Need-element-copy-out-x Inv-loop μ-loop
@@ -80,7 +80,7 @@ loop-again c =
     let own = now (s .args .own) in
     let u = b .loop .u in
     let column = b .loop .column in
-    let F = columnIn 240 own (s .args .i) in
+    let F = columnAt 240 own (s .args .i) in
     let x = at p u - 1 in
     let long : s .args .n ≤ length p = omega (arith, s .pre .3 .0, length-take (s .args .n) p) in
     let r = in-range (s .args .n) p (s .pre .3) u (omega arith) in

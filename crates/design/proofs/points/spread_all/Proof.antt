@@ -10,8 +10,8 @@ use denote.Ref.{now}
 use lib.ListN.{length, take}
 use lib.Seq.{paste}
 use Rattle.rules.specs.Factor.{Column}
-use Rattle.design.specs.State.{columnIn}
-use Rattle.design.specs.Points.{onPlots}
+use Rattle.design.specs.State.{columnAt}
+use Rattle.design.specs.Points.{pointsOnPlots}
 use Rattle.design.proofs.Choosing.{length-pasted}
 use Rattle.design.proofs.PointLaws.{plots-length}
 use Rattle.design.proofs.Pasted.{pasted-more}
@@ -19,7 +19,7 @@ use Rattle.design.proofs.points.spread_all.Statement.{statement}
 use Rattle.design.proofs.points.spread_all.Tie as tie
 
 abbrev Inv-loop : tie.InvT-loop
-Inv-loop own size n points store₀ i₀ store i = (i ≤ size) × (length store ≡ 7680) × ((k : ℕ) → k < i → columnIn n store k ≡ onPlots (take n points) (columnIn 240 own k))
+Inv-loop own size n points store₀ i₀ store i = (i ≤ size) × (length store ≡ 7680) × ((k : ℕ) → k < i → columnAt n store k ≡ pointsOnPlots (take n points) (columnAt 240 own k))
 
 abbrev μ-loop : tie.MeasureT-loop
 μ-loop own size n points store₀ i₀ store i = size - i
@@ -30,13 +30,13 @@ start w = w .before .before .before .before .before
 
 -- the member as a column of plots
 abbrev made : tie.After-spread Inv-loop μ-loop → Column
-made w = onPlots (take (start w .args .n) (now (start w .args .points))) (columnIn 240 (now (start w .args .own)) (w .before .before .loop .i))
+made w = pointsOnPlots (take (start w .args .n) (now (start w .args .points))) (columnAt 240 (now (start w .args .own)) (w .before .before .loop .i))
 
 -- it is on n plots
 length-made : (w : tie.After-spread Inv-loop μ-loop) → length (take (start w .args .n) (w .spread .result)) ≡ start w .args .n
 length-made w =
     let a = start w .args in
-    ap length (w .spread .ensures) ∙ plots-length (take (a .n) (now (a .points))) (columnIn 240 (now (a .own)) (w .before .before .loop .i)) ∙ start w .pre .4 .0
+    ap length (w .spread .ensures) ∙ plots-length (take (a .n) (now (a .points))) (columnAt 240 (now (a .own)) (w .before .before .loop .i)) ∙ start w .pre .4 .0
 
 loop-holds : tie.Need-loop-holds Inv-loop μ-loop
 loop-holds c = (omega arith, c .before .before .pre .2, λ k h. absurd (not-suc-le-zero h))
@@ -76,10 +76,10 @@ loop-again c =
     let e : q .put .last .0 ≡ paste (b .loop .store) (240 * i) F n = q .put .ensures ∙ ap₂ (λ (X : Column) (k : ℕ). paste (b .loop .store) (240 * i) X k) (w .spread .ensures) (length-made w) in
     let l : length F ≡ n = ap length (sym (w .spread .ensures)) ∙ length-made w in
     let fits : 240 * i + 240 ≤ length (b .loop .store) = omega arith in
-    let plots : ℕ → Column = λ k. onPlots (take n (now (s .args .points))) (columnIn 240 (now (s .args .own)) k) in (
+    let plots : ℕ → Column = λ k. pointsOnPlots (take n (now (s .args .points))) (columnAt 240 (now (s .args .own)) k) in (
       omega arith,
       ap length e ∙ length-pasted n (s .pre .0) (b .loop .store) i F l fits ∙ b .loop .inv .1,
-      λ k h. ap (λ (x : List ℕ). columnIn n x k) e ∙ pasted-more n (s .pre .0) (b .loop .store) i F l fits plots refl (b .loop .inv .2) k h,
+      λ k h. ap (λ (x : List ℕ). columnAt n x k) e ∙ pasted-more n (s .pre .0) (b .loop .store) i F l fits plots refl (b .loop .inv .2) k h,
     )
 
 same-length : tie.Need-same-length Inv-loop μ-loop

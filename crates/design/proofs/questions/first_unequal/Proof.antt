@@ -9,7 +9,7 @@ use borrow.Author.Tests.{not-true, not-false}
 use Rattle.rules.specs.Factor.{uniform}
 use Rattle.rules.specs.Family.{membersOf}
 use Rattle.rules.specs.Design.{firstFailing}
-use Rattle.design.specs.State.{columnIn}
+use Rattle.design.specs.State.{columnAt}
 use Rattle.design.specs.Search.{firstFrom}
 use Rattle.design.proofs.Search.{from-on, from-here, from-end}
 use Rattle.design.proofs.Asked.{unequal-start}
@@ -17,7 +17,7 @@ use Rattle.design.proofs.questions.first_unequal.Statement.{statement}
 use Rattle.design.proofs.questions.first_unequal.Tie as tie
 
 abbrev Inv-loop : tie.InvT-loop
-Inv-loop family n size i₀ i = (i ≤ size) × (firstFailing (uniform n) 1 (membersOf n family size) ≡ firstFrom (λ k. uniform n (columnIn n family k)) i (size - i))
+Inv-loop family n size i₀ i = (i ≤ size) × (firstFailing (uniform n) 1 (membersOf n family size) ≡ firstFrom (λ k. uniform n (columnAt n family k)) i (size - i))
 
 abbrev μ-loop : tie.MeasureT-loop
 μ-loop family n size i₀ i = size - i
@@ -40,7 +40,7 @@ returns : tie.Need-returns Inv-loop μ-loop
 returns c =
     let b = c .before .before .before in
     let s = b .before .before .args in
-    let t : ℕ → Bool = λ k. uniform (s .n) (columnIn (s .n) (now (s .family)) k) in
+    let t : ℕ → Bool = λ k. uniform (s .n) (columnAt (s .n) (now (s .family)) k) in
     let e : t (b .loop .i) ≡ false = sym (c .before .member-uniform .ensures) ∙ not-true _ (c .if1 .taken) in
     sym (b .loop .inv .1 ∙ from-here t (b .loop .i) (s .size) (omega arith) e)
 
@@ -54,7 +54,7 @@ loop-again : tie.Need-loop-again Inv-loop μ-loop
 loop-again c =
     let b = c .before .before .before in
     let s = b .before .before .args in
-    let t : ℕ → Bool = λ k. uniform (s .n) (columnIn (s .n) (now (s .family)) k) in
+    let t : ℕ → Bool = λ k. uniform (s .n) (columnAt (s .n) (now (s .family)) k) in
     let e : t (b .loop .i) ≡ true = sym (c .before .member-uniform .ensures) ∙ not-false _ (c .if1 .left) in
     (omega arith, b .loop .inv .1 ∙ from-on t (b .loop .i) (s .size) (omega arith) e)
 
@@ -62,7 +62,7 @@ returns-2 : tie.Need-returns-2 Inv-loop μ-loop
 returns-2 c =
     let b = c .before in
     let s = b .before .before .args in
-    let t : ℕ → Bool = λ k. uniform (s .n) (columnIn (s .n) (now (s .family)) k) in
+    let t : ℕ → Bool = λ k. uniform (s .n) (columnAt (s .n) (now (s .family)) k) in
     sym (b .loop .inv .1 ∙ from-end t (b .loop .i) (s .size) (omega arith))
 
 pub first-unequal-spec : {M : Type 1} → statement M

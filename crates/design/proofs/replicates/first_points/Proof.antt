@@ -15,7 +15,7 @@ use Rattle.rules.specs.Closing.{onlySupremum, treatmentGenerators, tooMany, clo
 use Rattle.rules.proofs.Demand3.{column-length}
 use Rattle.design.specs.State.{Work, Closed}
 use Rattle.design.specs.Judging.{unlisted}
-use Rattle.design.specs.Points.{onPlots}
+use Rattle.design.specs.Points.{pointsOnPlots}
 use Rattle.design.specs.Treatments.{AllPlaced}
 use Rattle.design.proofs.Choosing.{all-on, all-over, closed-on, closed-over}
 use Rattle.design.proofs.Start.{held-none, begun-none}
@@ -60,7 +60,7 @@ generators-are a = generators-on (start a .args .m) (start a .args .k) (columns 
 abbrev family : tie.After-place-choices → List Column
 family a = let s = start a in treatmentGenerators (s .args .n) (s .args .k) (columnsFrom (s .args .n) (now (s .args .levels)) 6 (s .args .d))
 
-on-plots : (a : tie.After-place-choices) → family a ≡ map (onPlots (points a)) (generators a)
+on-plots : (a : tie.After-place-choices) → family a ≡ map (pointsOnPlots (points a)) (generators a)
 on-plots a =
     let g = a .before .before .before .before .before in
     let s = start a in

@@ -8,8 +8,8 @@ use native.Mathlib.Omega.{arith}
 use denote.Ref.{now}
 use lib.ListN.{length, take}
 use Rattle.rules.specs.Factor.{Column}
-use Rattle.design.specs.State.{columnIn}
-use Rattle.design.specs.Points.{onPlots}
+use Rattle.design.specs.State.{columnAt}
+use Rattle.design.specs.Points.{pointsOnPlots}
 use Rattle.design.proofs.Choosing.{length-pasted}
 use Rattle.design.proofs.Pasted.{pasted-each}
 use Rattle.design.proofs.replicates.gather_levels.Statement.{statement}
@@ -17,10 +17,10 @@ use Rattle.design.proofs.replicates.gather_levels.Tie as tie
 
 -- column X of points is treatment column c
 abbrev IsGathered : ℕ → List ℕ → List ℕ → ℕ → Column → Type 0
-IsGathered n points levels c X = onPlots (take n points) X ≡ columnIn n levels (6 + c)
+IsGathered n points levels c X = pointsOnPlots (take n points) X ≡ columnAt n levels (6 + c)
 
 abbrev Inv-loop : tie.InvT-loop
-Inv-loop levels n d points own₀ c₀ own c = (c ≤ d) × (length own ≡ 2880) × ((k : ℕ) → k < c → IsGathered n points levels k (columnIn 240 own k))
+Inv-loop levels n d points own₀ c₀ own c = (c ≤ d) × (length own ≡ 2880) × ((k : ℕ) → k < c → IsGathered n points levels k (columnAt 240 own k))
 
 abbrev μ-loop : tie.MeasureT-loop
 μ-loop levels n d points own₀ c₀ own c = d - c
@@ -59,7 +59,7 @@ loop-again c =
     let e = q .put-level .ensures in (
       omega arith,
       ap length e ∙ length-pasted 240 (omega arith) own i F l fits ∙ b .loop .inv .1,
-      λ k h. ap (λ (x : List ℕ). onPlots (take (s .args .n) (now (s .args .points))) (columnIn 240 x k)) e
+      λ k h. ap (λ (x : List ℕ). pointsOnPlots (take (s .args .n) (now (s .args .points))) (columnAt 240 x k)) e
           ∙ pasted-each 240 (omega arith) own i F l fits (IsGathered (s .args .n) (now (s .args .points)) (now (s .args .levels))) (g .gathered-level .ensures .1) (b .loop .inv .2) k h,
     )
 

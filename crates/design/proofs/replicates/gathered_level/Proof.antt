@@ -8,15 +8,15 @@ use denote.Ref.{now}
 use lib.ListN.{length, getD, drop, length-set}
 use lib.Seq.{getD-take, getD-drop}
 use Rattle.rules.specs.Factor.{at}
-use Rattle.design.specs.State.{columnIn}
-use Rattle.design.proofs.Choosing.{length-part}
+use Rattle.design.specs.State.{columnAt}
+use Rattle.factor.proofs.Lent.{length-part}
 use Rattle.design.proofs.Pasted.{in-range}
 use Rattle.design.proofs.Gathering.{gathered-plot, gathered-plots}
 use Rattle.design.proofs.replicates.gathered_level.Statement.{statement}
 use Rattle.design.proofs.replicates.gathered_level.Tie as tie
 
 abbrev Inv-loop : tie.InvT-loop
-Inv-loop levels c n points at₀ column₀ u₀ column u = (u ≤ n) × (length column ≡ 240) × ((v : ℕ) → v < u → at column (at points v - 1) ≡ at (columnIn n levels c) v)
+Inv-loop levels c n points at₀ column₀ u₀ column u = (u ≤ n) × (length column ≡ 240) × ((v : ℕ) → v < u → at column (at points v - 1) ≡ at (columnAt n levels c) v)
 
 abbrev μ-loop : tie.MeasureT-loop
 μ-loop levels c n points at₀ column₀ u₀ column u = n - u
@@ -77,7 +77,7 @@ loop-again c =
     let p = now (s .args .points) in
     let levels = now (s .args .levels) in
     let u = b .loop .u in
-    let F = columnIn n levels (s .args .c) in
+    let F = columnAt n levels (s .args .c) in
     let v : at F u ≡ getD levels (240 * s .args .c + u) 0 = getD-take n (drop (240 * s .args .c) levels) u 0 (omega arith) ∙ getD-drop (240 * s .args .c) levels u 0 in
     (omega arith, simp length-set (b .loop .inv .1), gathered-plot n p F (b .loop .column) u (omega arith) (s .pre .3) (s .pre .4) (b .loop .inv .1) (b .loop .inv .2) (getD levels (240 * s .args .c + u) 0) (sym v))
 
@@ -86,7 +86,7 @@ returns c =
     let b = c .before in
     let s = b .before in
     let e : b .loop .u ≡ s .args .n = omega arith in
-    (b .loop .inv .1, gathered-plots (s .args .n) (now (s .args .points)) (columnIn (s .args .n) (now (s .args .levels)) (s .args .c)) (b .loop .column) (s .pre .3) (length-part (s .args .n) (s .args .c) (now (s .args .levels)) (s .pre .0) (s .pre .1)) (rw e at (b .loop .inv .2)))
+    (b .loop .inv .1, gathered-plots (s .args .n) (now (s .args .points)) (columnAt (s .args .n) (now (s .args .levels)) (s .args .c)) (b .loop .column) (s .pre .3) (length-part (s .args .n) (s .args .c) (now (s .args .levels)) (omega (arith, s .pre .0, s .pre .1))) (rw e at (b .loop .inv .2)))
 
 pub gathered-level-spec : {M : Type 1} → statement M
 gathered-level-spec =

@@ -11,10 +11,11 @@ use lib.Seq.{length-take-le}
 use Rattle.rules.specs.Factor.{Column, number, classes, infimum}
 use Rattle.rules.proofs.Bounds.{length-infimum′}
 use Rattle.factor.specs.Lent.{onCommon, overlay}
-use Rattle.design.specs.State.{columnIn}
-use Rattle.design.proofs.Common.{common-front, overlay-front}
+use Rattle.design.specs.State.{columnAt}
+use Rattle.design.proofs.Common.{common-front}
 use Rattle.design.proofs.Start.{length-numbered, take-numbered, long-numbered}
-use Rattle.design.proofs.Choosing.{length-part, infimum-number}
+use Rattle.factor.proofs.Lent.{length-part, take-overlay}
+use Rattle.design.proofs.Choosing.{infimum-number}
 use Rattle.design.proofs.replicates.meet_level.Statement.{statement}
 use Rattle.design.proofs.replicates.meet_level.Tie as tie
 
@@ -24,7 +25,7 @@ start w = w .before .before .before .before
 
 -- the column of the table
 abbrev column : tie.After-number-levels → Column
-column w = columnIn (start w .args .n) (now (start w .args .levels)) (start w .args .c)
+column w = columnAt (start w .args .n) (now (start w .args .levels)) (start w .args .c)
 
 -- the part of the array that is lent is that column, numbered
 taken : (w : tie.After-number-levels) → take (start w .args .n) (w .number-levels .last .1 .0) ≡ number (column w)
@@ -79,14 +80,14 @@ returns c =
     let F = column w in
     let M = now (a .points) in
     let lM : length M ≡ 240 = search needs in
-    let lF = length-part n (a .c) levels (s .pre .0) (s .pre .1) in
+    let lF = length-part n (a .c) levels (omega arith) in
     let front = length-take-le n M (omega arith) in
     let zeros : List ℕ = replicate 240 0 in
     let same : onCommon infimum (take n (w .number-levels .last .1 .0)) M ≡ infimum F (take n M) =
     ap (λ (X : Column). onCommon infimum X M) (taken w) ∙ common-front n (number F) M (s .pre .0) (length-numbered n (a .c) levels (s .pre .0) (s .pre .1)) lM
     ∙ infimum-number F (take n M) (lF ∙ sym front) in (
       c .infimum .ensures .0 ∙ ap classes same,
-      ap (take n) (c .infimum .ensures .1) ∙ ap (λ (X : Column). take n (overlay zeros X)) same ∙ overlay-front n zeros (infimum F (take n M)) (length-infimum′ n F (take n M) lF front),
+      ap (take n) (c .infimum .ensures .1) ∙ ap (λ (X : Column). take n (overlay zeros X)) same ∙ take-overlay zeros (infimum F (take n M)) n (length-infimum′ n F (take n M) lF front),
     )
 
 pub meet-level-spec : {M : Type 1} → statement M

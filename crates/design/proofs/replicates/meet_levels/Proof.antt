@@ -7,15 +7,15 @@ use native.Mathlib.Omega.{arith}
 use denote.Ref.{now}
 use lib.ListN.{take}
 use Rattle.rules.specs.Factor.{Column}
-use Rattle.design.specs.State.{columnIn}
-use Rattle.design.proofs.Choosing.{length-part}
+use Rattle.design.specs.State.{columnAt}
+use Rattle.factor.proofs.Lent.{length-part}
 use Rattle.design.proofs.Gathering.{Met, met-none, met-more}
 use Rattle.design.proofs.replicates.meet_levels.Statement.{statement}
 use Rattle.design.proofs.replicates.meet_levels.Tie as tie
 
 -- treatment column c of the level table
 abbrev column : ℕ → List ℕ → ℕ → Column
-column n levels c = columnIn n levels (6 + c)
+column n levels c = columnAt n levels (6 + c)
 
 -- each is met
 abbrev Each : ℕ → Type 0
@@ -53,7 +53,7 @@ loop-again c =
     let n = a .n in
     let levels = now (a .levels) in
     let i = b .loop .c in
-    (omega arith, met-more n (b .loop .m) (take n (b .loop .points)) (column n levels) Each i (b .loop .inv .1) (c .meet-level .result) (take n (c .meet-level .last .1 .1 .1 .0)) (c .meet-level .ensures .0) (c .meet-level .ensures .1) (length-part n (6 + i) levels (s .pre .1) (omega arith)))
+    (omega arith, met-more n (b .loop .m) (take n (b .loop .points)) (column n levels) Each i (b .loop .inv .1) (c .meet-level .result) (take n (c .meet-level .last .1 .1 .1 .0)) (c .meet-level .ensures .0) (c .meet-level .ensures .1) (length-part n (6 + i) levels (omega (arith, s .pre .1))))
 
 returns : tie.Need-returns Inv-loop μ-loop
 returns c =

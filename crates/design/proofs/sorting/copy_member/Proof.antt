@@ -8,13 +8,13 @@ use native.Mathlib.Omega.{arith}
 use denote.Ref.{now}
 use lib.ListN.{length, getD, drop, set, length-set}
 use lib.Seq.{paste, paste-zero, paste-suc, getD-take, getD-drop}
-use Rattle.design.specs.State.{columnIn}
-use Rattle.design.proofs.Asked.{length-column}
+use Rattle.design.specs.State.{columnAt}
+use Rattle.factor.proofs.Lent.{length-part}
 use Rattle.design.proofs.sorting.copy_member.Statement.{statement}
 use Rattle.design.proofs.sorting.copy_member.Tie as tie
 
 abbrev Inv-loop : tie.InvT-loop
-Inv-loop store n i p family₀ from to u₀ family u = (u ≤ n) × (length family ≡ length family₀) × (family ≡ paste family₀ (240 * p) (columnIn n store i) u)
+Inv-loop store n i p family₀ from to u₀ family u = (u ≤ n) × (length family ≡ length family₀) × (family ≡ paste family₀ (240 * p) (columnAt n store i) u)
 
 abbrev μ-loop : tie.MeasureT-loop
 μ-loop store n i p family₀ from to u₀ family u = n - u
@@ -28,7 +28,7 @@ mul-to c = omega arith
 loop-holds : tie.Need-loop-holds Inv-loop μ-loop
 loop-holds c =
     let s = c .args in
-    (omega arith, refl, paste-zero (now (s .family)) (240 * s .p) (columnIn (s .n) (now (s .store)) (s .i)))
+    (omega arith, refl, paste-zero (now (s .family)) (240 * s .p) (columnAt (s .n) (now (s .store)) (s .i)))
 
 add-family : tie.Need-add-family Inv-loop μ-loop
 add-family c = omega arith
@@ -53,9 +53,9 @@ loop-again c =
     let b = c .before .before in
     let s = b .before .args in
     let d = now (s .family) in
-    let F = columnIn (s .n) (now (s .store)) (s .i) in
+    let F = columnAt (s .n) (now (s .store)) (s .i) in
     let u = b .loop .u in
-    let len : length F ≡ s .n = length-column (s .n) (s .i) (now (s .store)) (omega arith) in
+    let len : length F ≡ s .n = length-part (s .n) (s .i) (now (s .store)) (omega arith) in
     let v : getD F u 0 ≡ getD (now (s .store)) (240 * s .i + u) 0 =
     getD-take (s .n) (drop (240 * s .i) (now (s .store))) u 0 (omega arith) ∙ getD-drop (240 * s .i) (now (s .store)) u 0 in (
       omega arith,
@@ -73,7 +73,7 @@ returns c =
     let b = c .before in
     let s = b .before .args in
     let e : b .loop .u ≡ s .n = omega arith in
-    b .loop .inv .2 ∙ ap (paste (now (s .family)) (240 * s .p) (columnIn (s .n) (now (s .store)) (s .i))) e
+    b .loop .inv .2 ∙ ap (paste (now (s .family)) (240 * s .p) (columnAt (s .n) (now (s .store)) (s .i))) e
 
 pub copy-member-spec : {M : Type 1} → statement M
 copy-member-spec =

@@ -9,12 +9,12 @@ use borrow.Author.Count.{below-more}
 use denote.Ref.{now}
 use lib.ListN.{getD}
 use Rattle.rules.specs.Family.{before}
-use Rattle.design.specs.State.{columnIn}
+use Rattle.design.specs.State.{columnAt}
 use Rattle.design.proofs.sorting.rank.Statement.{statement}
 use Rattle.design.proofs.sorting.rank.Tie as tie
 
 abbrev Inv-loop : tie.InvT-loop
-Inv-loop store counts order n i p₀ p = (p ≤ i) × ((q : ℕ) → q < p → before (columnIn n store i) (columnIn n store (getD order q 0)) ≡ false)
+Inv-loop store counts order n i p₀ p = (p ≤ i) × ((q : ℕ) → q < p → before (columnAt n store i) (columnAt n store (getD order q 0)) ≡ false)
 
 abbrev μ-loop : tie.MeasureT-loop
 μ-loop store counts order n i p₀ p = i - p

@@ -8,14 +8,14 @@ use denote.Ref.{now}
 use lib.ListN.{length, getD, take}
 use lib.Seq.{paste, length-paste}
 use Rattle.rules.specs.Family.{written}
-use Rattle.design.specs.State.{columnIn}
-use Rattle.design.proofs.Asked.{length-column}
+use Rattle.design.specs.State.{columnAt}
+use Rattle.factor.proofs.Lent.{length-part}
 use Rattle.design.proofs.Order.{write-turn}
 use Rattle.design.proofs.sorting.write.Statement.{statement}
 use Rattle.design.proofs.sorting.write.Tie as tie
 
 abbrev Inv-loop : tie.InvT-loop
-Inv-loop store order n size family₀ p₀ family p = (p ≤ size) × (length family ≡ length family₀) × (family ≡ written family₀ 0 (map (λ (i : ℕ). columnIn n store i) (take p order)))
+Inv-loop store order n size family₀ p₀ family p = (p ≤ size) × (length family ≡ length family₀) × (family ≡ written family₀ 0 (map (λ (i : ℕ). columnAt n store i) (take p order)))
 
 abbrev μ-loop : tie.MeasureT-loop
 μ-loop store order n size family₀ p₀ family p = size - p
@@ -50,9 +50,9 @@ loop-again c =
     let start = b .before .before .before in
     let s = start .args in
     let p = b .loop .p in
-    let F = columnIn (s .n) (now (s .store)) (getD (now (s .order)) p 0) in
+    let F = columnAt (s .n) (now (s .store)) (getD (now (s .order)) p 0) in
     let small = start .pre .5 p (omega arith) in
-    let len : length F ≡ s .n = length-column (s .n) (getD (now (s .order)) p 0) (now (s .store)) (omega arith) in
+    let len : length F ≡ s .n = length-part (s .n) (getD (now (s .order)) p 0) (now (s .store)) (omega arith) in
     let e = c .before .before .copy-member .ensures in (
       omega arith,
       ap length e ∙ length-paste (b .loop .family) (240 * p) F (s .n) (omega arith) (omega arith) ∙ b .loop .inv .1,

@@ -12,8 +12,8 @@ use Rattle.rules.specs.Factor.{Column}
 use Rattle.rules.specs.Family.{alike, membersOf}
 use Rattle.rules.specs.Relation.{memberAt}
 use Rattle.rules.proofs.Buffer.{length-members, member-is}
-use Rattle.design.specs.State.{columnIn}
-use Rattle.design.proofs.Placing.{Sought, sought-on, sought-here, sought-end, unlike-counts, part-column}
+use Rattle.design.specs.State.{columnAt}
+use Rattle.design.proofs.Placing.{Sought, sought-on, sought-here, sought-end, unlike-counts}
 use Rattle.design.proofs.store.find.Statement.{statement}
 use Rattle.design.proofs.store.find.Tie as tie
 
@@ -29,20 +29,8 @@ loop-holds c = (omega arith, refl, omega arith)
 element-copy-out-if1 : tie.Need-element-copy-out-if1 Inv-loop μ-loop
 element-copy-out-if1 c = omega arith
 
-mul-at : tie.Need-mul-at Inv-loop μ-loop
-mul-at c = omega arith
-
-add-end : tie.Need-add-end Inv-loop μ-loop
-add-end c = omega arith
-
-sub-alike : tie.Need-sub-alike Inv-loop μ-loop
-sub-alike c = omega arith
-
-part-alike-start : tie.Need-part-alike-start Inv-loop μ-loop
-part-alike-start c = omega arith
-
-part-alike-end : tie.Need-part-alike-end Inv-loop μ-loop
-part-alike-end c = omega arith
+member-requires : tie.Need-member-requires Inv-loop μ-loop
+member-requires c κs = search needs
 
 alike-requires : tie.Need-alike-requires Inv-loop μ-loop
 alike-requires c κs = search needs
@@ -53,8 +41,8 @@ returns c =
     let s = b .before .before .before in
     let F = now (s .args .column) in
     let S = membersOf (length F) (now (s .args .store)) (s .args .size) in
-    let m : memberAt S (b .loop .i) ≡ columnIn (length F) (now (s .args .store)) (b .loop .i) = member-is (length F) (s .pre .0 .most) (now (s .args .store)) (s .args .size) (b .loop .i) (omega arith) in
-    let e : alike (memberAt S (b .loop .i)) F ≡ true = ap (λ (G : Column). alike G F) (m ∙ sym (part-column (length F) (now (s .args .store)) (b .loop .i))) ∙ sym (c .before .alike .ensures) ∙ c .if2 .taken in
+    let m : memberAt S (b .loop .i) ≡ columnAt (length F) (now (s .args .store)) (b .loop .i) = member-is (length F) (s .pre .0 .most) (now (s .args .store)) (s .args .size) (b .loop .i) (omega arith) in
+    let e : alike (memberAt S (b .loop .i)) F ≡ true = ap (λ (G : Column). alike G F) (m ∙ sym (c .before .before .member .ensures)) ∙ sym (c .before .alike .ensures) ∙ c .if2 .taken in
     let l : length S ≡ s .args .size = length-members (length F) (s .pre .0 .most) (now (s .args .store)) (s .args .size) in
     let k : b .loop .i < length S = omega arith in
     sym (sought-here S F (b .loop .i) k e (b .loop .inv .2))
@@ -73,10 +61,10 @@ loop-again c =
     let S = membersOf (length F) (now (s .args .store)) (s .args .size) in
     let l : length S ≡ s .args .size = length-members (length F) (s .pre .0 .most) (now (s .args .store)) (s .args .size) in
     let k : b .loop .i < length S = omega arith in
-    let m : memberAt S (b .loop .i) ≡ columnIn (length F) (now (s .args .store)) (b .loop .i) = member-is (length F) (s .pre .0 .most) (now (s .args .store)) (s .args .size) (b .loop .i) (omega arith) in
+    let m : memberAt S (b .loop .i) ≡ columnAt (length F) (now (s .args .store)) (b .loop .i) = member-is (length F) (s .pre .0 .most) (now (s .args .store)) (s .args .size) (b .loop .i) (omega arith) in
     let e : alike (memberAt S (b .loop .i)) F ≡ false =
     ⊎-elim
-    (λ w. ap (λ (G : Column). alike G F) (m ∙ sym (part-column (length F) (now (s .args .store)) (b .loop .i))) ∙ sym (w .2 .ensures) ∙ w .3 .left)
+    (λ w. ap (λ (G : Column). alike G F) (m ∙ sym (w .1 .ensures)) ∙ sym (w .2 .ensures) ∙ w .3 .left)
     (λ w. ap (λ (G : Column). alike G F) m ∙ unlike-counts _ F (λ q. w .left (s .pre .0 .counted (b .loop .i) (omega arith) ∙ q ∙ sym (s .pre .1))))
     (c .if1 .came) in
     (omega arith, refl, sought-on S F (b .loop .i) k e (b .loop .inv .2))
@@ -100,11 +88,7 @@ find-spec =
     μ-loop
     loop-holds
     element-copy-out-if1
-    mul-at
-    add-end
-    sub-alike
-    part-alike-start
-    part-alike-end
+    member-requires
     alike-requires
     returns
     add-i

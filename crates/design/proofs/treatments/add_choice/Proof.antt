@@ -7,7 +7,7 @@ use denote.Ref.{now}
 use lib.ListN.{length}
 use lib.Seq.{paste}
 use Rattle.rules.specs.Factor.{Column}
-use Rattle.design.specs.State.{columnIn}
+use Rattle.design.specs.State.{columnAt}
 use Rattle.design.proofs.Choosing.{choice-none, choice-some}
 use Rattle.design.proofs.treatments.add_choice.Statement.{statement}
 use Rattle.design.proofs.treatments.add_choice.Tie as tie
@@ -24,7 +24,7 @@ returns c =
     let t = p .before .before in
     let a = t .before .before .before .args in
     let n = length (now (a .column)) in
-    p .put .ensures ∙ ap (λ (F : Column). paste (now (a .infima)) (240 * a .total) F n) (sym (choice-none (a .taken) (now (a .column)) (columnIn n (now (a .infima)) (a .e)) (t .if1 .taken)))
+    p .put .ensures ∙ ap (λ (F : Column). paste (now (a .infima)) (240 * a .total) F n) (sym (choice-none (a .taken) (now (a .column)) (columnAt n (now (a .infima)) (a .e)) (t .if1 .taken)))
 
 add-infimum-requires : tie.Need-add-infimum-requires
 add-infimum-requires c κs = search needs
@@ -38,7 +38,7 @@ returns-2 c =
     let t = p .before .before in
     let a = t .before .before .before .args in
     let n = length (now (a .column)) in
-    p .add-infimum .ensures ∙ ap (λ (F : Column). paste (now (a .infima)) (240 * a .total) F n) (sym (choice-some (a .taken) (now (a .column)) (columnIn n (now (a .infima)) (a .e)) (t .if1 .left)))
+    p .add-infimum .ensures ∙ ap (λ (F : Column). paste (now (a .infima)) (240 * a .total) F n) (sym (choice-some (a .taken) (now (a .column)) (columnAt n (now (a .infima)) (a .e)) (t .if1 .left)))
 
 pub add-choice-spec : {M : Type 1} → statement M
 add-choice-spec =

@@ -9,7 +9,7 @@ use denote.Ref.{now}
 use lib.ListN.{length, take, replicate}
 use lib.Seq.{paste}
 use Rattle.rules.specs.Factor.{Column, infimum}
-use Rattle.design.specs.State.{columnIn}
+use Rattle.design.specs.State.{columnAt}
 use Rattle.design.proofs.Choosing.{length-met, take-met, long-met}
 use Rattle.design.proofs.treatments.add_infimum.Statement.{statement}
 use Rattle.design.proofs.treatments.add_infimum.Tie as tie
@@ -20,7 +20,7 @@ start w = w .before .before .before .before .before .before
 
 -- the infimum
 abbrev met : tie.After-infimum → Column
-met w = infimum (now (start w .args .column)) (columnIn (length (now (start w .args .column))) (now (start w .args .infima)) (start w .args .e))
+met w = infimum (now (start w .args .column)) (columnAt (length (now (start w .args .column))) (now (start w .args .infima)) (start w .args .e))
 
 -- the part lies in the buffer
 fits : (w : tie.After-infimum) → 240 * start w .args .e + 240 ≤ length (now (start w .args .infima))

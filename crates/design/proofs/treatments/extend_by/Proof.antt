@@ -7,7 +7,7 @@ use borrow.Author.Needs.{needs}
 use denote.Ref.{now}
 use lib.ListN.{length, take, replicate}
 use Rattle.rules.specs.Factor.{Column, number}
-use Rattle.design.specs.State.{columnIn}
+use Rattle.design.specs.State.{columnAt}
 use Rattle.design.specs.Treatments.{extended, Room, Infima}
 use Rattle.design.proofs.Start.{length-numbered, take-numbered, long-numbered}
 use Rattle.design.proofs.treatments.extend_by.Statement.{statement}
@@ -19,7 +19,7 @@ start w = w .before .before .before .before .before
 
 -- the column of the table
 abbrev column : tie.After-number-levels → Column
-column w = columnIn (start w .args .n) (now (start w .args .levels)) (start w .args .c)
+column w = columnAt (start w .args .n) (now (start w .args .levels)) (start w .args .c)
 
 -- the part of the array that is lent
 abbrev lent : tie.After-number-levels → Column

@@ -8,7 +8,7 @@ use borrow.Author.Needs.{needs}
 use denote.Ref.{now}
 use Rattle.rules.specs.Factor.{Column}
 use Rattle.rules.specs.Family.{columnsFrom, membersOf}
-use Rattle.design.specs.State.{columnIn, Begun}
+use Rattle.design.specs.State.{columnAt, Begun}
 use Rattle.design.specs.Treatments.{over, on}
 use Rattle.design.proofs.Choosing.{beside, members-late, members-before, column-member, begun-before, begun-over}
 use Rattle.design.proofs.treatments.place_all.Statement.{statement}
@@ -39,7 +39,7 @@ place-one-requires c κs =
     let e = b .loop .e in
     let less : e - 1 < s .args .total = omega arith in
     let held = b .loop .inv .1 .held in
-    (held, omega arith, omega arith, s .pre .3 (columnIn (s .args .n) (now (s .args .infima)) (e - 1)) (column-member (s .args .n) (held .most) (now (s .args .infima)) (e - 1) (s .args .total) less))
+    (held, omega arith, omega arith, s .pre .3 (columnAt (s .args .n) (now (s .args .infima)) (e - 1)) (column-member (s .args .n) (held .most) (now (s .args .infima)) (e - 1) (s .args .total) less))
 
 same-length : tie.Need-same-length Inv-loop μ-loop
 same-length c = search needs
@@ -55,7 +55,7 @@ returns c =
     let total = s .args .total in
     let S = membersOf n (now (s .args .store)) (s .args .size) in
     let less : e - 1 < total = omega arith in
-    over refl (begun-over n (columnsFrom n infima e (total - e) ++ S) (b .loop .store) (b .loop .counts) (b .loop .now) (b .loop .inv .1) (columnIn n infima (e - 1)) (q .place-one .result) (q .place-one .last .1 .1 .1 .0) (q .place-one .last .1 .1 .1 .1 .0) (q .place-one .ensures)
+    over refl (begun-over n (columnsFrom n infima e (total - e) ++ S) (b .loop .store) (b .loop .counts) (b .loop .now) (b .loop .inv .1) (columnAt n infima (e - 1)) (q .place-one .result) (q .place-one .last .1 .1 .1 .0) (q .place-one .last .1 .1 .1 .1 .0) (q .place-one .ensures)
     (c .if1 .taken) (membersOf n infima total ++ S) (beside (members-late n infima e total (b .loop .inv .0)) S) (Memᴰ·append-left S (column-member n (b .loop .inv .1 .held .most) infima (e - 1) total less)))
 
 grown-requires : tie.Need-grown-requires Inv-loop μ-loop
@@ -77,11 +77,11 @@ loop-again c =
     let less : e - 1 < total = omega arith in
     let after = q .place-one .last .1 .1 .1 .0 in
     let counts = q .place-one .last .1 .1 .1 .1 .0 in
-    let next = begun-before n (columnsFrom n infima e (total - e) ++ S) (b .loop .store) (b .loop .counts) (b .loop .now) (b .loop .inv .1) (columnIn n infima (e - 1)) (q .place-one .result) after counts (q .place-one .ensures)
-    (s .pre .3 (columnIn n infima (e - 1)) (column-member n (b .loop .inv .1 .held .most) infima (e - 1) total less)) (c .before .if1 .left) in (
+    let next = begun-before n (columnsFrom n infima e (total - e) ++ S) (b .loop .store) (b .loop .counts) (b .loop .now) (b .loop .inv .1) (columnAt n infima (e - 1)) (q .place-one .result) after counts (q .place-one .ensures)
+    (s .pre .3 (columnAt n infima (e - 1)) (column-member n (b .loop .inv .1 .held .most) infima (e - 1) total less)) (c .before .if1 .left) in (
       omega arith,
       subst (λ (As : List Column). Begun n (As ++ S) after counts (c .grown .result)) (sym (members-before n infima e total (omega arith) (b .loop .inv .0)))
-          (subst (λ (k : ℕ). Begun n (columnIn n infima (e - 1) ∷ columnsFrom n infima e (total - e) ++ S) after counts k) (sym (c .grown .ensures)) next),
+          (subst (λ (k : ℕ). Begun n (columnAt n infima (e - 1) ∷ columnsFrom n infima e (total - e) ++ S) after counts k) (sym (c .grown .ensures)) next),
     )
 
 same-length-2 : tie.Need-same-length-2 Inv-loop μ-loop

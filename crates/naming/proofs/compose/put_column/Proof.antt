@@ -1,24 +1,32 @@
 -- `put_column` meets its contract: the part lent is the name.
 -- Assumes nothing.
 use mathlib.Core.Path.{ap, _∙_}
+use mathlib.Core.List.{[]}
+use lib.ListN.{getD}
 use denote.Ref.{now}
 use Rattle.decimal.specs.Writing.{written, placeAfter}
+use Rattle.rules.specs.Sheet.{columnNames, header}
+use Rattle.sheet.proofs.NameLaws.{Part, span-name}
 use Rattle.naming.proofs.Listing.{slice-part}
 use borrow.Author.Needs.{needs}
 use Rattle.naming.proofs.compose.put_column.Statement.{statement}
 use Rattle.naming.proofs.compose.put_column.Tie as tie
 
+-- the span is the name
+part : (k : tie.After-column-name) → Part (now (k .before .before .before .args .text)) (k .column-name .result) (getD (columnNames (k .before .before .before .args .mark) (header (now (k .before .before .before .args .text)))) (k .before .before .before .args .c) [])
+part k = let a = k .before .before .before .args in rw (k .column-name .ensures) (span-name (now (a .text)) (a .mark) (a .c))
+
 column-name-requires : tie.Need-column-name-requires
 column-name-requires c κs = search needs
 
 sub-write-bytes : tie.Need-sub-write-bytes
-sub-write-bytes c = search needs
+sub-write-bytes c = part c .ordered
 
 part-write-bytes-start : tie.Need-part-write-bytes-start
-part-write-bytes-start c = search needs
+part-write-bytes-start c = part c .ordered
 
 part-write-bytes-end : tie.Need-part-write-bytes-end
-part-write-bytes-end c = search needs
+part-write-bytes-end c = part c .inside
 
 write-bytes-requires : tie.Need-write-bytes-requires
 write-bytes-requires c κs = search needs
@@ -31,9 +39,9 @@ returns c =
     let k = c .before .before .before .before .before in
     let a = k .before .before .before .args in
     let r = k .column-name .result in
-    let e = k .column-name .ensures in
+    let p = part k in
     let w = c .before .before .write-bytes .ensures in
-    let q = slice-part (r .start) (r .end) (now (a .text)) (e .0 .0) (e .0 .1) ∙ e .1 in
+    let q = slice-part (r .start) (r .end) (now (a .text)) (p .ordered) (p .inside) ∙ p .is in
     (w .0 ∙ ap (placeAfter (now (a .out)) (a .at)) q, w .1 ∙ ap (written (now (a .out)) (a .at)) q)
 
 pub put-column-spec : {M : Type 1} → statement M

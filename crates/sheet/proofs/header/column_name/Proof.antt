@@ -1,21 +1,20 @@
 -- `sheet::header::column_name` meets its contract. The loop's invariant: column c of the line is column `left` of the fields from `at` on.
 -- Assumes nothing.
 use Prim.Native.Nat.{ℕ, suc, _-_, _≤_}
-use mathlib.Core.Path.{_≡_, refl, sym, _∙_, subst}
+use mathlib.Core.Path.{_≡_, sym, ap₂, _∙_, subst}
 use mathlib.Core.Logic.{⊎-elim}
-use mathlib.Core.List.{[]}
 use native.Mathlib.Omega.{arith}
 use borrow.Author.Needs.{needs}
 use denote.Ref.{now}
-use lib.ListN.{length, getD, drop}
-use Rattle.rules.specs.Sheet.{columnNames, header}
-use Rattle.sheet.proofs.Walk.{slice-none}
-use Rattle.sheet.proofs.NameLaws.{end-inside, name-span, first-name, Counted, counted, uncounted, none-unended, none-more, names-on}
+use lib.ListN.{length, drop}
+use Rattle.rules.specs.Sheet.{header}
+use Rattle.sheet.specs.Answers.{spanFrom, columnSpan}
+use Rattle.sheet.proofs.NameLaws.{span-start, end-inside, span-first, Passed, passed-kind, passed-other, span-unended, span-none, span-on}
 use Rattle.sheet.proofs.header.column_name.Statement.{statement}
 use Rattle.sheet.proofs.header.column_name.Tie as tie
 
 abbrev Inv-loop : tie.InvT-loop
-Inv-loop text mark c at₀ left₀ at left = (at ≤ length text) × (getD (columnNames mark (header (drop at text))) left [] ≡ getD (columnNames mark (header text)) c [])
+Inv-loop text mark c at₀ left₀ at left = (at ≤ length text) × (spanFrom mark left at (header (drop at text)) ≡ columnSpan mark c text)
 
 abbrev μ-loop : tie.MeasureT-loop
 μ-loop text mark c at₀ left₀ at left = length text - at
@@ -27,7 +26,7 @@ held c =
     end-inside (now (b .before .before .args .text)) (b .loop .at) (c .end-of .result) (c .end-of .ensures) (b .loop .inv .0)
 
 -- how it is counted
-counts : (c : tie.Joined1 Inv-loop μ-loop) → Counted (now (c .before .before .before .before .before .args .text)) (c .before .before .before .loop .at) (c .before .before .end-of .result) (c .before .before .end-of .ensures) (c .before .before .before .before .before .args .mark) (c .before .before .before .loop .left) (c .if1 .left)
+counts : (c : tie.Joined1 Inv-loop μ-loop) → Passed (now (c .before .before .before .before .before .args .text)) (c .before .before .before .loop .at) (c .before .before .end-of .result) (c .before .before .end-of .ensures) (c .before .before .before .before .before .args .mark) (c .before .before .before .loop .left) (c .if1 .left)
 counts c =
     let k = c .before in
     let d = k .before in
@@ -37,15 +36,15 @@ counts c =
     ⊎-elim
     (λ w.
     let p : suc (c .if1 .left) ≡ b .loop .left = omega (arith, w .1 .left, w .2) in
-    subst (λ (m : ℕ). Counted t (b .loop .at) (d .end-of .result) (d .end-of .ensures) (a .mark) m (c .if1 .left)) p
-    (counted t (b .loop .at) (d .end-of .result) (d .end-of .ensures) (a .mark) (c .if1 .left) (sym (k .is-kind .ensures) ∙ w .0 .taken)))
+    subst (λ (m : ℕ). Passed t (b .loop .at) (d .end-of .result) (d .end-of .ensures) (a .mark) m (c .if1 .left)) p
+    (passed-kind t (b .loop .at) (d .end-of .result) (d .end-of .ensures) (a .mark) (c .if1 .left) (sym (k .is-kind .ensures) ∙ w .0 .taken)))
     (λ w.
-    subst (λ (m : ℕ). Counted t (b .loop .at) (d .end-of .result) (d .end-of .ensures) (a .mark) (b .loop .left) m) (sym (w .1))
-    (uncounted t (b .loop .at) (d .end-of .result) (d .end-of .ensures) (a .mark) (b .loop .left) (sym (k .is-kind .ensures) ∙ w .0 .left)))
+    subst (λ (m : ℕ). Passed t (b .loop .at) (d .end-of .result) (d .end-of .ensures) (a .mark) (b .loop .left) m) (sym (w .1))
+    (passed-other t (b .loop .at) (d .end-of .result) (d .end-of .ensures) (a .mark) (b .loop .left) (sym (k .is-kind .ensures) ∙ w .0 .left)))
     (c .if1 .came)
 
 loop-holds : tie.Need-loop-holds Inv-loop μ-loop
-loop-holds c = (omega arith, refl)
+loop-holds c = let a = c .before .args in (omega arith, span-start (a .mark) (a .c) (now (a .text)))
 
 end-of-requires : tie.Need-end-of-requires Inv-loop μ-loop
 end-of-requires c κs = search needs
@@ -64,10 +63,8 @@ returns c =
     let a = b .before .before .args in
     let t = now (a .text) in
     let r = c .name-in .ensures in
-    let h = held d in (
-      (omega arith, omega arith),
-      rw (r .0, r .1) (name-span t (b .loop .at) (d .end-of .result) ∙ sym (first-name t (b .loop .at) (d .end-of .result) (d .end-of .ensures) (a .mark) (sym (k .is-kind .ensures) ∙ c .before .before .if1 .taken)) ∙ (rw (c .before .if2 .taken) at (b .loop .inv .1))),
-    )
+    ap₂ (λ (s e : ℕ). record { start = s; end = e }) (r .0) (r .1)
+    ∙ sym (span-first t (b .loop .at) (d .end-of .result) (d .end-of .ensures) (a .mark) (sym (k .is-kind .ensures) ∙ c .before .before .if1 .taken)) ∙ (rw (c .before .if2 .taken) at (b .loop .inv .1))
 
 sub-left : tie.Need-sub-left Inv-loop μ-loop
 sub-left c = omega arith
@@ -78,10 +75,8 @@ returns-2 c =
     let d = j .before .before in
     let b = d .before in
     let a = b .before .before .args in
-    let t = now (a .text) in (
-      (omega arith, omega arith),
-      slice-none t 0 0 (omega arith) ∙ sym (none-unended t (b .loop .at) (d .end-of .result) (d .end-of .ensures) (a .mark) (b .loop .left) (j .if1 .left) (counts j) (c .if3 .taken)) ∙ b .loop .inv .1,
-    )
+    let t = now (a .text) in
+    sym (span-unended t (b .loop .at) (d .end-of .result) (d .end-of .ensures) (a .mark) (b .loop .left) (j .if1 .left) (counts j) (c .if3 .taken)) ∙ b .loop .inv .1
 
 shared-slice-read-if4 : tie.Need-shared-slice-read-if4 Inv-loop μ-loop
 shared-slice-read-if4 c = omega arith
@@ -92,10 +87,8 @@ returns-3 c =
     let d = j .before .before in
     let b = d .before in
     let a = b .before .before .args in
-    let t = now (a .text) in (
-      (omega arith, omega arith),
-      slice-none t 0 0 (omega arith) ∙ sym (none-more t (b .loop .at) (d .end-of .result) (d .end-of .ensures) (a .mark) (b .loop .left) (j .if1 .left) (counts j) (omega arith) (c .if4 .taken)) ∙ b .loop .inv .1,
-    )
+    let t = now (a .text) in
+    sym (span-none t (b .loop .at) (d .end-of .result) (d .end-of .ensures) (a .mark) (b .loop .left) (j .if1 .left) (counts j) (omega arith) (c .if4 .taken)) ∙ b .loop .inv .1
 
 add-at : tie.Need-add-at Inv-loop μ-loop
 add-at c = omega arith
@@ -111,7 +104,7 @@ loop-again c =
     let a = b .before .before .args in
     let t = now (a .text) in (
       omega arith,
-      sym (names-on t (b .loop .at) (d .end-of .result) (d .end-of .ensures) (a .mark) (b .loop .left) (j .if1 .left) (counts j) (omega arith) (c .if4 .left)) ∙ b .loop .inv .1,
+      sym (span-on t (b .loop .at) (d .end-of .result) (d .end-of .ensures) (a .mark) (b .loop .left) (j .if1 .left) (counts j) (omega arith) (c .if4 .left)) ∙ b .loop .inv .1,
     )
 
 pub column-name-spec : {M : Type 1} → statement M
@@ -126,9 +119,9 @@ column-name-spec =
     name-in-requires
     returns
     sub-left
-    returns-2
     shared-slice-read-if4
-    returns-3
     add-at
     loop-less
-    loop-again)
+    loop-again
+    returns-2
+    returns-3)

@@ -11,7 +11,7 @@ use lib.ListN.{length, getD, take, replicate, length-set}
 use lib.Seq.{take-length}
 use Rattle.rules.specs.Factor.{Column, at, classes}
 use Rattle.rules.proofs.Columns.{Tells, tells-none}
-use Rattle.standing.specs.Joining.{Numbered, spread}
+use Rattle.standing.specs.Joining.{LabelsNumbered, spread}
 use Rattle.standing.proofs.Joining.{length-spread, spread-at, numbered-step}
 use Rattle.factor.proofs.Table.{Stepped, stepped-old, table-new, getD-zeros, classes-none}
 use Rattle.standing.proofs.join.number_labels.Statement.{statement}
@@ -19,7 +19,7 @@ use Rattle.standing.proofs.join.number_labels.Tie as tie
 
 abbrev Inv-loop : tie.InvT-loop
 Inv-loop table x numbers₀ found₀ k₀ i₀ i-end numbers found k i =
-    (i ≤ length x) × (i-end ≡ length x) × (k ≤ i) × (length found ≡ 256) × (k ≡ classes (take i (spread table x))) × Tells (spread table x) i (λ y. getD found y 0) × (length numbers ≡ 256) × Numbered table x i numbers
+    (i ≤ length x) × (i-end ≡ length x) × (k ≤ i) × (length found ≡ 256) × (k ≡ classes (take i (spread table x))) × Tells (spread table x) i (λ y. getD found y 0) × (length numbers ≡ 256) × LabelsNumbered table x i numbers
 
 abbrev μ-loop : tie.MeasureT-loop
 μ-loop table x numbers₀ found₀ k₀ i₀ i-end numbers found k i = length x - i

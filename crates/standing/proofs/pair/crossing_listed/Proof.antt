@@ -10,7 +10,7 @@ use Rattle.rules.specs.Factor.{Column, Equivalent, supremum}
 use Rattle.factor.specs.Lent.{overlay}
 use Rattle.factor.specs.Sizes.{labelled}
 use Rattle.standing.specs.Joining.{spread}
-use Rattle.standing.specs.Cells.{Inside, Listed, LabelSizes, cellSize, sumAt}
+use Rattle.standing.specs.Cells.{CellsInside, Listed, LabelSizes, cellSize, sumAt}
 use Rattle.factor.proofs.SizeTable.{labelled-le}
 use Rattle.standing.proofs.Joining.{one-entry, joins-supremum, number-spread, classes-spread}
 use Rattle.standing.proofs.Listing.{listed-below, listed-inside, stands-among}
@@ -58,7 +58,7 @@ module _ (c : tie.After-join-labels) where
   joined : Equivalent (length F) (spread table F) (supremum F G)
   joined = joins-supremum F G (start .pre .1) X Y table (listed .stands) (c .join-labels .ensures .1 .1)
 
-  inside : Inside w (length cells) X Y
+  inside : CellsInside w (length cells) X Y
   inside = listed-inside F G X Y (listed .stands) w (length cells) (start .pre .7)
 
   by-first : (z : ℕ) → sumAt (cellSize w cells X Y) X (length X) z ≡ labelled (length F) F z

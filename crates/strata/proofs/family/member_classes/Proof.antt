@@ -1,52 +1,29 @@
 -- `member_classes` meets its contract: the part lent is the member.
 -- Assumes nothing.
-use mathlib.Core.Path.{sym, ap, _∙_}
+use mathlib.Core.Path.{ap, _∙_}
 use denote.Ref.{now}
 use borrow.Author.Needs.{needs}
-use Rattle.rules.specs.Factor.{number, classes}
-use Rattle.families.proofs.Lent.{part-of}
+use Rattle.factor.specs.Labels.{largest}
+use Rattle.factor.specs.Lent.{columnAt}
+use Rattle.factor.proofs.LargestLabel.{largest-classes}
 use Rattle.strata.proofs.family.member_classes.Statement.{statement}
 use Rattle.strata.proofs.family.member_classes.Tie as tie
 
-mul-a : tie.Need-mul-a
-mul-a c = search needs
-
-add-e : tie.Need-add-e
-add-e c = search needs
-
-sub-largest : tie.Need-sub-largest
-sub-largest c = search needs
-
-part-largest-start : tie.Need-part-largest-start
-part-largest-start c = search needs
-
-part-largest-end : tie.Need-part-largest-end
-part-largest-end c = search needs
+member-requires : tie.Need-member-requires
+member-requires c κs = search needs
 
 largest-requires : tie.Need-largest-requires
-largest-requires c κs =
-    let s = c .before .before in
-    let a = s .args in
-    let part = part-of (a .n) (a .i) (now (a .family)) in
-    ap number part ∙ s .pre .3 ∙ sym part
+largest-requires c κs = search needs
 
 cast-result : tie.Need-cast-result
 cast-result c = search needs
 
 returns : tie.Need-returns
 returns c =
-    let a = c .before .before .before .args in
-    c .largest .ensures ∙ ap classes (part-of (a .n) (a .i) (now (a .family)))
+    let m = c .before in
+    let s = m .before .before in
+    let a = s .args in
+    c .largest .ensures ∙ ap largest (m .member .ensures) ∙ largest-classes (columnAt (a .n) (now (a .family)) (a .i)) (s .pre .3)
 
 pub member-classes-spec : {M : Type 1} → statement M
-member-classes-spec =
-    tie.close
-    (tie.spec
-    mul-a
-    add-e
-    sub-largest
-    part-largest-start
-    part-largest-end
-    largest-requires
-    cast-result
-    returns)
+member-classes-spec = tie.close (tie.spec member-requires largest-requires cast-result returns)

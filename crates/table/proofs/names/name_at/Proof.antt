@@ -6,7 +6,8 @@ use Prim.Native.Nat.{ℕ, _-_, _≤_}
 use native.Mathlib.Omega.{arith}
 use denote.Ref.{now}
 use lib.ListN.{length}
-use Rattle.naming.specs.Answers.{kindOf, startingWith}
+use Rattle.rules.specs.Naming.{NameAnswer, nameBuffer}
+use Rattle.naming.specs.Answers.{kindOf, NameNumbers, nameNumbersOf}
 use Rattle.naming.proofs.Entry.{few-columns}
 use Rattle.table.proofs.NameTable.{name-placed, name-none, length-none}
 use borrow.Author.Needs.{needs}
@@ -49,18 +50,22 @@ part-name-counted-end c = search needs
 name-counted-requires : tie.Need-name-counted-requires
 name-counted-requires c κs = search needs
 
+length-of-requires : tie.Need-length-of-requires
+length-of-requires c κs = search needs
+
 same-length-2 : tie.Need-same-length-2
 same-length-2 c = search needs
 
 returns-2 : tie.Need-returns-2
+unfolding nameNumbersOf
 returns-2 c =
-    let s = c .before .before .before .before .before .before .before .before .before .before in
+    let s = c .before .before .before .before .before .before .before .before .before .before .before in
     let a = s .args in
     let l : 1 ≤ a .place = omega arith in
     let few = few-columns (a .kind) (now (a .text)) (s .pre .0 .form) in
     let same = name-placed (kindOf (a .kind)) (now (a .text)) (now (a .levels)) (now (a .family)) (a .plots) (a .count) (a .place) (length (now (a .name))) (s .pre .0) (s .pre .3) (omega (arith, s .pre .3)) l (s .pre .1) (s .pre .2) in
-    let r = c .before .before .name-counted .ensures in
-    (r .0 ∙ ap length same, r .1 ∙ ap (λ (W : List ℕ). startingWith W (now (a .name))) same)
+    let r = c .before .before .before .name-counted .ensures in
+    (c .length-of .ensures ∙ ap (λ (x : NameNumbers). x .size) (r .0) ∙ ap (λ (x : NameAnswer). length (x .name)) same, r .1 ∙ ap (nameBuffer (now (a .name))) same)
 
 pub name-at-spec : {M : Type 1} → statement M
 name-at-spec =
@@ -76,5 +81,6 @@ name-at-spec =
     part-name-counted-start
     part-name-counted-end
     name-counted-requires
+    length-of-requires
     same-length-2
     returns-2)

@@ -1,0 +1,109 @@
+//! The entries that are timed. Each takes a sheet that was read and designed, and gives a call that owns all that it reads and writes.
+//! A new entry is a function here and its line in the list.
+
+use crate::sheets::Sheet;
+use reference::{Entries, Level, FAMILY, FAST, INTERACTIONS, LEVELS, NAME, TABLE};
+use std::fmt::Debug;
+
+/// A call that can be made again and again, of either implementation; its answer and its memory are handed to `keep`.
+pub type Call = Box<dyn FnMut(&Entries, Keep)>;
+pub type Keep<'a> = &'a mut dyn FnMut(&dyn Debug);
+
+/// An entry by its name.
+pub struct Entry {
+    pub title: &'static str,
+    pub call: fn(&Trial) -> Call,
+}
+
+/// All entries; the first is timed always, the others where each entry is asked for by itself.
+pub static ALL: &[Entry] = &[
+    Entry { title: "skeleton", call: skeleton },
+    Entry { title: "read_sheet", call: read_sheet },
+    Entry { title: "plot_design", call: plot_design },
+    Entry { title: "full_design", call: full_design },
+    Entry { title: "relation", call: relation },
+    Entry { title: "degrees", call: degrees },
+    Entry { title: "strata", call: strata },
+    Entry { title: "name", call: name },
+];
+
+/// A sheet's text, its level table and its families.
+#[derive(Clone)]
+pub struct Trial {
+    pub text: Vec<u8>,
+    pub plots: usize,
+    levels: Vec<Level>,
+    columns: [usize; 2],
+    families: [Vec<u8>; 2],
+    sizes: [usize; 2],
+}
+
+impl Trial {
+    pub fn new(sheet: &Sheet) -> Trial {
+        let (text, mut levels) = (sheet.text.clone(), vec![0; LEVELS]);
+        let (_, counts) = (FAST.read_sheet)(&text, &mut levels);
+        let [plots, p, t] = counts.map(|count| count as usize);
+        let (mut first, mut second) = (vec![0; FAMILY], vec![0; FAMILY]);
+        let (_, [_, _, sizes @ ..]) = (FAST.full_design)(&levels, plots, p, t, INTERACTIONS, &mut first, &mut second);
+        Trial { text, plots, levels, columns: [p, t], families: [first, second], sizes: sizes.map(|size| size as usize) }
+    }
+
+    /// The sizes of both families, or the number of the refusal.
+    pub fn members(&self) -> String {
+        let mut out = vec![0; TABLE];
+        let (_, length) = (FAST.skeleton)(&self.text, &mut out);
+        let printed = String::from_utf8_lossy(&out[..length as usize]);
+        match printed.strip_prefix("refused\t").and_then(|rest| rest.split('\t').next()) {
+            Some(number) => format!("refused {number}"),
+            None => format!("{} + {}", self.sizes[0], self.sizes[1]),
+        }
+    }
+}
+
+fn skeleton(trial: &Trial) -> Call {
+    let (text, mut out) = (trial.text.clone(), vec![0; TABLE]);
+    Box::new(move |entries, keep| keep(&((entries.skeleton)(&text, &mut out), &text, &out)))
+}
+
+fn read_sheet(trial: &Trial) -> Call {
+    let (text, mut levels) = (trial.text.clone(), vec![0; LEVELS]);
+    Box::new(move |entries, keep| keep(&((entries.read_sheet)(&text, &mut levels), &text, &levels)))
+}
+
+fn plot_design(trial: &Trial) -> Call {
+    let (Trial { levels, plots, columns: [p, _], .. }, mut family) = (trial.clone(), vec![0; FAMILY]);
+    Box::new(move |entries, keep| keep(&((entries.plot_design)(&levels, plots, p, &mut family), &levels, &family)))
+}
+
+fn full_design(trial: &Trial) -> Call {
+    let Trial { levels, plots, columns: [p, t], .. } = trial.clone();
+    let (mut first, mut second) = (vec![0; FAMILY], vec![0; FAMILY]);
+    Box::new(move |entries, keep| {
+        let answer = (entries.full_design)(&levels, plots, p, t, INTERACTIONS, &mut first, &mut second);
+        keep(&(answer, &levels, &first, &second));
+    })
+}
+
+fn relation(trial: &Trial) -> Call {
+    let Trial { plots, families: [family, _], sizes: [size, _], .. } = trial.clone();
+    Box::new(move |entries, keep| keep(&((entries.relation)(&family, plots, size), &family)))
+}
+
+fn degrees(trial: &Trial) -> Call {
+    let Trial { plots, families: [family, _], sizes: [size, _], .. } = trial.clone();
+    Box::new(move |entries, keep| keep(&((entries.degrees)(&family, plots, size), &family)))
+}
+
+fn strata(trial: &Trial) -> Call {
+    let Trial { plots, families: [first, second], sizes: [a, b], .. } = trial.clone();
+    Box::new(move |entries, keep| keep(&((entries.strata)(&first, a, &second, b, plots), &first, &second)))
+}
+
+fn name(trial: &Trial) -> Call {
+    let Trial { text, levels, plots, families: [family, _], sizes: [size, _], .. } = trial.clone();
+    let mut name = vec![0; NAME];
+    Box::new(move |entries, keep| {
+        let answer = (entries.name)(&text, &levels, &family, plots, size, 0, size.div_ceil(2), &mut name);
+        keep(&(answer, &text, &levels, &family, &name));
+    })
+}

@@ -1,0 +1,202 @@
+"""The command `rachdoum`."""
+from __future__ import annotations
+
+import argparse
+import os
+import sys
+from typing import Any, Dict, List, Optional
+
+from . import __version__, library
+from .nesting import Pair
+from .notes import Note, notes_on
+from .planning import Plan, plan_of, prepare
+from .refusals import Refusal
+from .sheets import read_file
+from .show import aligned, as_dictionary, note_as_dictionary, refusal_as_dictionary
+from .tables import Table, WrongCall, row_of, sheet
+
+TABLE_GIVEN, REFUSED, WRONG_CALL, INTERRUPTED = 0, 1, 2, 130
+
+DESCRIPTION = """\
+Prints the skeleton analysis-of-variance table of a planned trial: in which stratum each comparison is tested,
+and against how many degrees of freedom. Or it says what is wrong with the plan, where, and what would be right.
+"""
+
+EXAMPLES = """\
+A file has one line for each plot below a line that names the columns. p: marks how the plots lie (hut, pier, week),
+t: marks what is done to them (gain, cable). Levels may be numbers or texts. CSV with commas or semicolons and text with
+tabs are told apart by themselves.
+
+examples:
+  rachdoum plan trial.csv
+  rachdoum plan trial.csv --plots Hut,Pier --treatments Gain
+  rachdoum plan trial.csv --nested Pier/Hut         the piers are numbered anew in each hut
+  rachdoum plan trial.csv --crossed Row,Column      the rows are the same in every column: no note about it
+  rachdoum plan trial.csv --tsv > trial.table       for programs: the table separated by tabs
+  rachdoum plan --json one.csv two.csv
+  cat trial.csv | rachdoum plan -
+
+In the table, U is the mean of all plots, E is every plot by itself, I(Gain,Cable) the combinations of two columns and
+#2 the second member of its family, one that no column and no combination gives.
+
+exit status: 0 for a table, 1 for a refusal, 2 for a wrong call.
+"""
+
+
+def parser() -> argparse.ArgumentParser:
+    """The command's arguments."""
+    form = argparse.RawDescriptionHelpFormatter
+    top = argparse.ArgumentParser("rachdoum", description=DESCRIPTION, epilog=EXAMPLES, formatter_class=form)
+    top.add_argument("--version", action="version", version=f"%(prog)s {__version__}")
+    commands = top.add_subparsers(dest="command", metavar="COMMAND", required=True)
+    plan = commands.add_parser(
+        "plan", help="print the table of each file", description=DESCRIPTION, epilog=EXAMPLES, formatter_class=form
+    )
+    plan.add_argument("files", nargs="+", metavar="FILE", help="a table of plots; - for standard input")
+    plan.add_argument("--plots", action="append", metavar="NAMES", help="the plot columns, with commas between")
+    plan.add_argument("--treatments", action="append", metavar="NAMES", help="the treatments, with commas between")
+    plan.add_argument(
+        "--nested", action="append", default=[], metavar="CHILD/PARENT",
+        help="the child's numbers start again in each parent; may be repeated",
+    )
+    plan.add_argument(
+        "--crossed", action="append", default=[], metavar="ONE,OTHER", help="the two do cross: no note about them"
+    )
+    plan.add_argument(
+        "--k", type=int, default=library.INTERACTIONS, choices=range(1, library.INTERACTIONS + 1),
+        help="combine at most so many treatments (default: %(default)s)",
+    )
+    form_of_table = plan.add_mutually_exclusive_group()
+    form_of_table.add_argument("--tsv", action="store_true", help="the table separated by tabs, for programs")
+    form_of_table.add_argument("--json", action="store_true", help="everything as JSON, for programs")
+    plan.add_argument("--quiet", action="store_true", help="no notes")
+    return top
+
+
+def _names(parts: Optional[List[str]]) -> Optional[str]:
+    return ",".join(parts) if parts else None
+
+
+def _crossed(parts: List[str], table: Table) -> List[Pair]:
+    pairs = []
+    for part in parts:
+        names = [name.strip() for name in part.split(",")]
+        if len(names) != 2:
+            raise WrongCall(f"--crossed takes two columns, such as Pier,Hut, and not {part!r}")
+        pairs.append((table.column(names[0]).name, table.column(names[1]).name))
+    return pairs
+
+
+class Output:
+    """Where tables and messages go. A character that a stream cannot show is escaped."""
+
+    def __init__(self) -> None:
+        self.documents: List[Dict[str, Any]] = []
+        for stream in (sys.stdout, sys.stderr):
+            if hasattr(stream, "reconfigure"):
+                stream.reconfigure(errors="backslashreplace")
+
+    def table(self, text: str) -> None:
+        """Prints a table, or a part of one."""
+        print(text, end="", flush=True)
+
+    def message(self, text: str) -> None:
+        """Prints a message, without characters that a terminal would obey."""
+        plain = "".join(c if c.isprintable() or c == "\n" else "?" for c in text)
+        print(plain, file=sys.stderr)
+
+
+def _plan_table(given: Table, options: argparse.Namespace, output: Output) -> int:
+    """Plans one table and answers the exit status."""
+    table = prepare(given, _names(options.plots), _names(options.treatments), options.nested)
+    crossed = _crossed(options.crossed, table) if table.columns else []
+    if table.unused and not options.quiet:
+        output.message(f"{table.source}: not used: {row_of(table.unused)}")
+    try:
+        plan = plan_of(table, options.k, strict=options.tsv)
+    except Refusal as refusal:
+        _print_refusal(table, refusal, options, output)
+        return REFUSED
+    notes = [] if options.quiet else notes_on(plan, crossed)
+    _print_plan(plan, notes, options, output)
+    for note in notes:
+        _print_note(note, f"{table.source}: " if len(options.files) > 1 else "", output)
+    return TABLE_GIVEN
+
+
+def _print_plan(plan: Plan, notes: List[Note], options: argparse.Namespace, output: Output) -> None:
+    if options.json:
+        document: Dict[str, Any] = {"file": plan.table.source, **as_dictionary(plan)}
+        document["notes"] = [note_as_dictionary(note) for note in notes]
+        output.documents.append(document)
+    elif options.tsv:
+        output.table(_printed(plan.table) if options.k == library.INTERACTIONS else plan.tsv())
+    else:
+        output.table((f"{plan.table.source}:\n" if len(options.files) > 1 else "") + aligned(plan))
+
+
+def _printed(table: Table) -> str:
+    """What the rules print for a table."""
+    return library.skeleton(sheet(table, strict=True).text)[1].decode("ascii")
+
+
+def _print_refusal(table: Table, refusal: Refusal, options: argparse.Namespace, output: Output) -> None:
+    if options.tsv and options.k == library.INTERACTIONS:
+        output.table(_printed(table))
+    elif options.tsv:
+        names = (list(refusal.names) + ["-", "-"])[:2]
+        output.table(f"refused\t{refusal.number}\t{names[0]}\t{names[1]}\n")
+    elif options.json:
+        output.documents.append({"file": table.source, "refused": refusal_as_dictionary(refusal)})
+    output.message(f"rachdoum: {table.source}: refused ({refusal.number}): {refusal.what}")
+    output.message(f"  Remedy: {refusal.remedy[:1].upper()}{refusal.remedy[1:]}")
+
+
+def _print_note(note: Note, heading: str, output: Output) -> None:
+    output.message(f"{heading}note: {note.text} (--crossed {note.child},{note.parent} leaves this note out.)")
+    if note.other is not None:
+        output.message(f"  With {note.option} the table is:")
+        output.message("".join(f"    {line}\n" for line in aligned(note.other).splitlines()).rstrip("\n"))
+
+
+def _run(options: argparse.Namespace, output: Output) -> int:
+    status = TABLE_GIVEN
+    for path in options.files:
+        try:
+            table = read_file(path)
+        except OSError as error:
+            output.message(f"rachdoum: {path}: {error.strerror or error}")
+            status = WRONG_CALL
+            continue
+        try:
+            status = max(status, _plan_table(table, options, output))
+        except (WrongCall, library.LibraryMissing) as error:
+            output.message(f"rachdoum: {error}")
+            return WRONG_CALL
+    if options.json and output.documents:
+        import json
+
+        whole = output.documents[0] if len(options.files) == 1 else output.documents
+        output.table(json.dumps(whole, indent=2) + "\n")
+    return status
+
+
+def main(arguments: Optional[List[str]] = None) -> int:
+    """Runs the command and answers its exit status."""
+    options = parser().parse_args(arguments)
+    try:
+        return _run(options, Output())
+    except BrokenPipeError:
+        _leave_output()
+        return TABLE_GIVEN
+    except OSError as error:
+        _leave_output()
+        print(f"rachdoum: the table cannot be written: {error.strerror or error}", file=sys.stderr)
+        return WRONG_CALL
+    except KeyboardInterrupt:
+        return INTERRUPTED
+
+
+def _leave_output() -> None:
+    """Python flushes standard output once more at its end: what is left goes nowhere."""
+    os.dup2(os.open(os.devnull, os.O_WRONLY), sys.stdout.fileno())

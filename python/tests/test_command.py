@@ -1,0 +1,380 @@
+"""The command: every example, its options, its exit statuses, and what it prints where."""
+import contextlib
+import glob
+import io
+import json
+import os
+import resource
+import subprocess
+import sys
+import tempfile
+import unittest
+
+from rachdoum import library
+from support import EXAMPLES, ROOT, run
+
+LATIN = b"Hut,Pier,Gain\n1,1,1\n1,2,2\n1,3,3\n2,1,2\n2,2,3\n2,3,1\n3,1,3\n3,2,1\n3,3,2\n"
+KINDS = ["--plots", "Hut,Pier", "--treatments", "Gain"]
+CROSSED_TABLE = b"""\
+stratum  source    df  tested against
+U        U          1  the mean, not tested
+         total      1
+Hut      total      2
+Pier     total      2
+E        Gain       2  2 df of E
+         residual   2
+         total      4
+all      total      9
+"""
+NESTED_TABLE = b"""\
+stratum  source    df  tested against
+U        U          1  the mean, not tested
+         total      1
+Hut      total      2
+E        Gain       2  4 df of E
+         residual   4
+         total      6
+all      total      9
+"""
+NOTE = (
+    "note: Pier 1 is taken as one pier that all 3 huts share. If these are different piers, number them consecutively or add "
+    "--nested Pier/Hut. (--crossed Pier,Hut leaves this note out.)\n  With --nested Pier/Hut the table is:\n"
+    + "".join(f"    {line}\n" for line in NESTED_TABLE.decode().splitlines())
+)
+
+
+def bytes_of(path):
+    with open(path, "rb") as file:
+        return file.read()
+
+
+def program(*arguments, data=b"", **environment):
+    """The command as a process of its own."""
+    return subprocess.run(
+        [sys.executable, "-m", "rachdoum", *arguments], input=data, stdout=subprocess.PIPE, stderr=subprocess.PIPE,
+        env={**os.environ, **environment}, timeout=60,
+    )
+
+
+class Examples(unittest.TestCase):
+    def test_the_rules_table_of_each_example(self):
+        sheets = sorted(glob.glob(os.path.join(EXAMPLES, "*.sheet")))
+        self.assertGreaterEqual(len(sheets), 19)
+        for path in sheets:
+            with self.subTest(os.path.basename(path)):
+                expected = bytes_of(path[: -len("sheet")] + "table")
+                status, out, err = run("plan", "--tsv", path)
+                self.assertEqual((status, out), (int(expected.startswith(b"refused")), expected))
+                self.assertEqual(f"{path}: refused" in err, status == 1)
+
+    def test_as_a_process(self):
+        done = program("plan", os.path.join(EXAMPLES, "huts.sheet"))
+        expected = b"""\
+stratum  source          df  tested against
+U        U                1  the mean, not tested
+         total            1
+Hut      Filter           1  2 df of Hut
+         residual         2
+         total            3
+E        Gain             2  4 df of E
+         I(Filter,Gain)   2  4 df of E
+         residual         4
+         total            8
+all      total           12
+"""
+        self.assertEqual((done.returncode, done.stdout, done.stderr), (0, expected, b""))
+        self.assertEqual(program("plan", os.path.join(EXAMPLES, "refused-13.sheet")).returncode, 1)
+        self.assertEqual(program("plan", "/nowhere").returncode, 2)
+
+    def test_a_missing_library_is_one_line(self):
+        done = program("plan", os.path.join(EXAMPLES, "huts.sheet"), RACHDOUM_LIBRARY="/nowhere.so")
+        expected = b"rachdoum: RACHDOUM_LIBRARY names /nowhere.so, and there is no such file\n"
+        self.assertEqual((done.returncode, done.stdout, done.stderr), (2, b"", expected))
+
+    def test_a_reader_that_leaves(self):
+        for _ in range(3):
+            writer = subprocess.Popen(
+                [sys.executable, "-m", "rachdoum", "plan", "--json", os.path.join(EXAMPLES, "example-4-extension.sheet")],
+                stdout=subprocess.PIPE, stderr=subprocess.PIPE,
+            )
+            writer.stdout.close()
+            self.assertEqual(writer.stderr.read().count(b"Traceback"), 0)
+            writer.stderr.close()
+            writer.wait()
+
+    def test_streams_that_are_closed_or_full(self):
+        command = f"{sys.executable} -m rachdoum plan "
+        huts = os.path.join(EXAMPLES, "huts.sheet")
+        for arguments, status, message in (
+            (f"{huts} > /dev/full", 2, "rachdoum: the table cannot be written: No space left on device\n"),
+            (f"{huts} --json > /dev/full", 2, "rachdoum: the table cannot be written: No space left on device\n"),
+            (f"{huts} >&-", 0, ""),
+            ("- <&-", 2, "rachdoum: -: there is no standard input\n"),
+        ):
+            with self.subTest(arguments):
+                done = subprocess.run(command + arguments, shell=True, stderr=subprocess.PIPE, timeout=60)
+                self.assertEqual((done.returncode, done.stderr.decode()), (status, message))
+
+    def test_names_in_a_plain_locale(self):
+        data = "p:Hütte,t:Verstärkung\n1,1\n1,2\n2,1\n2,2\n".encode("utf-8")
+        done = program("plan", "-", data=data, LC_ALL="C", PYTHONUTF8="0", PYTHONIOENCODING="ascii")
+        self.assertEqual((done.returncode, done.stderr), (0, b""))
+        self.assertIn(b"Verst\\xe4rkung", done.stdout)
+
+
+class Tests(unittest.TestCase):
+    """What a source is tested against."""
+
+    def test_a_treatment_that_uses_up_its_stratum(self):
+        data = b"p:Hut,t:Filter,t:Gain\n1,a,1\n1,a,2\n2,b,1\n2,b,2\n"
+        status, out, err = run("plan", "-", data=data)
+        self.assertEqual((status, err), (0, ""))
+        self.assertEqual(out.decode().splitlines()[3:], [
+            "Hut      Filter   1  cannot be tested: Hut has no residual",
+            "         total    1",
+            "E        Gain     1  cannot be tested: E has no residual",
+            "         E        1  cannot be tested: E has no residual",
+            "         total    2",
+            "all      total    4",
+        ])
+
+    def test_a_treatment_without_degrees_of_freedom(self):
+        data = b"t:Aa,t:Bb,t:Cc\n1,1,1\n1,2,2\n2,1,2\n2,2,1\n1,1,1\n1,2,2\n2,1,2\n2,2,1\n"
+        lines = run("plan", "-", data=data)[1].decode().splitlines()
+        self.assertIn("         I(Aa,Bb,Cc)   0  cannot be tested: it has no degrees of freedom of its own", lines)
+
+    def test_fewer_combinations(self):
+        data = bytes_of(os.path.join(EXAMPLES, "huts.sheet"))
+        expected = b"stratum\tsource\tdf\nU\tU\t1\nU\t=total\t1\nHut\tFilter\t1\nHut\t=residual\t2\nHut\t=total\t3\n"
+        expected += b"E\tGain\t2\nE\t=residual\t6\nE\t=total\t8\n=all\t=total\t12\n"
+        self.assertEqual(run("plan", "-", "--tsv", "--k", "1", data=data), (0, expected, ""))
+
+    def test_a_refusal_with_fewer_combinations(self):
+        data = bytes_of(os.path.join(EXAMPLES, "refused-13.sheet"))
+        self.assertEqual(run("plan", "-", "--tsv", "--k", "1", data=data)[:2], (1, b"refused\t13\tHut\tGain\n"))
+
+    def test_names_as_the_user_has_them(self):
+        data = "p:A;t:Gain setting;t:Größe\n1;1;1\n1;2;1\n2;1;2\n2;2;2\n3;1;1\n3;2;1\n4;1;2\n4;2;2\n".encode()
+        status, out, err = run("plan", "-", data=data)
+        self.assertEqual((status, err), (0, ""))
+        self.assertEqual(out.decode().splitlines()[3:], [
+            "A        Größe                   1  2 df of A",
+            "         residual                2",
+            "         total                   3",
+            "E        Gain setting            1  2 df of E",
+            "         I(Gain setting,Größe)   1  2 df of E",
+            "         residual                2",
+            "         total                   4",
+            "all      total                   8",
+        ])
+
+
+class Json(unittest.TestCase):
+    def test_a_table(self):
+        status, out, err = run("plan", "--json", os.path.join(EXAMPLES, "huts.sheet"))
+        document = json.loads(out)
+        self.assertEqual((status, err, document["plots"], document["k"], document["notes"]), (0, "", 12, 6, []))
+        self.assertEqual(document["strata"][1], {
+            "name": "Hut", "df": 3, "residual": 2,
+            "sources": [{"name": "Filter", "df": 1, "testable": True, "against": 2, "test": "2 df of Hut"}],
+        })
+        self.assertEqual(document["treatment_family"][3], {
+            "name": "I(Filter,Gain)", "classes": 6, "df": 2, "coarser": ["U", "Filter", "Gain"], "above": ["Filter", "Gain"],
+        })
+
+    def test_a_refusal(self):
+        path = os.path.join(EXAMPLES, "refused-13.sheet")
+        status, out, err = run("plan", "--json", path)
+        document = json.loads(out)
+        self.assertEqual((status, document["file"]), (1, path))
+        refused = document["refused"]
+        self.assertEqual((refused["number"], refused["places"], refused["names"]), (13, [2, 2], ["Hut", "Gain"]))
+        self.assertIn(refused["what"], err)
+
+    def test_where_a_text_is_refused(self):
+        refused = json.loads(run("plan", "--json", os.path.join(EXAMPLES, "refused-04.sheet"))[1])["refused"]
+        self.assertEqual((refused["line"], refused["column"]), (3, "Cable"))
+
+    def test_several_files(self):
+        paths = [os.path.join(EXAMPLES, name) for name in ("sample.sheet", "refused-09.sheet")]
+        status, out, err = run("plan", "--json", *paths)
+        self.assertEqual((status, [document["file"] for document in json.loads(out)]), (1, paths))
+
+
+class Notes(unittest.TestCase):
+    def test_numbers_that_start_again(self):
+        self.assertEqual(run("plan", "-", *KINDS, data=LATIN), (0, CROSSED_TABLE, NOTE))
+
+    def test_the_other_reading(self):
+        self.assertEqual(run("plan", "-", *KINDS, "--nested", "Pier/Hut", data=LATIN), (0, NESTED_TABLE, ""))
+
+    def test_no_note(self):
+        for option in (["--quiet"], ["--crossed", "Pier,Hut"], ["--crossed", "Hut, Pier"]):
+            self.assertEqual(run("plan", "-", *KINDS, *option, data=LATIN), (0, CROSSED_TABLE, ""))
+
+    def test_consecutive_numbers(self):
+        data = b"p:Hut,p:Pier,t:Gain\n" + b"".join(b"%d,%d,%d\n" % (i // 3, i + 1, i % 3 + 1) for i in range(3, 12))
+        self.assertEqual(run("plan", "-", data=data), (0, NESTED_TABLE, ""))
+
+    def test_the_slower_column_is_the_parent(self):
+        data = b"p:Pier,p:Hut\n" + b"".join(b"%d,%d\n" % (pier, hut) for hut in (1, 2, 3) for pier in (1, 2, 3))
+        self.assertIn("note: Pier 1 is taken as one pier that all 3 huts share.", run("plan", "-", data=data)[2])
+
+    def test_combinations_with_a_column_of_their_own(self):
+        err = run("plan", os.path.join(EXAMPLES, "example-4.sheet"))[2]
+        self.assertEqual([line.split(".")[0] for line in err.splitlines() if line.startswith("note")], [
+            "note: Subcolumn 1 is taken as one subcolumn that all 5 rows share",
+        ])
+
+    def test_only_the_innermost_parent(self):
+        rows = [(hut, 2 * hut + pier, sensor) for hut in (1, 2) for pier in (1, 2) for sensor in (1, 2)]
+        data = b"p:Hut,p:Pier,p:Sensor\n" + b"".join(b"%d,%d,%d\n" % row for row in rows)
+        err = run("plan", "-", data=data)[2]
+        self.assertEqual(err.count("note:"), 1)
+        self.assertIn("add --nested Sensor/Pier.", err)
+
+    def test_once_for_each_pair_and_no_more_than_three_tables(self):
+        for columns, notes, tables in ((2, 1, 1), (3, 3, 3), (4, 6, 0)):
+            titles = ",".join("p:" + name for name in ("Site", "Hut", "Pier", "Week")[:columns])
+            rows = [",".join(f"{plot:0{columns}b}").replace("0", "2") for plot in range(2**columns)]
+            err = run("plan", "-", data="\n".join([titles] + rows).encode())[2]
+            self.assertEqual((err.count("note:"), err.count("the table is:")), (notes, tables))
+
+    def test_in_json(self):
+        note = json.loads(run("plan", "-", "--json", *KINDS, data=LATIN)[1])["notes"][0]
+        self.assertEqual((note["option"], note["text"][:30]), ("--nested Pier/Hut", "Pier 1 is taken as one pier th"))
+        self.assertEqual([(s["name"], s["df"], s["residual"]) for s in note["strata"]], [("U", 1, 0), ("Hut", 2, 2), ("E", 6, 4)])
+
+    def test_columns_that_are_not_used(self):
+        err = run("plan", "-", "--plots", "Hut", "--treatments", "Gain", data=LATIN)[2]
+        self.assertEqual(err, "standard input: not used: Pier\n")
+
+
+class Documents(unittest.TestCase):
+    """What the documents show is what the command prints."""
+
+    def document(self, *path):
+        with open(os.path.join(ROOT, *path), encoding="utf-8") as file:
+            return file.read()
+
+    def side_by_side(self, text):
+        """The two columns of the first block with two sheets: text on the left, text on the right."""
+        block = text[text.index("numbered anew in each hut  ") :].split("```")[0]
+        split = block.index("numbered consecutively")
+        lines = block.splitlines()[2:]
+        return [[line[:split].rstrip() for line in lines], [line[split:].rstrip() for line in lines]]
+
+    def sheet(self, lines):
+        return "\n".join(lines[: lines.index("")] if "" in lines else lines).encode()
+
+    def test_readme(self):
+        text = self.document("README.md")
+        for lines, table in zip(self.side_by_side(text), (CROSSED_TABLE, NESTED_TABLE)):
+            shown = "\n".join(lines[lines.index("") + 1 :]).rstrip("\n") + "\n"
+            self.assertEqual(shown, table.decode())
+            self.assertEqual(run("plan", "-", "--quiet", data=self.sheet(lines))[:2], (0, table))
+        self.assertIn(NOTE.splitlines()[0], text)
+        self.assertEqual(run("plan", os.path.join(EXAMPLES, "piers.csv")), (0, CROSSED_TABLE, NOTE))
+
+    def test_refusals(self):
+        whole = self.document("docs", "REFUSALS.md")
+        for number, names in ((10, "Logger\tPier"), (13, "Pier\tGain")):
+            left, right = self.side_by_side(whole[whole.index(f"### {number}. ") :])
+            refused = f"refused\t{number}\t{names}\n"
+            self.assertIn(refused.strip().replace("\t", "→"), whole)
+            self.assertEqual(run("plan", "-", "--tsv", data=self.sheet(left))[:2], (1, refused.encode()))
+            status, out, err = run("plan", "-", "--tsv", data=self.sheet(right))
+            self.assertEqual((status, err), (0, ""))
+            self.assertEqual(run("plan", "-", "--tsv", "--nested", "Pier/Hut", data=self.sheet(left)), (0, out, ""))
+
+    def test_python_in_documents(self):
+        for path, expected in ((("README.md",), "1 df of E"), (("docs", "COMMAND.md"), "2 df of E")):
+            code = self.document(*path).split("```python\n")[1].split("```")[0]
+            with contextlib.redirect_stdout(io.StringIO()) as out:
+                exec(code, {})
+            self.assertEqual(out.getvalue().splitlines()[-1], expected)
+
+
+class WrongCalls(unittest.TestCase):
+    def refuses(self, *arguments, message, data=LATIN):
+        status, out, err = run(*arguments, data=data)
+        self.assertEqual((status, out), (2, b""))
+        self.assertIn(message, err)
+        self.assertNotIn("Traceback", err)
+
+    def test_wrong_calls(self):
+        self.refuses(message="required: COMMAND")
+        self.refuses("plan", message="required: FILE")
+        self.refuses("plot", message="invalid choice: 'plot'")
+        self.refuses("plan", "-", "--k", "7", message="argument --k: invalid choice: 7")
+        self.refuses("plan", "-", "--tsv", "--json", message="not allowed with argument")
+        self.refuses("plan", "/nowhere", message="rachdoum: /nowhere: No such file or directory")
+        self.refuses("plan", EXAMPLES, message="Is a directory")
+        self.refuses("plan", "/nowhere\x1b[31m", message="rachdoum: /nowhere?[31m: No such file or directory")
+        self.refuses("plan", "-", "--plots", "Hat", message="there is no column 'Hat': standard input has Hut, Pier, Gain")
+        self.refuses("plan", "-", *KINDS, "--nested", "Pier", message="'Pier' is not of the form CHILD/PARENT, such as Pier/Hut")
+        self.refuses("plan", "-", *KINDS, "--nested", "Gain/Hut", message="only plot columns can be nested, and 'Gain' is none")
+        self.refuses("plan", "-", *KINDS, "--nested", "Pier/Pier", message="cannot be nested in each other or in themselves")
+        self.refuses("plan", "-", *KINDS, "--crossed", "Pier", message="--crossed takes two columns, such as Pier,Hut")
+        self.refuses("plan", "-", *KINDS, "--crossed", "Pier,Hat", message="there is no column 'Hat'")
+
+    def test_help(self):
+        status, out, err = run("plan", "--help")
+        self.assertEqual((status, err), (0, ""))
+        self.assertIn(b"rachdoum plan trial.csv --nested Pier/Hut", out)
+
+    def test_one_wrong_file_of_several(self):
+        status, out, err = run("plan", "/nowhere", os.path.join(EXAMPLES, "sample.sheet"), "--tsv")
+        self.assertEqual((status, out), (2, bytes_of(os.path.join(EXAMPLES, "sample.table"))))
+
+    def test_several_files_have_headings(self):
+        path = os.path.join(EXAMPLES, "sample.sheet")
+        status, out, err = run("plan", path, path)
+        self.assertEqual((status, out.decode().count(f"{path}:\n")), (0, 2))
+
+    def test_notes_on_several_files_say_which(self):
+        path = os.path.join(EXAMPLES, "example-4.sheet")
+        self.assertTrue(run("plan", path, path)[2].startswith(f"{path}: note: Subcolumn 1 is taken as one subcolumn"))
+
+
+class Large(unittest.TestCase):
+    def plan_in_little_memory(self, path):
+        """The command in a process that may have half a gigabyte of memory."""
+        limit = "import resource, runpy, sys; resource.setrlimit(resource.RLIMIT_AS, (1 << 29, 1 << 29)); "
+        start = "sys.argv[0] = 'rachdoum'; runpy.run_module('rachdoum', run_name='__main__')"
+        done = subprocess.run(
+            [sys.executable, "-c", limit + start, "plan", "--tsv", path], stdout=subprocess.PIPE, stderr=subprocess.PIPE, timeout=60
+        )
+        self.assertEqual((done.returncode, done.stdout), (1, b"refused\t2\t-\t-\n"))
+        self.assertIn(b"refused (2): it is longer than 1,048,576 bytes.", done.stderr)
+
+    def test_a_file_of_a_gigabyte_is_not_read_whole(self):
+        with tempfile.NamedTemporaryFile() as file:
+            file.truncate(1 << 30)
+            self.plan_in_little_memory(file.name)
+
+    def test_an_endless_file(self):
+        self.plan_in_little_memory("/dev/zero")
+
+    def processor_time(self, *words, data=b""):
+        """The processor's time of a program that ends with 0."""
+        before = resource.getrusage(resource.RUSAGE_CHILDREN)
+        self.assertEqual(subprocess.run([sys.executable, *words], input=data, stdout=subprocess.DEVNULL, stderr=subprocess.DEVNULL).returncode, 0)
+        after = resource.getrusage(resource.RUSAGE_CHILDREN)
+        return after.ru_utime + after.ru_stime - before.ru_utime - before.ru_stime
+
+    def test_time(self):
+        """240 plots take at most 0.15 s from start to end, or four times Python's own start on a slower machine. The processor's time
+        counts, of the best run: the machine may be busy."""
+        rows = [f"{hut},{pier},{week},{pier % 2 + 1},{week % 2 + 1}" for hut in range(1, 11) for pier in range(1, 7) for week in range(1, 5)]
+        self.assertEqual(len(rows), library.PLOTS)
+        data = "\n".join(["p:Hut,p:Pier,p:Week,t:Gain,t:Cable"] + rows).encode()
+        most = max(0.15, 4 * min(self.processor_time("-c", "pass") for _ in range(5)))
+        taken = []
+        while len(taken) < 40 and min(taken, default=most + 1) > most:
+            taken.append(self.processor_time("-m", "rachdoum", "plan", "-", data=data))
+        self.assertLessEqual(min(taken), most)
+
+
+if __name__ == "__main__":
+    unittest.main()

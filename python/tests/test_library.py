@@ -1,0 +1,132 @@
+"""The entries, byte for byte: what goes in and what comes out is what the C entries take and answer."""
+import ctypes
+import os
+import re
+import unittest
+from unittest import mock
+
+from rachdoum import library
+from support import ROOT
+
+HUTS = b"p:Hut\tt:Gain\n1\t1\n1\t2\n2\t1\n2\t2\n"
+
+
+def family(*members):
+    return b"".join(bytes(member).ljust(240, b"\0") for member in members).ljust(7680, b"\0")
+
+
+class Entries(unittest.TestCase):
+    def test_read_sheet(self):
+        number, counts, levels = library.read_sheet(HUTS)
+        self.assertEqual((number, counts), (0, (4, 1, 1)))
+        self.assertEqual((levels[:4], levels[4:240]), ([1, 1, 2, 2], [0] * 236))
+        self.assertEqual(levels[6 * 240 : 6 * 240 + 4], [1, 2, 1, 2])
+
+    def test_read_sheet_refusals(self):
+        for text, number in [(b"", 2), (b"x" * 32769, 2), (b"Hut\n", 3), (b"p:Hut\n0\n", 4), (b"p:Hut\n", 5)]:
+            self.assertEqual(library.read_sheet(text)[:2], (number, (0, 0, 0)))
+
+    def test_largest_level(self):
+        top = 2 ** (8 * ctypes.sizeof(library.LEVEL)) - 1
+        self.assertEqual(library.read_sheet(b"p:Hut\n%d\n" % top)[2][0], top)
+        self.assertEqual(library.read_sheet(b"p:Hut\n%d\n" % (top + 1))[0], 4)
+
+    def test_plot_design(self):
+        _, _, levels = library.read_sheet(HUTS)
+        self.assertEqual(library.plot_design(levels, 4, 1), (0, (0, 0, 3), family([1, 1, 1, 1], [1, 1, 2, 2], [1, 2, 3, 4])))
+        self.assertEqual(library.plot_design(levels, 0, 1)[:2], (6, (0, 0, 0)))
+
+    def test_full_design(self):
+        _, counts, levels = library.read_sheet(HUTS)
+        number, answer, first, second = library.full_design(levels, *counts, 6)
+        self.assertEqual((number, answer), (0, (0, 0, 3, 2)))
+        self.assertEqual(first, family([1, 1, 1, 1], [1, 1, 2, 2], [1, 2, 3, 4]))
+        self.assertEqual(second, family([1, 1, 1, 1], [1, 2, 1, 2]))
+        self.assertEqual(library.full_design(levels, *counts, 7)[0], 6)
+
+    def test_places_at_fault(self):
+        _, counts, levels = library.read_sheet(b"p:Hut\tp:Week\n1\t1\n1\t2\n2\t1\n2\t3\n3\t2\n3\t3\n")
+        self.assertEqual(library.full_design(levels, *counts, 6)[:2], (10, (2, 3, 4, 0)))
+
+    def test_relation(self):
+        number, answer = library.relation(family([1, 1, 1, 1], [1, 1, 2, 2], [1, 2, 3, 4]), 4, 3)
+        self.assertEqual((number, len(answer), answer[:4], answer[33:36], answer[65:68]), (0, 97, (3, 0, 1, 3), (0, 1, 2), (0, 1, 1)))
+
+    def test_degrees(self):
+        members = family([1, 1, 1, 1], [1, 1, 2, 2], [1, 2, 1, 2], [1, 2, 2, 1], [1, 2, 3, 4])
+        number, answer = library.degrees(members, 4, 5)
+        self.assertEqual((number, answer), (0, (1, 1, 1, 1, 0) + (0,) * 27))
+        self.assertEqual(library.degrees(members, 4, 33)[0], 15)
+
+    def test_strata(self):
+        plots, treatments = family([1] * 4, [1, 1, 2, 2], [1, 2, 3, 4]), family([1] * 4, [1, 2, 1, 2])
+        number, answer = library.strata(plots, 3, treatments, 2, 4)
+        self.assertEqual((number, answer[:3], answer[32:36]), (0, (1, 3, 0), (0, 1, 1, 0)))
+
+    def test_name(self):
+        _, _, levels = library.read_sheet(HUTS)
+        plots = family([1] * 4, [1, 1, 2, 2], [1, 2, 3, 4])
+        self.assertEqual(library.name(HUTS, levels, plots, 4, 3, library.PLOT, 2), (0, b"Hut"))
+        self.assertEqual(library.name(HUTS, levels, plots, 4, 3, library.TREATMENT, 2), (0, b"#2"))
+        self.assertEqual(library.name(HUTS, levels, plots, 4, 3, library.PLOT, 4), (6, b""))
+
+    def test_skeleton(self):
+        self.assertEqual(library.skeleton(b"p:Hut\n1\n"), (0, b"stratum\tsource\tdf\nU\tU\t1\nU\t=total\t1\n=all\t=total\t1\n"))
+
+    def test_bytes_with_a_zero_in_them(self):
+        self.assertEqual(library.skeleton(b"p:Hut\n1\0\n"), (0, b"refused\t4\t-\t-\n"))
+
+
+class Header(unittest.TestCase):
+    """The declarations here are those of the header."""
+
+    with open(os.path.join(ROOT, "include", "rachdoum.h"), encoding="utf-8") as file:
+        text = file.read()
+
+    def test_every_entry_is_declared(self):
+        self.assertEqual(set(re.findall(r"uint32_t rachdoum_(\w+)\(", self.text)), set(library._SIGNATURES))
+
+    def test_limits(self):
+        own = {
+            "PLOTS": library.PLOTS, "COLUMNS": library.COLUMNS, "INTERACTION": library.INTERACTIONS, "MEMBERS": library.MEMBERS,
+            "TEXT": library.TEXT_BYTES, "LEVELS": library.LEVEL_CELLS, "FAMILY": library.FAMILY_BYTES, "NAME": library.NAME_BYTES,
+            "TABLE": library.TABLE_BYTES,
+        }
+        for name, number in re.findall(r"#define RACHDOUM_(\w+) (\d+)", self.text):
+            self.assertEqual((name, int(number)), (name, own[name]))
+
+    def test_width_of_a_level(self):
+        bits = 8 * ctypes.sizeof(library.LEVEL)
+        self.assertRegex(self.text, rf"typedef uint{bits}_t rachdoum_level;|uint{bits}_t \*levels")
+
+
+class Finding(unittest.TestCase):
+    def find(self, value):
+        with mock.patch.dict(os.environ, {library.LIBRARY_VARIABLE: value}), mock.patch.object(library, "_loaded", None):
+            return library.load()
+
+    def test_missing_library(self):
+        with self.assertRaisesRegex(library.LibraryMissing, "RACHDOUM_LIBRARY names /nowhere.so, and there is no such file"):
+            self.find("/nowhere.so")
+
+    def test_wrong_library(self):
+        with self.assertRaisesRegex(library.LibraryMissing, "is not the planner's library .*: run ./plan"):
+            self.find(__file__)
+
+    def test_not_built(self):
+        with mock.patch.object(library, "library_paths", lambda: ["/nowhere.so"]), mock.patch.dict(os.environ):
+            os.environ.pop(library.LIBRARY_VARIABLE, None)
+            with self.assertRaisesRegex(library.LibraryMissing, "not built yet: run ./plan"):
+                library._find()
+
+    def test_order(self):
+        with mock.patch.dict(os.environ):
+            os.environ.pop(library.LIBRARY_VARIABLE, None)
+            package = os.path.dirname(os.path.abspath(library.__file__))
+            beside, built = library.library_paths()
+            self.assertEqual(beside, os.path.join(package, "librachdoum.so"))
+            self.assertEqual(built, os.path.join(os.path.dirname(os.path.dirname(package)), "target", "librachdoum.so"))
+
+
+if __name__ == "__main__":
+    unittest.main()

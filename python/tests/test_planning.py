@@ -1,0 +1,177 @@
+"""Plans as objects, and each entry for tables as users have them."""
+import glob
+import os
+import unittest
+
+import rachdoum
+from rachdoum import Family, Refusal
+from rachdoum.nesting import starting_again
+from support import EXAMPLES, design
+
+HUTS = {
+    "p:Hut": [1, 1, 1, 2, 2, 2, 3, 3, 3, 4, 4, 4],
+    "t:Filter": ["b"] * 3 + ["a"] * 6 + ["b"] * 3,
+    "t:Gain": [20, 30, 10, 10, 30, 20, 30, 20, 10, 20, 10, 30],
+}
+
+
+class Plans(unittest.TestCase):
+    def test_huts(self):
+        plan = rachdoum.plan(HUTS)
+        self.assertEqual([(s.name, s.degrees, s.residual) for s in plan.strata], [("U", 1, 0), ("Hut", 3, 2), ("E", 8, 4)])
+        self.assertEqual([(s.name, s.stratum, s.degrees, s.against, s.testable) for s in plan.sources], [
+            ("U", "U", 1, 0, False), ("Filter", "Hut", 1, 2, True), ("Gain", "E", 2, 4, True), ("I(Filter,Gain)", "E", 2, 4, True),
+        ])
+        self.assertEqual([(m.name, m.classes, m.above) for m in plan.plot_family], [("U", 1, ()), ("Hut", 4, ("U",)), ("E", 12, ("Hut",))])
+        with open(os.path.join(EXAMPLES, "huts.table")) as file:
+            self.assertEqual(plan.tsv(), file.read())
+
+    def test_every_accepted_example(self):
+        for path in sorted(glob.glob(os.path.join(EXAMPLES, "*.sheet"))):
+            with open(path[: -len("sheet")] + "table") as file:
+                expected = file.read()
+            with self.subTest(os.path.basename(path)):
+                self.assertEqual(rachdoum.skeleton(rachdoum.read_file(path)), expected)
+                if not expected.startswith("refused"):
+                    self.assertEqual(rachdoum.plan(rachdoum.read_file(path)).tsv(), expected)
+
+    def test_a_path(self):
+        path = os.path.join(EXAMPLES, "huts.sheet")
+        self.assertEqual(rachdoum.plan(path), rachdoum.plan(HUTS))
+        self.assertTrue(str(rachdoum.plan(path)).startswith("stratum  source"))
+
+    def test_unknown_names(self):
+        plan = rachdoum.plan(HUTS)
+        with self.assertRaisesRegex(KeyError, "there is no source 'Cable'; there are U, Filter, Gain"):
+            plan.source("Cable")
+        with self.assertRaisesRegex(KeyError, "there is no stratum 'Week'; there are U, Hut, E"):
+            plan.stratum("Week")
+
+    def test_fewer_combinations(self):
+        self.assertEqual([s.name for s in rachdoum.plan(HUTS, k=1).sources], ["U", "Filter", "Gain"])
+
+    def test_names_as_the_user_has_them(self):
+        plan = rachdoum.plan({"p:A": [1, 1, 2, 2], "t:Gain but longer": [1, 2, 1, 2]})
+        self.assertEqual([s.name for s in plan.strata], ["U", "A", "E"])
+        self.assertEqual(plan.source("Gain but longer").stratum, "E")
+
+    def test_degrees_of_freedom_add_up(self):
+        accepted = 0
+        for seed in range(1, 200):
+            titles, rows = design(seed)
+            try:
+                plan = rachdoum.plan([titles] + rows)
+            except Refusal:
+                continue
+            accepted += 1
+            self.assertEqual(sum(stratum.degrees for stratum in plan.strata), len(rows))
+            for stratum in plan.strata:
+                self.assertEqual(stratum.degrees, stratum.residual + sum(source.degrees for source in stratum.sources))
+        self.assertGreater(accepted, 50)
+
+    def test_every_other_reading_is_accepted(self):
+        noted = 0
+        for seed in range(1, 400):
+            titles, rows = design(seed)
+            try:
+                plan = rachdoum.plan([titles] + rows)
+            except Refusal:
+                continue
+            pairs = starting_again(plan.table)
+            notes = rachdoum.notes_on(plan)
+            self.assertEqual([(note.child, note.parent) for note in notes], pairs)
+            for note in notes:
+                if note.other:
+                    noted += 1
+                    again = rachdoum.plan([titles] + rows, nested=f"{note.child}/{note.parent}")
+                    self.assertEqual(note.other.tsv(), again.tsv())
+        self.assertGreater(noted, 20)
+
+
+class Refusals(unittest.TestCase):
+    def refusal(self, *arguments, **options):
+        with self.assertRaises(Refusal) as caught:
+            rachdoum.plan(*arguments, **options)
+        return caught.exception
+
+    def test_what_it_carries(self):
+        refusal = self.refusal({"p:Hut": [1, 1, 1, 2, 2, 2], "t:Gain": [1, 1, 2, 1, 2, 2]})
+        self.assertEqual((refusal.number, refusal.places, refusal.names), (13, (2, 2), ("Hut", "Gain")))
+        self.assertEqual(refusal.what, "Hut 1 has 2 of the 3 plots with Gain 1, but 1 of the 3 with Gain 2.")
+        self.assertTrue(refusal.remedy.startswith("give each level of Hut the same share"))
+        self.assertIn("refused (13)", str(refusal))
+
+    def test_where_it_stands(self):
+        refusal = self.refusal("p:Hut,t:Gain\n1,1\n1,0\n")
+        self.assertEqual((refusal.number, refusal.line, refusal.column), (4, 3, "Gain"))
+        refusal = self.refusal([["p:Hut", "t:Gain"], [1, 1], [1, None]])
+        self.assertEqual((refusal.number, refusal.line, refusal.what), (4, None, "plot 2, Gain: there is no level."))
+
+    def test_where_titles_and_rows_of_a_caller_are_wrong(self):
+        refusal = self.refusal({"p:Hut": [1], "Gain": [1]})
+        self.assertEqual((refusal.number, refusal.line, refusal.column), (3, None, "Gain"))
+        self.assertEqual(refusal.what, "column 2: `Gain` is not marked as a plot column or a treatment.")
+        refusal = self.refusal([["p:Hut", "t:Gain"], [1, 1], [1]])
+        self.assertEqual((refusal.number, refusal.what), (4, "plot 2 has 1 field, there are 2 columns."))
+
+    def test_names_as_the_user_has_them(self):
+        refusal = self.refusal({"p:Hut number": ["x", "x", "y"], "t:Gain": [1, 1, 1]})
+        self.assertEqual((refusal.number, refusal.names), (9, ("Hut number",)))
+        self.assertEqual(refusal.what, "Hut number x has 2 plots, Hut number y has 1.")
+
+    def test_a_grouping_without_a_name(self):
+        table = {"p:Aa": [1, 1, 2, 2, 3, 3], "p:Bb": [1, 2, 1, 2, 3, 3]}
+        refusal = self.refusal(table)
+        self.assertEqual((refusal.number, refusal.names), (9, ("#2",)))
+        self.assertEqual(
+            refusal.what, "the class of #2 with plots 1, 2, 3, 4 has 4 plots, the class of #2 with plots 5, 6 has 2."
+        )
+
+    def test_k(self):
+        for k in (0, 7, -1):
+            refusal = self.refusal({"p:Hut": [1, 2]}, k=k)
+            self.assertEqual((refusal.number, refusal.what, refusal.remedy), (6, f"k is {k}.", "k is from 1 to 6."))
+
+    def test_a_nested_level_in_a_message(self):
+        table = [["p:Hut", "p:Pier"]] + [[1, 1], [1, 1], [1, 2], [2, 1], [2, 2], [2, 2]]
+        refusal = self.refusal(table, nested="Pier/Hut")
+        self.assertEqual(refusal.what, "Pier 1 in Hut 1 has 2 plots, Pier 2 in Hut 1 has 1.")
+
+
+class Entries(unittest.TestCase):
+    def test_families_in_and_out(self):
+        first, second = rachdoum.full_design(HUTS)
+        self.assertEqual((first.names, second.names), (("U", "Hut", "E"), ("U", "Filter", "Gain", "I(Filter,Gain)")))
+        self.assertEqual(first.members[1], (1, 1, 1, 2, 2, 2, 3, 3, 3, 4, 4, 4))
+        self.assertEqual(rachdoum.degrees(second), (1, 1, 2, 2))
+        self.assertEqual(rachdoum.strata(first, second), ((1, 2, 3, 3), (0, 2, 4)))
+        self.assertEqual(rachdoum.relation(second).coarser, ((), (1,), (1,), (1, 2, 3)))
+        self.assertEqual(rachdoum.relation(second).above, ((), (1,), (1,), (2, 3)))
+        self.assertEqual([rachdoum.name(HUTS, second, place, treatment=True) for place in (1, 2, 3, 4)], list(second.names))
+
+    def test_refused_families(self):
+        for family in (Family(2, ()), Family(2, ((2, 1),)), Family(2, ((1, 2), (1, 1))), Family(2, ((1, 2),) * 33)):
+            with self.assertRaises(Refusal) as caught:
+                rachdoum.degrees(family)
+            self.assertEqual(caught.exception.number, 15)
+        with self.assertRaises(Refusal) as caught:
+            rachdoum.strata(Family(2, ((1, 1),)), Family(2, ((1, 2),)))
+        self.assertEqual(caught.exception.number, 16)
+        with self.assertRaises(Refusal) as caught:
+            rachdoum.name(HUTS, rachdoum.plot_design(HUTS), 4)
+        self.assertEqual(caught.exception.number, 6)
+
+    def test_the_plot_design_alone(self):
+        table = {"p:Hut": [1, 1, 2, 2], "t:Gain": [1, 2, 1, 1]}
+        self.assertEqual(rachdoum.plot_design(table).names, ("U", "Hut", "E"))
+        with self.assertRaises(Refusal) as caught:
+            rachdoum.plot_design({"p:Hut": [1, 1, 2], "t:Gain": [1, 2, 1]})
+        self.assertEqual((caught.exception.number, caught.exception.names), (9, ("Hut",)))
+
+    def test_levels(self):
+        levels = rachdoum.read_sheet({"Hut": ["n", "s"], "Gain": [5, 5]}, plots=["Hut"], treatments=["Gain"])
+        self.assertEqual((levels.plots, levels.plot_columns, levels.treatment_columns), (2, ((1, 2),), ((1, 1),)))
+
+
+if __name__ == "__main__":
+    unittest.main()
