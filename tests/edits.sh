@@ -43,6 +43,9 @@ for edit in crates/*/must-fail/*.edit; do
   if grep -m 1 ': error' "$log" | grep -q 'has no `Need-'; then
     complain "$edit" 'it only makes the proof unfit for the code'
   fi
+  if grep -q '^file: proofs/' "$edit"; then
+    complain "$edit" 'it changes a proof, not the code or the rules'
+  fi
   if ! grep -q '^fails: ' "$edit"; then
     complain "$edit" 'it names neither a function nor a law that fails'
   fi
