@@ -41,6 +41,7 @@ pub mod StrataTotals
 pub mod Above
 pub mod Subtracted
 pub mod TableMeant
+pub mod ReaderLimits
 pub mod NamesMeant
 pub mod Bits
 pub mod Signed

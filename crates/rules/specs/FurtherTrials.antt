@@ -13,7 +13,7 @@ use Rattle.rules.specs.Degrees.{DegreesAnswer, degreesOfFreedom}
 use Rattle.rules.specs.Strata.{StrataAnswer, strata}
 use Rattle.rules.specs.Sheet.{Outcome, read, refused, reading}
 use Rattle.rules.specs.Naming.{Kind, plot, treatment, NameAnswer, naming}
-use Rattle.rules.specs.Table.{signed, tableText}
+use Rattle.rules.specs.Table.{signed, tableText, TableAnswer, skeletonTable}
 use Rattle.rules.specs.Trials.{Trial, treats, observed}
 
 pub data FurtherTrial : Type 0 where
@@ -34,6 +34,8 @@ pub data FurtherTrial : Type 0 where
   reads : List ℕ → ℕ → Outcome → FurtherTrial
   -- a sheet; its whole output
   prints : List ℕ → List ℕ → FurtherTrial
+  -- a sheet, the bytes of the lent text; the number answered and the text written
+  printsInto : List ℕ → ℕ → TableAnswer → FurtherTrial
 
 -- ---- families
 
@@ -236,7 +238,8 @@ furtherTrials =
     ∷ allots 4 square (halves ∷ one ∷ []) (record { refusal = 15; places = filled []; residuals = filledSigned [] })
     ∷ allots 4 (halves ∷ one ∷ []) square (record { refusal = 15; places = filled []; residuals = filledSigned [] })
     ∷ allots 4 (one ∷ []) (one ∷ halves ∷ []) (record { refusal = 16; places = filled []; residuals = filledSigned [] })
-    -- names: the infimum of both plot columns, which is the second treatment column
+    -- names: U; the infimum of both plot columns, which is the second treatment column
+    ∷ namesMember plot twoAndTwo 8 hutAndBay gainAndRow oneAndPairs 1 (record { refusal = 0; name = 85 ∷ [] })
     ∷ namesMember plot twoAndTwo 8 hutAndBay gainAndRow oneAndPairs 2 (record { refusal = 0; name = infimumName })
     ∷ namesMember treatment twoAndTwo 8 hutAndBay gainAndRow oneAndPairs 2 (record { refusal = 0; name = rowName })
     -- the same with a column of one class before them and one equivalent to the first after them, which are not named
@@ -307,6 +310,9 @@ furtherTrials =
     ∷ prints mixedSheet mixedTable
     -- a sheet that is accepted
     ∷ prints fullSheet fullTable
+    -- a lent text that is long enough, and one byte shorter
+    ∷ printsInto unevenSheet 32768 (record { refusal = 0; text = unevenTable })
+    ∷ printsInto unevenSheet 32767 (record { refusal = 6; text = [] })
     -- signed numbers: `0`, `-2`, `-10`
     ∷ writes (pos 0) (48 ∷ [])
     ∷ writes (negsuc 1) (45 ∷ 50 ∷ [])
@@ -325,7 +331,7 @@ unfolding written
 inTable cells Fs Ts = written (written (replicate cells 0) 0 Fs) mostColumns Ts
 
 unfoldable pub seen : FurtherTrial → FurtherTrial
-unfolding observed inBuffer inTable relation degreesOfFreedom strata naming reading tableText signed
+unfolding observed inBuffer inTable relation degreesOfFreedom strata naming reading tableText skeletonTable signed
 seen (plans t) = plans (observed t)
 seen (relates n S m a) = relates n S m (relation n (inBuffer familyBytes S) m)
 seen (subtracts n S m a) = subtracts n S m (degreesOfFreedom n (inBuffer familyBytes S) m)
@@ -335,6 +341,7 @@ seen (fits cells bytes room q) = fits cells bytes room (naming plot twoAndTwo (i
 seen (writes z w) = writes z (signed z)
 seen (reads text cells o) = reads text cells (reading text (replicate cells 0))
 seen (prints text out) = prints text (tableText text)
+seen (printsInto text room a) = printsInto text room (skeletonTable text room)
 
 -- each trial has the outcome stated
 pub further-trials-hold : map seen furtherTrials ≡ furtherTrials
