@@ -29,11 +29,11 @@ use Rattle.naming.specs.declared.Named.the-variants.{Written, Refused}
 -- ---- the columns of the kind
 
 module _ (kind : Kind) (text : List ℕ) (q : question3 text ≡ true) where
-  pub count-is : (h : Header) → h ≡ headed text → countIn kind h ≡ countKind (markOf (kindOf kind)) (header text)
+  pub count-is : (h : Header) → h ≡ headed text → (n : ℕ) → countIn kind (record { plots = n; «plot_columns» = h .«plot_columns»; «treatment_columns» = h .«treatment_columns» }) ≡ countKind (markOf (kindOf kind)) (header text)
   unfolding firstLine
-  count-is h e = ap (countIn kind) (e ∙ headed-yes text q) ∙ of kind
+  count-is h e n = rw (e ∙ headed-yes text q) (of kind)
     where
-      of : (kind : Kind) → countIn kind (firstLine text) ≡ countKind (markOf (kindOf kind)) (header text)
+      of : (kind : Kind) → countIn kind (record { plots = n; «plot_columns» = countKind 112 (header text); «treatment_columns» = countKind 116 (header text) }) ≡ countKind (markOf (kindOf kind)) (header text)
       of Plot = refl
       of Treatment = refl
 

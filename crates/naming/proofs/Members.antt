@@ -17,14 +17,18 @@ use Rattle.rules.specs.Factor.{Column, number, classes}
 use Rattle.rules.specs.Design.{plotsWithin}
 use Rattle.rules.specs.Family.{columnsFrom}
 use Rattle.rules.specs.Naming.{Kind as Rule, markOf, firstColumn}
-use Rattle.rules.specs.Sheet.{columnNames, countKind, header}
+use Rattle.rules.specs.Sheet.{countKind, header}
 use Rattle.rules.specs.Names.{equivalentColumn, nameByColumn, nameOf, bytesOf}
 use Rattle.rules.proofs.Numbering.{by-cases}
 use Rattle.rules.proofs.Sheet.{and-left, and-right}
 use Rattle.families.specs.Lent.{columnAt}
 use Rattle.decimal.specs.Writing.{fits, written, placeAfter}
 use Rattle.decimal.proofs.Writing.{written-nil, place-nil, place-all}
-use Rattle.naming.specs.Answers.{startingWith, countedOn}
+use Rattle.sheet.specs.declared.Counts.{Counts}
+use Rattle.naming.specs.declared.Kind.{Kind}
+use Rattle.naming.specs.declared.columns.Look.{Look}
+use Rattle.naming.specs.Columns.{lookedNames}
+use Rattle.naming.specs.Answers.{kindOf, countIn, lookOf, startingWith, countedOn}
 use Rattle.naming.specs.Members.{namesWritten, lengthsWritten, membersFit, memberName, nameBy, countedName, extremeName}
 use Rattle.naming.proofs.Entry.{counted-on}
 use Rattle.naming.proofs.Numbered.{On, by-column-numbered}
@@ -95,11 +99,11 @@ pub counted-name : (kind : Rule) (text : List ℕ) (n : ℕ) (levels : List ℕ)
 unfolding countedName memberName
 counted-name kind text n levels count buffer e i = counted-on kind text n levels count (suc i) (columnAt n buffer i) e
 
--- the names that a call is given by the kind's byte and first column
-pub counted-by : (kind : Rule) (text : List ℕ) (n : ℕ) (levels : List ℕ) (count : ℕ) (buffer : List ℕ) (mark first : ℕ) → mark ≡ markOf kind → first ≡ firstColumn kind
-    → (i : ℕ) → nameBy (columnNames mark (header text)) (columnsFrom n levels first count) n buffer i ≡ countedName kind text n levels count buffer i
+-- the names that a call is given by the kind's columns
+pub counted-by : (kind : Kind) (counts : Counts) (text levels buffer : List ℕ) (look : Look) (first : ℕ) → look ≡ lookOf kind counts → first ≡ firstColumn (kindOf kind)
+    → (i : ℕ) → nameBy (lookedNames look text) (columnsFrom (look .plots) levels first (look .count)) (look .plots) buffer i ≡ countedName (kindOf kind) text (counts .plots) levels (countIn kind counts) buffer i
 unfolding nameBy countedName countedOn
-counted-by kind text n levels count buffer mark first em ef i = rw (em, ef)
+counted-by kind counts text levels buffer look first em ef i = rw (em, ef)
 
 -- as much of a text as there is room for
 module _ (out W : List ℕ) where

@@ -2,17 +2,19 @@
 -- Assumes nothing.
 use mathlib.Core.Bool.{Bool, true, false, _&&_}
 use mathlib.Core.List.{List, _++_}
+use mathlib.Core.Path.{_≡_}
 use Prim.Native.Nat.{ℕ}
 use lib.Dec.{eqb, leb}
 use lib.ListN.{length, take, drop}
 use Rattle.rules.specs.Limits.{mostColumns, tableCells, nameBytes}
 use Rattle.rules.specs.Factor.{Column}
 use Rattle.rules.specs.Design.{plotsWithin}
-use Rattle.rules.specs.Family.{columnsFrom}
-use Rattle.rules.specs.Sheet.{columnNames, header}
+use Rattle.rules.specs.Family.{columnsFrom, membersOf}
+use Rattle.rules.specs.Sheet.{columnNames, countKind, header, question3}
 use Rattle.rules.specs.Names.{nameOf, bytesOf}
-use Rattle.rules.specs.Naming.{Kind as Rule, plot, treatment, firstColumn, kindNames, NameAnswer, nameRefused}
-use Rattle.sheet.specs.declared.header.Header.{Header}
+use Rattle.rules.specs.Naming.{Kind as Rule, plot, treatment, markOf, firstColumn, kindNames, NameAnswer, nameRefused, namingWithin, namingFrom7, naming}
+use Rattle.sheet.specs.declared.Counts.{Counts}
+use Rattle.naming.specs.declared.columns.Look.{Look}
 use Rattle.naming.specs.declared.Kind.{Kind}
 use Rattle.naming.specs.declared.Kind.the-variants.{Plot, Treatment}
 use Rattle.naming.specs.declared.Named.{Named}
@@ -23,10 +25,14 @@ abbrev pub kindOf : Kind → Rule
 kindOf Plot = plot
 kindOf Treatment = treatment
 
--- how many columns of the kind the first line has
-abbrev pub countIn : Kind → Header → ℕ
-countIn Plot h = h .«plot_columns»
-countIn Treatment h = h .«treatment_columns»
+-- how many columns of the kind are counted
+abbrev pub countIn : Kind → Counts → ℕ
+countIn Plot counts = counts .«plot_columns»
+countIn Treatment counts = counts .«treatment_columns»
+
+-- the columns of the kind
+abbrev pub lookOf : Kind → Counts → Look
+lookOf kind counts = record { mark = markOf (kindOf kind); plots = counts .plots; count = countIn kind counts }
 
 -- 1 to 240 plots, at most 6 columns of the kind, lent slices long enough, and a member on these plots
 unfoldable pub memberFits : ℕ → ℕ → ℕ → ℕ → ℕ → Bool
@@ -46,6 +52,23 @@ namingCounted kind text levels n count F place room = elim (memberFits n count (
   | true ↦ record { refusal = 0; name = take room (countedOn kind text n levels count place F) }
   | false ↦ nameRefused 6
 ]
+
+-- the same by a sheet's counts, into a lent buffer
+abbrev pub countedNaming : Kind → Counts → ℕ → List ℕ → List ℕ → Column → List ℕ → NameAnswer
+countedNaming kind counts place text levels F name = namingCounted (kindOf kind) text levels (counts .plots) (countIn kind counts) F place (length name)
+
+-- the name of a member of a lent family, into a lent buffer
+abbrev pub memberNaming : Kind → ℕ → ℕ → ℕ → List ℕ → List ℕ → List ℕ → List ℕ → NameAnswer
+memberNaming kind n size place text levels family name = naming (kindOf kind) text levels family n size place (length name)
+
+-- the same once 2, 3 and 6 are answered, and what these tell
+abbrev pub namingOf : Kind → Counts → ℕ → ℕ → List ℕ → List ℕ → List ℕ → NameAnswer
+namingOf kind counts size place text levels family = namingFrom7 (kindOf kind) text (counts .plots) levels (membersOf (counts .plots) family size) place
+
+abbrev pub Asked : Kind → Counts → ℕ → ℕ → List ℕ → List ℕ → List ℕ → List ℕ → Type 0
+Asked kind counts size place text levels family name =
+    (question3 text ≡ true) × (namingWithin (counts .plots) size place (length levels) (length family) (length name) ≡ true)
+    × (countIn kind counts ≡ countKind (markOf (kindOf kind)) (header text))
 
 -- a buffer that starts with these bytes, and past them is as it was
 abbrev pub startingWith : List ℕ → List ℕ → List ℕ

@@ -1,3 +1,4 @@
+pub mod Writing
 pub mod Columns
 pub mod Listing
 pub mod Answers

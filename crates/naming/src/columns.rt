@@ -1,21 +1,30 @@
 // The columns of one kind, numbered, 240 bytes apart, and where a member stands among them.
 ghost use mathlib.Core.Path.{_≡_};
-ghost use mathlib.Core.Bool.{true, false};
+ghost use mathlib.Core.Bool.{true};
 ghost use Prim.Native.Nat.{_+_, _≤_, _<_};
 ghost use lib.Dec.{ltb};
 ghost use lib.ListN.{length, take};
-ghost use Rattle.rules.specs.Factor.{number, finer, infimum, universal};
+ghost use Rattle.rules.specs.Factor.{finer, infimum, universal};
 ghost use Rattle.rules.specs.Family.{membersOf, allNumbered};
+ghost use Rattle.rules.specs.Limits.{mostPlots, mostColumns, mostFields, mostMembers, tableCells};
 ghost use Rattle.rules.specs.Lists.{wordOf, bitAt};
 ghost use Rattle.rules.specs.Names.{equivalentColumn, columnAbove};
 ghost use Rattle.families.specs.Lent.{columnAt};
-ghost use Rattle.naming.specs.Columns.{Columns, outdone, listedBy, infimumBy, numberedFrom};
+ghost use Rattle.naming.specs.Columns.{Columns, columnBytes, MeetAsks, outdone, listedBy, infimumBy, numberedFrom};
 use limits::Level;
 use limits::PLOTS;
 
+// Which columns a name is given by: the byte that marks them in the first line, how many there are, and on how many plots. Their numbered
+// bytes are lent beside it.
+pub struct Look {
+    pub mark: u8,
+    pub plots: usize,
+    pub count: usize,
+}
+
 // Numbers `count` columns of the level table, from column `first` on.
 pub fn number_columns(levels: &[Level], n: usize, first: usize, count: usize, out: &mut [u8])
-    requires { ⌜ Columns n count (now out) × (first + count ≤ 12) × (2880 ≤ length (now levels)) ⌝ }
+    requires { ⌜ Columns n count (now out) × (first + count ≤ mostFields) × (tableCells ≤ length (now levels)) ⌝ }
     ensures { λ _. ⌜ membersOf n (now (out .exit)) count ≡ numberedFrom n (now (levels .entry)) first count ⌝ }
 {
     for c in 0..count {
@@ -29,7 +38,7 @@ pub fn number_columns(levels: &[Level], n: usize, first: usize, count: usize, ou
 
 // Whether column `i` is finer than or equivalent to column `j`.
 fn column_finer(columns: &[u8], n: usize, i: usize, j: usize) -> bool
-    requires { ⌜ (n ≤ 240) × (1440 ≤ length (now columns)) × (i < 6) × (j < 6) ⌝ }
+    requires { ⌜ (n ≤ mostPlots) × (columnBytes ≤ length (now columns)) × (i < mostColumns) × (j < mostColumns) ⌝ }
     ensures { λ r. ⌜ r ≡ finer n (columnAt n (now (columns .entry)) i) (columnAt n (now (columns .entry)) j) ⌝ }
 {
     let a = PLOTS * i;
@@ -41,7 +50,7 @@ fn column_finer(columns: &[u8], n: usize, i: usize, j: usize) -> bool
 
 // Whether column `i` is coarser than or equivalent to the member.
 fn is_above(columns: &[u8], n: usize, i: usize, member: &[u8]) -> bool
-    requires { ⌜ (n ≤ 240) × (1440 ≤ length (now columns)) × (i < 6) × (length (now member) ≡ n) ⌝ }
+    requires { ⌜ (n ≤ mostPlots) × (columnBytes ≤ length (now columns)) × (i < mostColumns) × (length (now member) ≡ n) ⌝ }
     ensures { λ r. ⌜ r ≡ finer n (now (member .entry)) (columnAt n (now (columns .entry)) i) ⌝ }
 {
     let a = PLOTS * i;
@@ -51,7 +60,7 @@ fn is_above(columns: &[u8], n: usize, i: usize, member: &[u8]) -> bool
 
 // Whether bit `j` of a word is set.
 fn has(word: u32, j: usize) -> bool
-    requires { ⌜ j < 32 ⌝ }
+    requires { ⌜ j < mostMembers ⌝ }
     ensures { λ r. ⌜ r ≡ bitAt word j ⌝ }
 {
     (word >> j) & 1 == 1
@@ -73,7 +82,7 @@ pub fn above_word(columns: &[u8], n: usize, count: usize, member: &[u8]) -> u32
 
 // Whether column `j` is in the word, and strictly finer than column `i` or equivalent to it and lower.
 fn outdoes(columns: &[u8], n: usize, above: u32, j: usize, i: usize) -> bool
-    requires { ⌜ (n ≤ 240) × (1440 ≤ length (now columns)) × (i < 6) × (j < 6) ⌝ }
+    requires { ⌜ (n ≤ mostPlots) × (columnBytes ≤ length (now columns)) × (i < mostColumns) × (j < mostColumns) ⌝ }
     ensures { λ r. ⌜ r ≡ outdone (bitAt above j) n (columnAt n (now (columns .entry)) j) (columnAt n (now (columns .entry)) i) (ltb j i) ⌝ }
 {
     if !has(above, j) {
@@ -124,7 +133,7 @@ pub fn equivalent_column(columns: &[u8], n: usize, count: usize, member: &[u8]) 
 
 // Meets column `c` with what was met before it, in the first `n` bytes. Where nothing was it is the column itself.
 fn meet(columns: &[u8], n: usize, c: usize, some: bool, met: &mut [u8; PLOTS])
-    requires { ⌜ (n ≤ 240) × (1440 ≤ length (now columns)) × (c < 6) × (number (columnAt n (now columns) c) ≡ columnAt n (now columns) c) × (some ≡ false → take n (now met) ≡ universal n) ⌝ }
+    requires { ⌜ (n ≤ mostPlots) × (columnBytes ≤ length (now columns)) × (c < mostColumns) × MeetAsks n (columnAt n (now columns) c) some (now met) ⌝ }
     ensures { λ _. ⌜ take n (now (met .exit)) ≡ infimum (columnAt n (now (columns .entry)) c) (take n (now (met .entry))) ⌝ }
 {
     let a = PLOTS * c;

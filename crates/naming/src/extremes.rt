@@ -4,6 +4,7 @@ ghost use Prim.Native.Nat.{_≤_};
 ghost use lib.Dec.{eqb};
 ghost use lib.ListN.{length};
 ghost use Rattle.rules.specs.Factor.{classes};
+ghost use Rattle.rules.specs.Limits.{mostPlots};
 
 // Whether there is one class.
 pub fn one_class(column: &[u8]) -> bool
@@ -23,7 +24,7 @@ pub fn one_class(column: &[u8]) -> bool
 
 // Whether each of the `n` plots is a class. `places` keeps for each label the place of its plot, from 1.
 pub fn each_apart(column: &[u8], n: usize) -> bool
-    requires { ⌜ (length (now column) ≡ n) × (n ≤ 240) ⌝ }
+    requires { ⌜ (length (now column) ≡ n) × (n ≤ mostPlots) ⌝ }
     ensures { λ r. ⌜ r ≡ eqb (classes (now (column .entry))) n ⌝ }
 {
     let mut places = [0u8; 256];

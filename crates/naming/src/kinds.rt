@@ -1,18 +1,27 @@
 // What the sheet and the level table have of a kind.
 ghost use mathlib.Core.Path.{_≡_};
-ghost use Rattle.rules.specs.Naming.{markOf, firstColumn};
-ghost use Rattle.naming.specs.Answers.{kindOf, countIn};
+ghost use Rattle.rules.specs.Naming.{firstColumn};
+ghost use Rattle.naming.specs.Answers.{kindOf, lookOf};
 use crate::Kind;
+use crate::columns::Look;
 use limits::COLUMNS;
-use sheet::Header;
+use sheet::Counts;
 
-// The byte that marks a column of the kind in the first line.
-pub fn mark(kind: Kind) -> u8
-    ensures { λ r. ⌜ r ≡ markOf (kindOf kind) ⌝ }
+// The columns of the kind.
+pub fn look(kind: Kind, counts: Counts) -> Look
+    ensures { λ r. ⌜ r ≡ lookOf kind counts ⌝ }
 {
     match kind {
-        Kind::Plot => b'p',
-        Kind::Treatment => b't',
+        Kind::Plot => Look {
+            mark: b'p',
+            plots: counts.plots,
+            count: counts.plot_columns,
+        },
+        Kind::Treatment => Look {
+            mark: b't',
+            plots: counts.plots,
+            count: counts.treatment_columns,
+        },
     }
 }
 
@@ -23,15 +32,5 @@ pub fn first(kind: Kind) -> usize
     match kind {
         Kind::Plot => 0,
         Kind::Treatment => COLUMNS,
-    }
-}
-
-// How many columns of the kind the first line has.
-pub fn count(kind: Kind, header: Header) -> usize
-    ensures { λ r. ⌜ r ≡ countIn kind header ⌝ }
-{
-    match kind {
-        Kind::Plot => header.plot_columns,
-        Kind::Treatment => header.treatment_columns,
     }
 }

@@ -1,12 +1,8 @@
 // Names for the members of a family, by the column names of a sheet's first line.
 ghost use mathlib.Core.Path.{_≡_};
-ghost use lib.ListN.{length};
-ghost use mathlib.Core.Bool.{true};
-ghost use Rattle.rules.specs.Family.{membersOf};
-ghost use Rattle.rules.specs.Sheet.{question3, countKind, header};
-ghost use Rattle.rules.specs.Naming.{markOf, naming, namingWithin, namingFrom7, nameBuffer};
-ghost use Rattle.naming.specs.Answers.{kindOf, namingCounted, nameNumbers, nameNumbersOf};
-ghost use Rattle.naming.specs.Members.{membersFit, refusal6, countedName, held, namesWritten, lengthsWritten, ifNamed};
+ghost use Rattle.rules.specs.Naming.{nameBuffer};
+ghost use Rattle.naming.specs.Answers.{nameNumbers, nameNumbersOf, memberNaming, countedNaming, Asked, namingOf};
+ghost use Rattle.naming.specs.Members.{familyFits, refusal6, namesAfter, lengthsAfter};
 
 mod columns;
 mod compose;
@@ -17,6 +13,7 @@ mod questions;
 use limits::Level;
 use limits::PLOTS;
 use limits::TEXT;
+use sheet::Counts;
 
 // A family's kind, which the caller states.
 pub enum Kind {
@@ -30,50 +27,53 @@ pub enum Named {
     Refused(u32),
 }
 
-// Names one member, whatever its family and whatever the first line, by the first `count` columns of the kind, as far as the buffer holds
-// the name. 6: a count or a length is out of range, or the member is not on these plots.
+// Names one member, whatever its family and whatever the first line, by as many columns of the kind as are counted, as far as the buffer
+// holds the name. 6: a count or a length is out of range, or the member is not on these plots.
 pub fn name_counted(
     text: &[u8],
     levels: &[Level],
-    plots: usize,
+    counts: Counts,
     kind: Kind,
-    count: usize,
     member: &[u8],
     place: usize,
     name: &mut [u8],
 ) -> Named
-    ensures answer { λ r. ⌜ nameNumbers r ≡ nameNumbersOf (namingCounted (kindOf kind) (now (text .entry)) (now (levels .entry)) plots count (now (member .entry)) place (length (now (name .entry)))) ⌝ }
-    ensures buffer { λ _. ⌜ now (name .exit) ≡ nameBuffer (now (name .entry)) (namingCounted (kindOf kind) (now (text .entry)) (now (levels .entry)) plots count (now (member .entry)) place (length (now (name .entry)))) ⌝ }
+    ensures answer { λ r. ⌜ nameNumbers r ≡ nameNumbersOf (countedNaming kind counts place (now (text .entry)) (now (levels .entry)) (now (member .entry)) (now (name .entry))) ⌝ }
+    ensures buffer { λ _. ⌜ now (name .exit) ≡ nameBuffer (now (name .entry)) (countedNaming kind counts place (now (text .entry)) (now (levels .entry)) (now (member .entry)) (now (name .entry))) ⌝ }
 {
-    if !questions::member_fits(plots, count, levels.len(), name.len(), member.len()) {
+    let look = kinds::look(kind, counts);
+    let n = look.plots;
+    let count = look.count;
+    if !questions::member_fits(n, count, levels.len(), name.len(), member.len()) {
         return Named::Refused(6);
     }
-    let mark = kinds::mark(kind);
     let first = kinds::first(kind);
-    let m = compose::put_name(text, mark, levels, plots, first, count, member, place, name);
+    let m = compose::put_name(text, levels, first, look, member, place, name);
     Named::Written(m)
 }
 
-// Names each of the first `size` members, whatever the family and whatever the first line, by the first `count` columns of the kind:
+// Names each of the first `size` members, whatever the family and whatever the first line, by as many columns of the kind as are counted:
 // member i, from 0, from byte 96 × i on, as far as these bytes hold the name, and its length at place i. Answers 0, or 6 where a count or a
 // length is out of range.
 pub fn name_members(
     text: &[u8],
     levels: &[Level],
-    plots: usize,
+    counts: Counts,
     kind: Kind,
-    count: usize,
     family: &[u8],
     size: usize,
     names: &mut [u8],
     lengths: &mut [usize],
 ) -> u32
-    ensures answer { λ r. ⌜ r ≡ refusal6 (membersFit plots count size (length (now (levels .entry))) (length (now (family .entry))) (length (now (names .entry))) (length (now (lengths .entry)))) ⌝ }
-    ensures names { λ _. ⌜ now (names .exit) ≡ ifNamed (membersFit plots count size (length (now (levels .entry))) (length (now (family .entry))) (length (now (names .entry))) (length (now (lengths .entry)))) (namesWritten (held (countedName (kindOf kind) (now (text .entry)) plots (now (levels .entry)) count (now (family .entry)))) (now (names .entry)) size) (now (names .entry)) ⌝ }
-    ensures lengths { λ _. ⌜ now (lengths .exit) ≡ ifNamed (membersFit plots count size (length (now (levels .entry))) (length (now (family .entry))) (length (now (names .entry))) (length (now (lengths .entry)))) (lengthsWritten (held (countedName (kindOf kind) (now (text .entry)) plots (now (levels .entry)) count (now (family .entry)))) (now (lengths .entry)) size) (now (lengths .entry)) ⌝ }
+    ensures answer { λ r. ⌜ r ≡ refusal6 (familyFits kind counts size (now (levels .entry)) (now (family .entry)) (now (names .entry)) (now (lengths .entry))) ⌝ }
+    ensures names { λ _. ⌜ now (names .exit) ≡ namesAfter kind counts size (now (text .entry)) (now (levels .entry)) (now (family .entry)) (now (names .entry)) (now (lengths .entry)) ⌝ }
+    ensures lengths { λ _. ⌜ now (lengths .exit) ≡ lengthsAfter kind counts size (now (text .entry)) (now (levels .entry)) (now (family .entry)) (now (names .entry)) (now (lengths .entry)) ⌝ }
 {
+    let look = kinds::look(kind, counts);
+    let n = look.plots;
+    let count = look.count;
     if !questions::members_fit(
-        plots,
+        n,
         count,
         size,
         levels.len(),
@@ -83,20 +83,8 @@ pub fn name_members(
     ) {
         return 6;
     }
-    let mark = kinds::mark(kind);
     let first = kinds::first(kind);
-    compose::put_names(
-        text,
-        mark,
-        levels,
-        plots,
-        first,
-        count,
-        family,
-        size,
-        names,
-        lengths,
-    );
+    compose::put_names(text, levels, first, look, family, size, names, lengths);
     0
 }
 
@@ -111,8 +99,8 @@ pub fn member_name(
     place: usize,
     name: &mut [u8],
 ) -> Named
-    ensures answer { λ r. ⌜ nameNumbers r ≡ nameNumbersOf (naming (kindOf kind) (now (text .entry)) (now (levels .entry)) (now (family .entry)) plots size place (length (now (name .entry)))) ⌝ }
-    ensures buffer { λ _. ⌜ now (name .exit) ≡ nameBuffer (now (name .entry)) (naming (kindOf kind) (now (text .entry)) (now (levels .entry)) (now (family .entry)) plots size place (length (now (name .entry)))) ⌝ }
+    ensures answer { λ r. ⌜ nameNumbers r ≡ nameNumbersOf (memberNaming kind plots size place (now (text .entry)) (now (levels .entry)) (now (family .entry)) (now (name .entry))) ⌝ }
+    ensures buffer { λ _. ⌜ now (name .exit) ≡ nameBuffer (now (name .entry)) (memberNaming kind plots size place (now (text .entry)) (now (levels .entry)) (now (family .entry)) (now (name .entry))) ⌝ }
 {
     if text.len() < 1 {
         return Named::Refused(2);
@@ -128,26 +116,32 @@ pub fn member_name(
     if !questions::within(plots, size, place, levels.len(), family.len(), name.len()) {
         return Named::Refused(6);
     }
-    let count = kinds::count(kind, h);
-    from_7(text, levels, family, plots, size, kind, count, place, name)
+    let counts = Counts {
+        plots,
+        plot_columns: h.plot_columns,
+        treatment_columns: h.treatment_columns,
+    };
+    from_7(text, levels, counts, family, size, kind, place, name)
 }
 
 // Questions 7 and 15, once 2, 3 and 6 are answered.
 fn from_7(
     text: &[u8],
     levels: &[Level],
+    counts: Counts,
     family: &[u8],
-    plots: usize,
     size: usize,
     kind: Kind,
-    count: usize,
     place: usize,
     name: &mut [u8],
 ) -> Named
-    requires { ⌜ (question3 (now text) ≡ true) × (namingWithin plots size place (length (now levels)) (length (now family)) (length (now name)) ≡ true) × (count ≡ countKind (markOf (kindOf kind)) (header (now text))) ⌝ }
-    ensures answer { λ r. ⌜ nameNumbers r ≡ nameNumbersOf (namingFrom7 (kindOf kind) (now (text .entry)) plots (now (levels .entry)) (membersOf plots (now (family .entry)) size) place) ⌝ }
-    ensures buffer { λ _. ⌜ now (name .exit) ≡ nameBuffer (now (name .entry)) (namingFrom7 (kindOf kind) (now (text .entry)) plots (now (levels .entry)) (membersOf plots (now (family .entry)) size) place) ⌝ }
+    requires { ⌜ Asked kind counts size place (now text) (now levels) (now family) (now name) ⌝ }
+    ensures answer { λ r. ⌜ nameNumbers r ≡ nameNumbersOf (namingOf kind counts size place (now (text .entry)) (now (levels .entry)) (now (family .entry))) ⌝ }
+    ensures buffer { λ _. ⌜ now (name .exit) ≡ nameBuffer (now (name .entry)) (namingOf kind counts size place (now (text .entry)) (now (levels .entry)) (now (family .entry))) ⌝ }
 {
+    let plots = counts.plots;
+    let look = kinds::look(kind, counts);
+    let count = look.count;
     let first = kinds::first(kind);
     if !questions::all_nonzero(levels, plots, first, count) {
         return Named::Refused(7);
@@ -157,5 +151,5 @@ fn from_7(
     }
     let a = PLOTS * (place - 1);
     let e = a + plots;
-    name_counted(text, levels, plots, kind, count, &family[a..e], place, name)
+    name_counted(text, levels, counts, kind, &family[a..e], place, name)
 }

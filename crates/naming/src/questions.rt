@@ -2,6 +2,7 @@
 ghost use mathlib.Core.Path.{_≡_};
 ghost use Prim.Native.Nat.{_+_, _≤_};
 ghost use lib.ListN.{length};
+ghost use Rattle.rules.specs.Limits.{mostPlots, mostFields, tableCells};
 ghost use Rattle.rules.specs.Family.{columnsFrom};
 ghost use Rattle.rules.specs.Design.{nonzero, allNonzero};
 ghost use Rattle.rules.specs.Naming.{namingWithin};
@@ -119,7 +120,7 @@ fn nonzero(column: &[Level]) -> bool
 
 // 7: is every level of the columns from `first` on, `count` of them, nonzero?
 pub fn all_nonzero(levels: &[Level], n: usize, first: usize, count: usize) -> bool
-    requires { ⌜ (n ≤ 240) × (first + count ≤ 12) × (2880 ≤ length (now levels)) ⌝ }
+    requires { ⌜ (n ≤ mostPlots) × (first + count ≤ mostFields) × (tableCells ≤ length (now levels)) ⌝ }
     ensures { λ r. ⌜ r ≡ allNonzero (columnsFrom n (now (levels .entry)) first count) ⌝ }
 {
     for c in 0..count {

@@ -46,8 +46,8 @@ abbrev pub statedKind : ℕ → Kind
 statedKind k = elim (eqb k 0) [ true ↦ plot | false ↦ treatment ]
 
 -- how many bytes the name has
-abbrev pub nameNumbers : NameAnswer → List ℕ
-nameNumbers a = length (a .name) ∷ []
+abbrev pub namingNumbers : NameAnswer → List ℕ
+namingNumbers a = length (a .name) ∷ []
 
 -- how many bytes the text has
 abbrev pub textNumbers : TableAnswer → List ℕ

@@ -5,6 +5,7 @@ ghost use Prim.Native.Nat.{ℕ, _≤_, _+_};
 ghost use lib.IntN.{pos};
 ghost use lib.ListN.{length, getD};
 ghost use lib.Seq.{paste};
+ghost use Rattle.rules.specs.Limits.{mostMembers};
 ghost use Rattle.rachdoum.specs.Numbers.{AllFit};
 use limits::MEMBERS;
 
@@ -22,8 +23,8 @@ pub fn words(first: u32, a: [u32; MEMBERS], b: [u32; MEMBERS], c: [u32; MEMBERS]
 
 // Writes a list of words from `at` on.
 fn put_words(from: [u32; MEMBERS], at: usize, out: &mut [u32])
-    requires { ⌜ at + 32 ≤ length (now out) ⌝ }
-    ensures { λ _. ⌜ now (out .exit) ≡ paste (now (out .entry)) at from 32 ⌝ }
+    requires { ⌜ at + mostMembers ≤ length (now out) ⌝ }
+    ensures { λ _. ⌜ now (out .exit) ≡ paste (now (out .entry)) at from mostMembers ⌝ }
 {
     for i in 0..MEMBERS {
         out[at + i] = from[i];
@@ -32,7 +33,7 @@ fn put_words(from: [u32; MEMBERS], at: usize, out: &mut [u32])
 
 // Places as signed numbers.
 pub fn signed(places: [usize; MEMBERS]) -> [i64; MEMBERS]
-    requires { ⌜ ((i : ℕ) → getD places i 0 ≤ 32) ⌝ }
+    requires { ⌜ ((i : ℕ) → getD places i 0 ≤ mostMembers) ⌝ }
     ensures { λ r. ⌜ r ≡ map pos places ⌝ }
 {
     let mut all = [0i64; MEMBERS];
@@ -55,8 +56,8 @@ pub fn numbers(a: [i64; MEMBERS], b: [i64; MEMBERS]) -> [i64; 64]
 
 // Writes a list of signed numbers from `at` on.
 fn put_numbers(from: [i64; MEMBERS], at: usize, out: &mut [i64])
-    requires { ⌜ (at + 32 ≤ length (now out)) × AllFit from ⌝ }
-    ensures { λ _. ⌜ now (out .exit) ≡ paste (now (out .entry)) at from 32 ⌝ }
+    requires { ⌜ (at + mostMembers ≤ length (now out)) × AllFit from ⌝ }
+    ensures { λ _. ⌜ now (out .exit) ≡ paste (now (out .entry)) at from mostMembers ⌝ }
 {
     for i in 0..MEMBERS {
         out[at + i] = from[i];

@@ -10,12 +10,13 @@ ghost use Rattle.rules.specs.Strata.{strata};
 ghost use Rattle.rules.specs.Naming.{naming, nameBuffer};
 ghost use Rattle.rules.specs.Table.{skeletonTable, tableBuffer};
 ghost use Rattle.naming.specs.Answers.{kindOf};
-ghost use Rattle.rachdoum.specs.Numbers.{readingRefusal, readingNumbers, plotDesignNumbers, fullDesignNumbers, relationNumbers, strataNumbers, statedKind, nameNumbers, textNumbers};
+ghost use Rattle.rachdoum.specs.Numbers.{readingRefusal, readingNumbers, plotDesignNumbers, fullDesignNumbers, relationNumbers, strataNumbers, statedKind, namingNumbers, textNumbers};
 
 mod gather;
 
 use design::FullDesign;
 use design::PlotDesign;
+use limits::Level;
 use naming::Kind;
 use naming::Named;
 use sheet::Reading;
@@ -23,7 +24,11 @@ use table::Printed;
 
 // Questions 1 to 5. The answer: plots, plot columns, treatment columns.
 #[no_mangle]
-pub extern "C" fn rachdoum_read_sheet(text: &[u8], levels: &mut [u16], answer: &mut [u64; 3]) -> u32
+pub extern "C" fn rachdoum_read_sheet(
+    text: &[u8],
+    levels: &mut [Level],
+    answer: &mut [u64; 3],
+) -> u32
     ensures refusal { λ r. ⌜ r ≡ readingRefusal (reading (now (text .entry)) (now (levels .entry))) ⌝ }
     ensures table { λ _. ⌜ now (levels .exit) ≡ levelsAfter (reading (now (text .entry)) (now (levels .entry))) (now (text .entry)) (now (levels .entry)) ⌝ }
     ensures numbers { λ _. ⌜ now (answer .exit) ≡ readingNumbers (reading (now (text .entry)) (now (levels .entry))) ⌝ }
@@ -48,7 +53,7 @@ pub extern "C" fn rachdoum_read_sheet(text: &[u8], levels: &mut [u16], answer: &
 // Questions 6 to 10. The answer: the first place, the second place, the size of the family written.
 #[no_mangle]
 pub extern "C" fn rachdoum_plot_design(
-    levels: &[u16],
+    levels: &[Level],
     plots: usize,
     columns: usize,
     family: &mut [u8],
@@ -74,7 +79,7 @@ pub extern "C" fn rachdoum_plot_design(
 // Questions 6 to 14. The answer: the first place, the second place, the sizes of the plot and the treatment family written.
 #[no_mangle]
 pub extern "C" fn rachdoum_full_design(
-    levels: &[u16],
+    levels: &[Level],
     plots: usize,
     plot_columns: usize,
     treatment_columns: usize,
@@ -198,7 +203,7 @@ fn stated_kind(kind: u32) -> Kind
 #[no_mangle]
 pub extern "C" fn rachdoum_name(
     text: &[u8],
-    levels: &[u16],
+    levels: &[Level],
     family: &[u8],
     plots: usize,
     size: usize,
@@ -209,7 +214,7 @@ pub extern "C" fn rachdoum_name(
 ) -> u32
     ensures refusal { λ r. ⌜ r ≡ naming (statedKind kind) (now (text .entry)) (now (levels .entry)) (now (family .entry)) plots size place (length (now (name .entry))) .refusal ⌝ }
     ensures buffer { λ _. ⌜ now (name .exit) ≡ nameBuffer (now (name .entry)) (naming (statedKind kind) (now (text .entry)) (now (levels .entry)) (now (family .entry)) plots size place (length (now (name .entry)))) ⌝ }
-    ensures numbers { λ _. ⌜ now (answer .exit) ≡ nameNumbers (naming (statedKind kind) (now (text .entry)) (now (levels .entry)) (now (family .entry)) plots size place (length (now (name .entry)))) ⌝ }
+    ensures numbers { λ _. ⌜ now (answer .exit) ≡ namingNumbers (naming (statedKind kind) (now (text .entry)) (now (levels .entry)) (now (family .entry)) plots size place (length (now (name .entry)))) ⌝ }
 {
     let stated = stated_kind(kind);
     let found = naming::member_name(text, levels, family, plots, size, stated, place, name);

@@ -6,7 +6,7 @@ use mathlib.Core.Path.{_≡_}
 use Prim.Native.Nat.{ℕ, zero, suc, _+_, _≤_}
 use lib.Dec.{eqb, ltb}
 use lib.ListN.{length, getD, drop}
-use Rattle.rules.specs.Sheet.{Field, tab, newline, all, upTo, has, fields, lines, isColumn, isLevel, isRow, isPlotLine, decimal, decimalFrom, plotMark, treatmentMark}
+use Rattle.rules.specs.Sheet.{Field, tab, newline, all, upTo, has, fields, lines, header, isColumn, isLevel, isRow, isPlotLine, decimal, decimalFrom, plotMark, treatmentMark}
 use Rattle.rules.specs.Limits.{tableCells, mostFields, mostPlots}
 use Rattle.sheet.specs.declared.field.FieldLevel.{FieldLevel}
 
@@ -31,6 +31,10 @@ columnThere xs = ltb (length (fieldOf xs)) (length xs) && isColumn (fieldOf xs)
 unfoldable pub columnEnd : ℕ → List ℕ → ℕ
 unfolding columnThere fieldOf
 columnEnd at xs = elim (columnThere xs) [ true ↦ at + length (fieldOf xs) | false ↦ 0 ]
+
+-- a line that byte 10 ends, of columns only
+abbrev pub OfColumns : List ℕ → Type 0
+OfColumns xs = (has newline xs ≡ true) × (all isColumn (header xs) ≡ true)
 
 -- ---- later lines
 

@@ -8,6 +8,7 @@ ghost use lib.Seq.{slice};
 ghost use Rattle.rules.specs.Sheet.{tab, newline, letter as isLetter, letterOrDigit, sameBytes};
 ghost use Rattle.sheet.specs.Walk.{fieldOf, levelThen, noLevel, isMark};
 use limits::LEVEL;
+use limits::Level;
 
 // A level has at most five digits, and a byte follows.
 const PAST_DIGITS: usize = 6;
@@ -33,7 +34,7 @@ pub fn end_of(text: &[u8], start: usize) -> usize
 // A level and the place after the byte that follows it; 0 and 0 where these are not there.
 pub struct FieldLevel {
     pub end: usize,
-    pub level: u16,
+    pub level: Level,
 }
 
 // Reads the level that starts at `start` and the byte `stop` after it, up to the first byte that tells that they are not there.
@@ -67,7 +68,7 @@ pub fn level_then(text: &[u8], start: usize, stop: u8) -> FieldLevel
             }
             return FieldLevel {
                 end: at + 1,
-                level: v as u16,
+                level: v as Level,
             };
         }
         if b'9' < x {

@@ -1,13 +1,12 @@
 // The first line.
 use crate::field;
 ghost use mathlib.Core.Path.{_≡_};
-ghost use mathlib.Core.Bool.{true};
 ghost use mathlib.Core.List.{[]};
 ghost use Prim.Native.Nat.{_+_, _<_, _≤_, min};
 ghost use lib.ListN.{length, drop};
 ghost use lib.Seq.{slice};
-ghost use Rattle.rules.specs.Sheet.{newline, has, all, isColumn, isKind, newName, namesDiffer, header};
-ghost use Rattle.sheet.specs.Walk.{columnEnd};
+ghost use Rattle.rules.specs.Sheet.{isKind, newName, namesDiffer, header};
+ghost use Rattle.sheet.specs.Walk.{columnEnd, OfColumns};
 ghost use Rattle.sheet.specs.Answers.{noHeader, marked, headed, columnSpan};
 use limits::COLUMNS;
 use limits::FIELDS;
@@ -139,7 +138,7 @@ fn marks(text: &[u8]) -> Header
 
 // Whether no two names of the first line are equal.
 fn names_differ(text: &[u8]) -> bool
-    requires { ⌜ (has newline (now text) ≡ true) × (all isColumn (header (now text)) ≡ true) ⌝ }
+    requires { ⌜ OfColumns (now text) ⌝ }
     ensures { λ r. ⌜ r ≡ namesDiffer (header (now (text .entry))) ⌝ }
 {
     let mut at = 0;
@@ -157,7 +156,7 @@ fn names_differ(text: &[u8]) -> bool
 
 // Whether no field after the one from `start` to `stop` has its name.
 fn new_name(text: &[u8], start: usize, stop: usize) -> bool
-    requires { ⌜ (start + 2 ≤ stop) × (stop < length (now text)) × (has newline (drop (stop + 1) (now text)) ≡ true) × (all isColumn (header (drop (stop + 1) (now text))) ≡ true) ⌝ }
+    requires { ⌜ (start + 2 ≤ stop) × (stop < length (now text)) × OfColumns (drop (stop + 1) (now text)) ⌝ }
     ensures { λ r. ⌜ r ≡ newName (slice start stop (now (text .entry))) (header (drop (stop + 1) (now (text .entry)))) ⌝ }
 {
     let mut at = stop + 1;

@@ -13,6 +13,7 @@ pub use header::Span;
 pub use header::column_name;
 pub use header::read_header;
 use limits::LEVELS;
+use limits::Level;
 use limits::TEXT;
 
 // How many plots, plot columns and treatment columns a sheet has.
@@ -29,7 +30,7 @@ pub enum Reading {
 }
 
 // Reads a sheet into the level table: questions 1 to 5. A refused reading writes nothing.
-pub fn read_sheet(text: &[u8], levels: &mut [u16]) -> Reading
+pub fn read_sheet(text: &[u8], levels: &mut [Level]) -> Reading
     ensures answer { λ r. ⌜ outcomeOf r ≡ reading (now (text .entry)) (now (levels .entry)) ⌝ }
     ensures table { λ _. ⌜ now (levels .exit) ≡ levelsAfter (reading (now (text .entry)) (now (levels .entry))) (now (text .entry)) (now (levels .entry)) ⌝ }
 {

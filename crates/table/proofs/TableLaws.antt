@@ -51,13 +51,14 @@ pub accepted-named : (text : List ℕ) (n : ℕ) (levels : List ℕ) (P R : Fami
 unfolding acceptedRows namedRows tableOf
 accepted-named text n levels P R = refl
 
--- the names of its plot members worked out, and those of its treatment members
-pub accepted-from : (text : List ℕ) (n : ℕ) → n ≤ 240 → (levels b : List ℕ) (p : ℕ) (c : List ℕ) (r : ℕ) (ps : List (List ℕ)) → ps ≡ namesFrom plot text n levels (membersOf n b p) 1 p
-    → namedRows n (membersOf n b p) (membersOf n c r) ps (namesFrom treatment text n levels (membersOf n c r) 1 r) ≡ acceptedRows text n levels (membersOf n b p) (membersOf n c r)
-accepted-from text n few levels b p c r ps e =
+-- the names of its members worked out
+pub accepted-from : (text : List ℕ) (n : ℕ) → n ≤ 240 → (levels b : List ℕ) (p : ℕ) (c : List ℕ) (r : ℕ) (ps ts : List (List ℕ))
+    → ps ≡ namesFrom plot text n levels (membersOf n b p) 1 p → ts ≡ namesFrom treatment text n levels (membersOf n c r) 1 r
+    → namedRows n (membersOf n b p) (membersOf n c r) ps ts ≡ acceptedRows text n levels (membersOf n b p) (membersOf n c r)
+accepted-from text n few levels b p c r ps ts e f =
     let P = membersOf n b p in
     let R = membersOf n c r in
-    ap₂ (λ (x y : List (List ℕ)). namedRows n P R x y) (e ∙ ap (namesFrom plot text n levels P 1) (sym (length-members n few b p))) (ap (namesFrom treatment text n levels R 1) (sym (length-members n few c r)))
+    ap₂ (λ (x y : List (List ℕ)). namedRows n P R x y) (e ∙ ap (namesFrom plot text n levels P 1) (sym (length-members n few b p))) (f ∙ ap (namesFrom treatment text n levels R 1) (sym (length-members n few c r)))
     ∙ sym (accepted-named text n levels P R)
 
 -- degrees of freedom, strata and residuals as they are answered

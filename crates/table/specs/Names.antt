@@ -8,22 +8,31 @@ use lib.Dec.{eqb}
 use lib.IntN.{ℤ}
 use lib.ListN.{length, getD, take, drop}
 use Rattle.rules.specs.Lists.{tabulate, decimalOf}
-use Rattle.rules.specs.Sheet.{question3}
-use Rattle.rules.specs.Naming.{Kind, nameOn}
+use Rattle.rules.specs.Limits.{mostPlots, tableCells, familyBytes, nameBytes}
+use Rattle.rules.specs.Family.{membersOf}
+use Rattle.rules.specs.Sheet.{countKind, header, question3}
+use Rattle.rules.specs.Naming.{Kind, markOf, nameOn}
 use Rattle.families.specs.Lent.{columnAt}
-use Rattle.rules.specs.Table.{dash, Row, signed, isZero, wordResidual, wordStratum, wordSource, wordDf, wordAll, wordTotal}
+use Rattle.sheet.specs.declared.Counts.{Counts}
+use Rattle.naming.specs.declared.Kind.{Kind as Stated}
+use Rattle.naming.specs.Answers.{kindOf, countIn}
+use Rattle.rules.specs.Table.{dash, namesFrom, Row, signed, isZero, wordResidual, wordStratum, wordSource, wordDf, wordAll, wordTotal}
 
 -- the name of the member at a place, from 0
 unfoldable pub nameIn : List ℕ → List ℕ → ℕ → List ℕ
-nameIn names lengths j = take (getD lengths j 0) (drop (96 * j) names)
+nameIn names lengths j = take (getD lengths j 0) (drop (nameBytes * j) names)
 
 -- what naming members of a family buffer asks: a first line of the form, a level table and a buffer long enough
 pub record Nameable (text levels buffer : List ℕ) (n : ℕ) : Type 0 where
   pub form : question3 text ≡ true
   pub some : 1 ≤ n
-  pub few : n ≤ 240
-  pub table : 2880 ≤ length levels
-  pub long : 7680 ≤ length buffer
+  pub few : n ≤ mostPlots
+  pub table : tableCells ≤ length levels
+  pub long : familyBytes ≤ length buffer
+
+-- the same by a sheet's counts, which are those of its first line
+abbrev pub NameableBy : Stated → List ℕ → List ℕ → Counts → List ℕ → Type 0
+NameableBy kind text levels counts buffer = Nameable text levels buffer (counts .plots) × (countIn kind counts ≡ countKind (markOf (kindOf kind)) (header text))
 
 -- the name at a place of a family buffer, from 1; `-` at place 0
 unfoldable pub placedName : Kind → List ℕ → ℕ → List ℕ → List ℕ → ℕ → List ℕ
@@ -36,11 +45,15 @@ unfoldable pub namesIn : List ℕ → List ℕ → ℕ → List (List ℕ)
 unfolding tabulate nameIn
 namesIn names lengths size = tabulate (nameIn names lengths) size
 
+-- the names of the first members of a lent family
+abbrev pub familyNames : Stated → Counts → ℕ → List ℕ → List ℕ → List ℕ → List (List ℕ)
+familyNames kind counts size text levels family = namesFrom (kindOf kind) text (counts .plots) levels (membersOf (counts .plots) family size) 1 size
+
 -- there is room for the names of so many members, and no name is longer than 96 bytes
 pub record NameSlots (names lengths : List ℕ) (size : ℕ) : Type 0 where
-  pub room : 96 * size ≤ length names
+  pub room : nameBytes * size ≤ length names
   pub counted : size ≤ length lengths
-  pub short : (j : ℕ) → j < size → getD lengths j 0 ≤ 96
+  pub short : (j : ℕ) → j < size → getD lengths j 0 ≤ nameBytes
 
 -- a place is among those of the strata
 unfoldable pub among : ℕ → List ℕ → Bool

@@ -4,9 +4,10 @@ ghost use mathlib.Core.Bool.{false, true};
 ghost use mathlib.Core.List.{[], _∷_, _++_};
 ghost use Prim.Native.Nat.{_*_, _≤_};
 ghost use lib.ListN.{length, take};
+ghost use Rattle.rules.specs.Limits.{mostMembers};
 ghost use Rattle.rules.specs.Table.{rowBytes, rowsBytes, signed, sourceRows, residualRows, stratumRows, strataRows, refusedRow, wordAll, wordTotal};
 ghost use Rattle.rules.specs.Lists.{decimalOf};
-ghost use Rattle.decimal.specs.Writing.{written, placeAfter};
+ghost use Rattle.naming.specs.Writing.{Wrote};
 ghost use Rattle.table.specs.Names.{nameIn, namesIn, among, residualOf, tableOf, NameSlots};
 use decimal::write_byte;
 use decimal::write_bytes;
@@ -17,8 +18,7 @@ use limits::NAME;
 
 // Writes a field and the tab after it.
 fn put_field(field: &[u8], out: &mut [u8], at: usize) -> usize
-    ensures answer { λ r. ⌜ r ≡ placeAfter (now (out .entry)) at (now (field .entry) ++ 9 ∷ []) ⌝ }
-    ensures bytes { λ _. ⌜ now (out .exit) ≡ written (now (out .entry)) at (now (field .entry) ++ 9 ∷ []) ⌝ }
+    ensures { λ r. ⌜ Wrote (now (out .entry)) at (now (field .entry) ++ 9 ∷ []) (now (out .exit)) r ⌝ }
 {
     let next = write_bytes(field, out, at);
     write_byte(b'\t', out, next)
@@ -26,8 +26,7 @@ fn put_field(field: &[u8], out: &mut [u8], at: usize) -> usize
 
 // Writes a number and the end of the line after it.
 fn put_last(d: i64, out: &mut [u8], at: usize) -> usize
-    ensures answer { λ r. ⌜ r ≡ placeAfter (now (out .entry)) at (signed d ++ 10 ∷ []) ⌝ }
-    ensures bytes { λ _. ⌜ now (out .exit) ≡ written (now (out .entry)) at (signed d ++ 10 ∷ []) ⌝ }
+    ensures { λ r. ⌜ Wrote (now (out .entry)) at (signed d ++ 10 ∷ []) (now (out .exit)) r ⌝ }
 {
     let next = write_signed(d, out, at);
     write_byte(b'\n', out, next)
@@ -35,8 +34,7 @@ fn put_last(d: i64, out: &mut [u8], at: usize) -> usize
 
 // Writes a line: stratum, source, degrees of freedom.
 pub fn put_row(stratum: &[u8], source: &[u8], d: i64, out: &mut [u8], at: usize) -> usize
-    ensures answer { λ r. ⌜ r ≡ placeAfter (now (out .entry)) at (rowBytes (now (stratum .entry) ∷ now (source .entry) ∷ signed d ∷ [])) ⌝ }
-    ensures bytes { λ _. ⌜ now (out .exit) ≡ written (now (out .entry)) at (rowBytes (now (stratum .entry) ∷ now (source .entry) ∷ signed d ∷ [])) ⌝ }
+    ensures { λ r. ⌜ Wrote (now (out .entry)) at (rowBytes (now (stratum .entry) ∷ now (source .entry) ∷ signed d ∷ [])) (now (out .exit)) r ⌝ }
 {
     let second = put_field(stratum, out, at);
     let third = put_field(source, out, second);
@@ -53,8 +51,7 @@ fn put_source(
     out: &mut [u8],
     at: usize,
 ) -> usize
-    ensures answer { λ r. ⌜ r ≡ placeAfter (now (out .entry)) at (rowsBytes (sourceRows (now (stratum .entry)) i (now (name .entry) ∷ []) (place ∷ []) (d ∷ []))) ⌝ }
-    ensures bytes { λ _. ⌜ now (out .exit) ≡ written (now (out .entry)) at (rowsBytes (sourceRows (now (stratum .entry)) i (now (name .entry) ∷ []) (place ∷ []) (d ∷ []))) ⌝ }
+    ensures { λ r. ⌜ Wrote (now (out .entry)) at (rowsBytes (sourceRows (now (stratum .entry)) i (now (name .entry) ∷ []) (place ∷ []) (d ∷ []))) (now (out .exit)) r ⌝ }
 {
     if place != i {
         return at;
@@ -74,9 +71,8 @@ fn put_sources(
     out: &mut [u8],
     at: usize,
 ) -> usize
-    requires { ⌜ (size ≤ 32) × NameSlots (now names) (now lengths) size × (length (now places) ≡ 32) × (length (now degrees) ≡ 32) ⌝ }
-    ensures answer { λ r. ⌜ r ≡ placeAfter (now (out .entry)) at (rowsBytes (sourceRows (now (stratum .entry)) i (namesIn (now (names .entry)) (now (lengths .entry)) size) (take size (now (places .entry))) (take size (now (degrees .entry))))) ⌝ }
-    ensures bytes { λ _. ⌜ now (out .exit) ≡ written (now (out .entry)) at (rowsBytes (sourceRows (now (stratum .entry)) i (namesIn (now (names .entry)) (now (lengths .entry)) size) (take size (now (places .entry))) (take size (now (degrees .entry))))) ⌝ }
+    requires { ⌜ (size ≤ mostMembers) × NameSlots (now names) (now lengths) size × (length (now places) ≡ mostMembers) × (length (now degrees) ≡ mostMembers) ⌝ }
+    ensures { λ r. ⌜ Wrote (now (out .entry)) at (rowsBytes (sourceRows (now (stratum .entry)) i (namesIn (now (names .entry)) (now (lengths .entry)) size) (take size (now (places .entry))) (take size (now (degrees .entry))))) (now (out .exit)) r ⌝ }
 {
     let mut next = at;
     for j in 0..size {
@@ -90,7 +86,7 @@ fn put_sources(
 
 // Whether a treatment member has the stratum at place `i`.
 fn has_source(i: usize, size: usize, places: &[usize; MEMBERS]) -> bool
-    requires { ⌜ (size ≤ 32) × (length (now places) ≡ 32) ⌝ }
+    requires { ⌜ (size ≤ mostMembers) × (length (now places) ≡ mostMembers) ⌝ }
     ensures { λ r. ⌜ r ≡ among i (take size (now (places .entry))) ⌝ }
 {
     for j in 0..size {
@@ -103,8 +99,7 @@ fn has_source(i: usize, size: usize, places: &[usize; MEMBERS]) -> bool
 
 // Writes the residual's line, if the stratum has a treatment member and the residual is not 0.
 fn put_residual(stratum: &[u8], found: bool, residual: i64, out: &mut [u8], at: usize) -> usize
-    ensures answer { λ r. ⌜ r ≡ placeAfter (now (out .entry)) at (rowsBytes (residualOf (now (stratum .entry)) found residual)) ⌝ }
-    ensures bytes { λ _. ⌜ now (out .exit) ≡ written (now (out .entry)) at (rowsBytes (residualOf (now (stratum .entry)) found residual)) ⌝ }
+    ensures { λ r. ⌜ Wrote (now (out .entry)) at (rowsBytes (residualOf (now (stratum .entry)) found residual)) (now (out .exit)) r ⌝ }
 {
     if !found {
         return at;
@@ -129,9 +124,8 @@ fn put_stratum(
     out: &mut [u8],
     at: usize,
 ) -> usize
-    requires { ⌜ (size ≤ 32) × NameSlots (now names) (now lengths) size × (length (now places) ≡ 32) × (length (now degrees) ≡ 32) ⌝ }
-    ensures answer { λ r. ⌜ r ≡ placeAfter (now (out .entry)) at (rowsBytes (stratumRows (now (stratum .entry)) i (namesIn (now (names .entry)) (now (lengths .entry)) size) (take size (now (places .entry))) (take size (now (degrees .entry))) total residual)) ⌝ }
-    ensures bytes { λ _. ⌜ now (out .exit) ≡ written (now (out .entry)) at (rowsBytes (stratumRows (now (stratum .entry)) i (namesIn (now (names .entry)) (now (lengths .entry)) size) (take size (now (places .entry))) (take size (now (degrees .entry))) total residual)) ⌝ }
+    requires { ⌜ (size ≤ mostMembers) × NameSlots (now names) (now lengths) size × (length (now places) ≡ mostMembers) × (length (now degrees) ≡ mostMembers) ⌝ }
+    ensures { λ r. ⌜ Wrote (now (out .entry)) at (rowsBytes (stratumRows (now (stratum .entry)) i (namesIn (now (names .entry)) (now (lengths .entry)) size) (take size (now (places .entry))) (take size (now (degrees .entry))) total residual)) (now (out .exit)) r ⌝ }
 {
     let second = put_sources(stratum, i, names, lengths, size, places, degrees, out, at);
     let found = has_source(i, size, places);
@@ -154,9 +148,8 @@ pub fn put_strata(
     out: &mut [u8],
     at: usize,
 ) -> usize
-    requires { ⌜ (size ≤ 32) × NameSlots (now names) (now lengths) size × (count ≤ 32) × NameSlots (now strata) (now «strata_lengths») count × (length (now places) ≡ 32) × (length (now degrees) ≡ 32) × (length (now totals) ≡ 32) × (length (now residuals) ≡ 32) ⌝ }
-    ensures answer { λ r. ⌜ r ≡ placeAfter (now (out .entry)) at (rowsBytes (strataRows 1 (namesIn (now (strata .entry)) (now («strata_lengths» .entry)) count) (take count (now (totals .entry))) (take count (now (residuals .entry))) (namesIn (now (names .entry)) (now (lengths .entry)) size) (take size (now (places .entry))) (take size (now (degrees .entry))))) ⌝ }
-    ensures bytes { λ _. ⌜ now (out .exit) ≡ written (now (out .entry)) at (rowsBytes (strataRows 1 (namesIn (now (strata .entry)) (now («strata_lengths» .entry)) count) (take count (now (totals .entry))) (take count (now (residuals .entry))) (namesIn (now (names .entry)) (now (lengths .entry)) size) (take size (now (places .entry))) (take size (now (degrees .entry))))) ⌝ }
+    requires { ⌜ (size ≤ mostMembers) × NameSlots (now names) (now lengths) size × (count ≤ mostMembers) × NameSlots (now strata) (now «strata_lengths») count × (length (now places) ≡ mostMembers) × (length (now degrees) ≡ mostMembers) × (length (now totals) ≡ mostMembers) × (length (now residuals) ≡ mostMembers) ⌝ }
+    ensures { λ r. ⌜ Wrote (now (out .entry)) at (rowsBytes (strataRows 1 (namesIn (now (strata .entry)) (now («strata_lengths» .entry)) count) (take count (now (totals .entry))) (take count (now (residuals .entry))) (namesIn (now (names .entry)) (now (lengths .entry)) size) (take size (now (places .entry))) (take size (now (degrees .entry))))) (now (out .exit)) r ⌝ }
 {
     let mut next = at;
     for i in 0..count {
@@ -196,9 +189,8 @@ pub fn put_table(
     degrees: &[i64; MEMBERS],
     out: &mut [u8],
 ) -> usize
-    requires { ⌜ (size ≤ 32) × NameSlots (now names) (now lengths) size × (count ≤ 32) × NameSlots (now strata) (now «strata_lengths») count × (length (now places) ≡ 32) × (length (now degrees) ≡ 32) × (length (now totals) ≡ 32) × (length (now residuals) ≡ 32) ⌝ }
-    ensures answer { λ r. ⌜ r ≡ placeAfter (now (out .entry)) 0 (rowsBytes (tableOf plots (strataRows 1 (namesIn (now (strata .entry)) (now («strata_lengths» .entry)) count) (take count (now (totals .entry))) (take count (now (residuals .entry))) (namesIn (now (names .entry)) (now (lengths .entry)) size) (take size (now (places .entry))) (take size (now (degrees .entry)))))) ⌝ }
-    ensures bytes { λ _. ⌜ now (out .exit) ≡ written (now (out .entry)) 0 (rowsBytes (tableOf plots (strataRows 1 (namesIn (now (strata .entry)) (now («strata_lengths» .entry)) count) (take count (now (totals .entry))) (take count (now (residuals .entry))) (namesIn (now (names .entry)) (now (lengths .entry)) size) (take size (now (places .entry))) (take size (now (degrees .entry)))))) ⌝ }
+    requires { ⌜ (size ≤ mostMembers) × NameSlots (now names) (now lengths) size × (count ≤ mostMembers) × NameSlots (now strata) (now «strata_lengths») count × (length (now places) ≡ mostMembers) × (length (now degrees) ≡ mostMembers) × (length (now totals) ≡ mostMembers) × (length (now residuals) ≡ mostMembers) ⌝ }
+    ensures { λ r. ⌜ Wrote (now (out .entry)) 0 (rowsBytes (tableOf plots (strataRows 1 (namesIn (now (strata .entry)) (now («strata_lengths» .entry)) count) (take count (now (totals .entry))) (take count (now (residuals .entry))) (namesIn (now (names .entry)) (now (lengths .entry)) size) (take size (now (places .entry))) (take size (now (degrees .entry)))))) (now (out .exit)) r ⌝ }
 {
     let second = write_bytes(b"stratum\tsource\tdf\n", out, 0);
     let last = put_strata(
@@ -220,8 +212,7 @@ pub fn put_table(
 
 // Writes the last line: the number of plots.
 fn put_plots(plots: usize, out: &mut [u8], at: usize) -> usize
-    ensures answer { λ r. ⌜ r ≡ placeAfter (now (out .entry)) at (rowBytes (wordAll ∷ wordTotal ∷ decimalOf plots ∷ [])) ⌝ }
-    ensures bytes { λ _. ⌜ now (out .exit) ≡ written (now (out .entry)) at (rowBytes (wordAll ∷ wordTotal ∷ decimalOf plots ∷ [])) ⌝ }
+    ensures { λ r. ⌜ Wrote (now (out .entry)) at (rowBytes (wordAll ∷ wordTotal ∷ decimalOf plots ∷ [])) (now (out .exit)) r ⌝ }
 {
     let number = write_bytes(b"=all\t=total\t", out, at);
     let end = write_decimal(plots, out, number);
@@ -230,8 +221,7 @@ fn put_plots(plots: usize, out: &mut [u8], at: usize) -> usize
 
 // Writes the one line of a refusal.
 pub fn put_refused(number: usize, first: &[u8], second: &[u8], out: &mut [u8]) -> usize
-    ensures answer { λ r. ⌜ r ≡ placeAfter (now (out .entry)) 0 (rowsBytes (refusedRow number (now (first .entry)) (now (second .entry)) ∷ [])) ⌝ }
-    ensures bytes { λ _. ⌜ now (out .exit) ≡ written (now (out .entry)) 0 (rowsBytes (refusedRow number (now (first .entry)) (now (second .entry)) ∷ [])) ⌝ }
+    ensures { λ r. ⌜ Wrote (now (out .entry)) 0 (rowsBytes (refusedRow number (now (first .entry)) (now (second .entry)) ∷ [])) (now (out .exit)) r ⌝ }
 {
     let a = write_bytes(b"refused\t", out, 0);
     let b = write_decimal(number, out, a);

@@ -15,24 +15,28 @@ use Rattle.rules.specs.Naming.{markOf, firstColumn, kindColumns, nameAt, NameAn
 use Rattle.rules.proofs.Buffer.{length-members, member-is}
 use Rattle.rules.proofs.WellFormed.{accepted}
 use Rattle.families.proofs.Lent.{part-of, formed-in}
-use Rattle.naming.specs.Answers.{kindOf, namingCounted}
+use Rattle.naming.specs.Answers.{kindOf, countIn, namingCounted}
+use Rattle.naming.specs.declared.columns.Look.{Look}
 use Rattle.naming.proofs.Tables.{length-part}
 use Rattle.naming.proofs.Entry.{few-columns, first-column, named-for, answered, refusing, naming-7, naming-15, naming-found, Ranges, ranges, ranges-fit}
 use borrow.Author.Needs.{needs}
 use Rattle.naming.proofs.from_7.Statement.{statement}
 use Rattle.naming.proofs.from_7.Tie as tie
 
+look-requires : tie.Need-look-requires
+look-requires c κs = search needs
+
 first-requires : tie.Need-first-requires
 first-requires c κs = search needs
 
 all-nonzero-requires : tie.Need-all-nonzero-requires
 all-nonzero-requires c κs =
-    let s = c .before .before .before .before .before in
+    let s = c .before .before .before .before .before .before in
     let a = s .args in
     let text = now (a .text) in
     let levels = now (a .levels) in
     let buffer = now (a .family) in
-    let n = a .plots in
+    let n = a .counts .plots in
     let k = kindOf (a .kind) in
     let out = now (a .name) in
     let S = membersOf n buffer (a .size) in
@@ -40,23 +44,23 @@ all-nonzero-requires c κs =
     let few = few-columns (a .kind) text (s .pre .0) in
     let low = first-column (a .kind) in
     let first : c .first .result ≡ firstColumn k = c .first .ensures in
-    let count : a .count ≡ countKind (markOf k) (header text) = s .pre .2 in
+    let count : c .before .look .result .count ≡ countKind (markOf k) (header text) = ap (λ (x : Look). x .count) (c .before .look .ensures) ∙ s .pre .2 in
     (w .few-plots, omega arith, w .table)
 
 returns : tie.Need-returns
 unfolding kindColumns
 returns c =
-    let s = c .before .before .before .before .before .before .before in
+    let s = c .before .before .before .before .before .before .before .before in
     let a = s .args in
     let text = now (a .text) in
     let levels = now (a .levels) in
     let buffer = now (a .family) in
-    let n = a .plots in
+    let n = a .counts .plots in
     let k = kindOf (a .kind) in
     let out = now (a .name) in
     let S = membersOf n buffer (a .size) in
     let w = ranges n (a .size) (a .place) (length levels) (length buffer) (length out) (s .pre .1) in
-    let asked : allNonzero (kindColumns k text n levels) ≡ c .before .all-nonzero .result = sym (c .before .all-nonzero .ensures ∙ ap₂ (λ (i m : ℕ). allNonzero (columnsFrom n levels i m)) (c .before .before .first .ensures) (s .pre .2)) in
+    let asked : allNonzero (kindColumns k text n levels) ≡ c .before .all-nonzero .result = sym (c .before .all-nonzero .ensures ∙ ap₂ (λ (i m : ℕ). allNonzero (columnsFrom n levels i m)) (c .before .before .first .ensures) (ap (λ (x : Look). x .count) (c .before .before .before .look .ensures) ∙ s .pre .2)) in
     let e = naming-7 k text n levels S (a .place) (asked ∙ not-true _ (c .if1 .taken)) in
     refusing 7 out _ (omega arith) e
 
@@ -66,32 +70,32 @@ well-formed-requires c κs = search needs
 returns-2 : tie.Need-returns-2
 unfolding kindColumns
 returns-2 c =
-    let s = c .before .before .before .before .before .before .before .before .before in
+    let s = c .before .before .before .before .before .before .before .before .before .before in
     let a = s .args in
     let text = now (a .text) in
     let levels = now (a .levels) in
     let buffer = now (a .family) in
-    let n = a .plots in
+    let n = a .counts .plots in
     let k = kindOf (a .kind) in
     let out = now (a .name) in
     let S = membersOf n buffer (a .size) in
     let w = ranges n (a .size) (a .place) (length levels) (length buffer) (length out) (s .pre .1) in
-    let asked : allNonzero (kindColumns k text n levels) ≡ c .before .before .before .all-nonzero .result = sym (c .before .before .before .all-nonzero .ensures ∙ ap₂ (λ (i m : ℕ). allNonzero (columnsFrom n levels i m)) (c .before .before .before .before .first .ensures) (s .pre .2)) in
+    let asked : allNonzero (kindColumns k text n levels) ≡ c .before .before .before .all-nonzero .result = sym (c .before .before .before .all-nonzero .ensures ∙ ap₂ (λ (i m : ℕ). allNonzero (columnsFrom n levels i m)) (c .before .before .before .before .first .ensures) (ap (λ (x : Look). x .count) (c .before .before .before .before .before .look .ensures) ∙ s .pre .2)) in
     let f = sym (c .before .well-formed .ensures ∙ formed-in n buffer (a .size) (w .few-plots) (w .family)) ∙ not-true _ (c .if2 .taken) in
     let e = naming-15 k text n levels S (a .place) (asked ∙ not-false _ (c .before .before .if1 .left)) f in
     refusing 15 out _ (omega arith) e
 
 -- the place is one of 32, within the family
 bounds : (c : tie.Else2)
-    → Ranges (c .before .before .before .before .before .before .before .before .before .args .plots) (c .before .before .before .before .before .before .before .before .before .args .size) (c .before .before .before .before .before .before .before .before .before .args .place) (length (now (c .before .before .before .before .before .before .before .before .before .args .levels))) (length (now (c .before .before .before .before .before .before .before .before .before .args .family))) (length (now (c .before .before .before .before .before .before .before .before .before .args .name)))
-    × (c .before .before .before .before .before .before .before .before .before .args .place ≤ 32)
+    → Ranges (c .before .before .before .before .before .before .before .before .before .before .args .counts .plots) (c .before .before .before .before .before .before .before .before .before .before .args .size) (c .before .before .before .before .before .before .before .before .before .before .args .place) (length (now (c .before .before .before .before .before .before .before .before .before .before .args .levels))) (length (now (c .before .before .before .before .before .before .before .before .before .before .args .family))) (length (now (c .before .before .before .before .before .before .before .before .before .before .args .name)))
+    × (c .before .before .before .before .before .before .before .before .before .before .args .place ≤ 32)
 bounds c =
-    let s = c .before .before .before .before .before .before .before .before .before in
+    let s = c .before .before .before .before .before .before .before .before .before .before in
     let a = s .args in
     let text = now (a .text) in
     let levels = now (a .levels) in
     let buffer = now (a .family) in
-    let n = a .plots in
+    let n = a .counts .plots in
     let k = kindOf (a .kind) in
     let out = now (a .name) in
     let S = membersOf n buffer (a .size) in
@@ -128,17 +132,17 @@ same-length c = search needs
 returns-3 : tie.Need-returns-3
 unfolding kindColumns nameAt
 returns-3 c =
-    let s = c .before .before .before .before .before .before .before .before .before .before .before .before .before .before in
+    let s = c .before .before .before .before .before .before .before .before .before .before .before .before .before .before .before in
     let a = s .args in
     let text = now (a .text) in
     let levels = now (a .levels) in
     let buffer = now (a .family) in
-    let n = a .plots in
+    let n = a .counts .plots in
     let k = kindOf (a .kind) in
     let out = now (a .name) in
     let S = membersOf n buffer (a .size) in
     let w = ranges n (a .size) (a .place) (length levels) (length buffer) (length out) (s .pre .1) in
-    let asked : allNonzero (kindColumns k text n levels) ≡ c .before .before .before .before .before .before .before .before .all-nonzero .result = sym (c .before .before .before .before .before .before .before .before .all-nonzero .ensures ∙ ap₂ (λ (i m : ℕ). allNonzero (columnsFrom n levels i m)) (c .before .before .before .before .before .before .before .before .before .first .ensures) (s .pre .2)) in
+    let asked : allNonzero (kindColumns k text n levels) ≡ c .before .before .before .before .before .before .before .before .all-nonzero .result = sym (c .before .before .before .before .before .before .before .before .all-nonzero .ensures ∙ ap₂ (λ (i m : ℕ). allNonzero (columnsFrom n levels i m)) (c .before .before .before .before .before .before .before .before .before .first .ensures) (ap (λ (x : Look). x .count) (c .before .before .before .before .before .before .before .before .before .before .look .ensures) ∙ s .pre .2)) in
     let i = a .place - 1 in
     let b = bounds (c .before .before .before .before .before) in
     let f = sym (c .before .before .before .before .before .before .well-formed .ensures ∙ formed-in n buffer (a .size) (w .few-plots) (w .family)) ∙ not-false _ (c .before .before .before .before .before .if2 .left) in
@@ -146,16 +150,17 @@ returns-3 c =
     let is = member-is n (w .few-plots) buffer (a .size) i (omega (arith, w .first, w .last)) in
     let on : length (getD S i []) ≡ n = ap length is ∙ length-part n (240 * i) buffer (omega (arith, b .1, w .first, w .few-plots, w .family)) in
     let few = few-columns (a .kind) text (s .pre .0) in
-    let fitting = ranges-fit n (a .count) (a .size) (a .place) (length levels) (length buffer) (length out) (length (getD S i [])) w (omega (arith, s .pre .2)) on in
-    let same : namingCounted k text levels n (a .count) (take (240 * i + n - 240 * i) (drop (240 * i) buffer)) (a .place) (length out) ≡ record { refusal = 0; name = nameAt k text n levels S (a .place) } =
-    ap (λ (F : Column). namingCounted k text levels n (a .count) F (a .place) (length out)) (part-of n i buffer ∙ sym is)
-    ∙ named-for k text levels n (a .count) (getD S i []) (a .place) (length out) (s .pre .0) (s .pre .2) (b .1) fitting in
+    let fitting = ranges-fit n (countIn (a .kind) (a .counts)) (a .size) (a .place) (length levels) (length buffer) (length out) (length (getD S i [])) w (omega (arith, s .pre .2)) on in
+    let same : namingCounted k text levels n (countIn (a .kind) (a .counts)) (take (240 * i + n - 240 * i) (drop (240 * i) buffer)) (a .place) (length out) ≡ record { refusal = 0; name = nameAt k text n levels S (a .place) } =
+    ap (λ (F : Column). namingCounted k text levels n (countIn (a .kind) (a .counts)) F (a .place) (length out)) (part-of n i buffer ∙ sym is)
+    ∙ named-for k text levels n (countIn (a .kind) (a .counts)) (getD S i []) (a .place) (length out) (s .pre .0) (s .pre .2) (b .1) fitting in
     answered _ out _ _ _ (e ∙ sym same) (c .before .before .name-counted .ensures)
 
 pub from-7-spec : {M : Type 1} → statement M
 from-7-spec =
     tie.close
     (tie.spec
+    look-requires
     first-requires
     all-nonzero-requires
     returns

@@ -66,35 +66,32 @@ returns-4 c =
     let e = naming-6 k text levels buffer (a .plots) (a .size) (a .place) (length out) (good-text text (omega arith) (omega arith)) q (sym (c .before .within .ensures) ∙ not-true _ (c .if4 .taken)) in
     refusing 6 out _ (omega arith) e
 
-count-requires : tie.Need-count-requires
-count-requires c κs = search needs
-
 from-7-requires : tie.Need-from-7-requires
 from-7-requires c κs =
-    let a = c .before .before .before .before .before .before .before .before .before .before .before .before .args in
+    let a = c .before .before .before .before .before .before .before .before .before .before .before .args in
     let text = now (a .text) in
     let levels = now (a .levels) in
     let buffer = now (a .family) in
     let k = kindOf (a .kind) in
     let out = now (a .name) in
-    let h = c .before .before .before .before .before .read-header in
-    let q = headed-some text (h .result) (h .ensures) (c .before .before .before .before .if3 .left) in
-    (q, sym (c .before .before .before .within .ensures) ∙ not-false _ (c .before .before .if4 .left), c .before .count .ensures ∙ count-is (a .kind) text q (h .result) (h .ensures))
+    let h = c .before .before .before .before .read-header in
+    let q = headed-some text (h .result) (h .ensures) (c .before .before .before .if3 .left) in
+    (q, sym (c .before .before .within .ensures) ∙ not-false _ (c .before .if4 .left), count-is (a .kind) text q (h .result) (h .ensures) (a .plots))
 
 same-length : tie.Need-same-length
 same-length c = search needs
 
 returns-5 : tie.Need-returns-5
 returns-5 c =
-    let a = c .before .before .before .before .before .before .before .before .before .before .before .before .before .before .before .args in
+    let a = c .before .before .before .before .before .before .before .before .before .before .before .before .before .before .args in
     let text = now (a .text) in
     let levels = now (a .levels) in
     let buffer = now (a .family) in
     let k = kindOf (a .kind) in
     let out = now (a .name) in
-    let h = c .before .before .before .before .before .before .before .before .read-header in
-    let q = headed-some text (h .result) (h .ensures) (c .before .before .before .before .before .before .before .if3 .left) in
-    let e = naming-on k text levels buffer (a .plots) (a .size) (a .place) (length out) (good-text text (omega arith) (omega arith)) q (sym (c .before .before .before .before .before .before .within .ensures) ∙ not-false _ (c .before .before .before .before .before .if4 .left)) in
+    let h = c .before .before .before .before .before .before .before .read-header in
+    let q = headed-some text (h .result) (h .ensures) (c .before .before .before .before .before .before .if3 .left) in
+    let e = naming-on k text levels buffer (a .plots) (a .size) (a .place) (length out) (good-text text (omega arith) (omega arith)) q (sym (c .before .before .before .before .before .within .ensures) ∙ not-false _ (c .before .before .before .before .if4 .left)) in
     let r = c .before .before .from-7 .ensures in
     answered _ out _ _ _ e r
 
@@ -108,7 +105,6 @@ member-name-spec =
     returns-3
     within-requires
     returns-4
-    count-requires
     from-7-requires
     same-length
     returns-5)

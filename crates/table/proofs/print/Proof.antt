@@ -74,8 +74,7 @@ print-design-requires c κs =
       w .plots-some,
       w .plots-few,
       levels-long text (sheet .last .1 .0) (sheet .ensures .1),
-      w .plot-columns,
-      w .treatment-columns,
+      (w .plot-columns, w .treatment-columns),
     )
 
 same-length-2 : tie.Need-same-length-2

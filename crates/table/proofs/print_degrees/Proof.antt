@@ -17,8 +17,8 @@ put-table-requires : tie.Need-put-table-requires
 put-table-requires c κs =
     let s = c .before .before .before .before .before .before .before .before .before .before .before .before .before .before .before .before .before in
     let a = s .args in
-    let long = answered-lengths (a .plots) (now (a .plot-family)) (a .plot-size) (now (a .family)) (a .size) (s .pre .0) _ (c .before .before .before .before .before .analysis .ensures) in
-    (s .pre .0 .treatment-few, s .pre .2, s .pre .0 .plot-few, s .pre .1, long .0, long .1, long .2, long .3)
+    let long = answered-lengths (a .plots) (now (a .plot-family)) (a .sizes .plot) (now (a .family)) (a .sizes .treatment) (s .pre .0) _ (c .before .before .before .before .before .analysis .ensures) in
+    (s .pre .0 .treatment-few, s .pre .1 .1, s .pre .0 .plot-few, s .pre .1 .0, long .0, long .1, long .2, long .3)
 
 same-length : tie.Need-same-length
 same-length c = search needs
@@ -30,8 +30,8 @@ returns c =
     let z = c .before .before .before .before .before .before .before .before .analysis in
     wrote-as (now (a .out)) 0
     (ap rowsBytes
-    (answered-rows (a .plots) (now (a .plot-family)) (a .plot-size) (now (a .family)) (a .size) (s .pre .0) _ (z .ensures)
-    (namesIn (now (a .strata)) (now (a .strata-lengths)) (a .plot-size)) (namesIn (now (a .names)) (now (a .lengths)) (a .size))))
+    (answered-rows (a .plots) (now (a .plot-family)) (a .sizes .plot) (now (a .family)) (a .sizes .treatment) (s .pre .0) _ (z .ensures)
+    (namesIn (now (a .strata)) (now (a .strata-lengths)) (a .sizes .plot)) (namesIn (now (a .names)) (now (a .lengths)) (a .sizes .treatment))))
     (c .before .before .put-table .ensures)
 
 pub print-degrees-spec : {M : Type 1} → statement M

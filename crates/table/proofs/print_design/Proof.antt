@@ -74,12 +74,13 @@ print-refusal-requires c κs =
     let few = places-few (number f) (design f) (tells f) in
     let one : d .result .first ≡ design f .places .first = d .ensures .1 ∙ ap (λ (x : FullNumbers). x .first) (e .0) in
     let two : d .result .second ≡ design f .places .second = d .ensures .2 ∙ ap (λ (x : FullNumbers). x .second) (e .0) in (
-      plots-nameable (number f) (s .pre .1) (s .pre .2) (design f) (tells f) empty empty long long (now (s .args .text)) (now (s .args .levels)) (s .pre .0) (s .pre .3) (f .full-design .last .1 .1 .1 .1 .1 .0) (e .1 .0),
-      treatments-nameable (number f) (s .pre .1) (s .pre .2) (design f) (tells f) empty empty long long (now (s .args .text)) (now (s .args .levels)) (s .pre .0) (s .pre .3) (f .full-design .last .1 .1 .1 .1 .1 .1 .0) (e .1 .1 .0),
+      (
+        plots-nameable (number f) (s .pre .1) (s .pre .2) (design f) (tells f) empty empty long long (now (s .args .text)) (now (s .args .levels)) (s .pre .0) (s .pre .3) (f .full-design .last .1 .1 .1 .1 .1 .0) (e .1 .0),
+        treatments-nameable (number f) (s .pre .1) (s .pre .2) (design f) (tells f) empty empty long long (now (s .args .text)) (now (s .args .levels)) (s .pre .0) (s .pre .3) (f .full-design .last .1 .1 .1 .1 .1 .1 .0) (e .1 .1 .0),
+        s .pre .4,
+      ),
       omega (arith, one, few .0),
       omega (arith, two, few .1),
-      s .pre .4,
-      s .pre .5,
     )
 
 same-length : tie.Need-same-length
@@ -111,7 +112,7 @@ print-accepted-requires c κs =
     let s = start f in
     let g = c .before .before .before .before .answer .given in
     let e = f .full-design .ensures in
-    (s .pre .0, s .pre .3, accepted-in (number f) (s .pre .1) (s .pre .2) (design f) (tells f) empty empty long long (now (s .args .text)) (now (s .args .levels)) _ (sym (ap fullNumbers (g .1)) ∙ e .0) refl (f .full-design .last .1 .1 .1 .1 .1 .0) (f .full-design .last .1 .1 .1 .1 .1 .1 .0) (e .1 .0) (e .1 .1 .0), s .pre .4, s .pre .5)
+    (s .pre .0, s .pre .3, accepted-in (number f) (s .pre .1) (s .pre .2) (design f) (tells f) empty empty long long (now (s .args .text)) (now (s .args .levels)) _ (sym (ap fullNumbers (g .1)) ∙ e .0) refl (f .full-design .last .1 .1 .1 .1 .1 .0) (f .full-design .last .1 .1 .1 .1 .1 .1 .0) (e .1 .0) (e .1 .1 .0), s .pre .4)
 
 same-length-2 : tie.Need-same-length-2
 same-length-2 c = search needs

@@ -58,7 +58,7 @@ meet-requires c κs =
     let size : length S ≡ a .count = length-members n small t (a .count) in
     let is : getD S i [] ≡ columnAt n t i = member-is n small t (a .count) i less in
     let few = s .pre .0 .few in
-    (small, s .pre .0 .long, omega arith, sym (ap number is) ∙ numbered-at S (s .pre .1) i (omega arith) ∙ is, b .loop .inv .1)
+    (small, s .pre .0 .long, omega arith, (sym (ap number is) ∙ numbered-at S (s .pre .1) i (omega arith) ∙ is, b .loop .inv .1))
 
 loop-less : tie.Need-loop-less Inv-loop μ-loop
 loop-less c = omega arith

@@ -73,8 +73,8 @@ returns-2 c =
     let met : length M ≡ 240 = search needs in
     let part = column-part n (240 * a .c) M t (omega arith) (omega arith) met in
     let lP = length-part n (240 * a .c) t (omega arith) in
-    let none = s .pre .4 (c .before .before .before .if1 .left) in
-    ap (take n) (c .write-bytes .ensures .1) ∙ part ∙ sym (ap (infimum (columnAt n t (a .c))) none ∙ infimum-universal n (columnAt n t (a .c)) lP (s .pre .3))
+    let none = s .pre .3 .1 (c .before .before .before .if1 .left) in
+    ap (take n) (c .write-bytes .ensures .1) ∙ part ∙ sym (ap (infimum (columnAt n t (a .c))) none ∙ infimum-universal n (columnAt n t (a .c)) lP (s .pre .3 .0))
 
 pub meet-spec : {M : Type 1} → statement M
 meet-spec =

@@ -31,10 +31,10 @@ returns : tie.Need-returns
 unfolding bytesOf
 returns c =
     let a = c .before .before .before .before .before .before .before .before .before .before .args in
-    let n = a .n in
+    let n = a .look .plots in
     let F = now (a .member) in
-    let S = membersOf n (now (a .columns)) (a .count) in
-    let names = columnNames (a .mark) (header (now (a .text))) in
+    let S = membersOf n (now (a .columns)) (a .look .count) in
+    let names = columnNames (a .look .mark) (header (now (a .text))) in
     let out = now (a .out) in
     let x = c .before .before .before .before .before .equivalent-column .result in
     let is : x ≡ equivalentColumn F 0 S = c .before .before .before .before .before .equivalent-column .ensures in
@@ -54,10 +54,10 @@ same-length-2 c = search needs
 returns-2 : tie.Need-returns-2
 returns-2 c =
     let a = c .before .before .before .before .before .before .before .before .before .before .args in
-    let n = a .n in
+    let n = a .look .plots in
     let F = now (a .member) in
-    let S = membersOf n (now (a .columns)) (a .count) in
-    let names = columnNames (a .mark) (header (now (a .text))) in
+    let S = membersOf n (now (a .columns)) (a .look .count) in
+    let names = columnNames (a .look .mark) (header (now (a .text))) in
     let out = now (a .out) in
     let is : c .before .before .before .before .before .equivalent-column .result ≡ equivalentColumn F 0 S = c .before .before .before .before .before .equivalent-column .ensures in
     let q : bytesOf names (nameByInfimum n S (a .place) F) ≡ bytesOf names (nameByColumn n S (a .place) F (equivalentColumn F 0 S)) =

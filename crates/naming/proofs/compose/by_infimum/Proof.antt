@@ -29,28 +29,28 @@ above-word-requires c κs = search needs
 infimum-above-requires : tie.Need-infimum-above-requires
 infimum-above-requires c κs =
     let s = c .before .before .before .before .before .before in
-    (s .pre .0, s .pre .1, ones (s .args .n) 240 (s .pre .0 .few-plots))
+    (s .pre .0 .0, s .pre .0 .1, ones (s .args .look .plots) 240 (s .pre .0 .0 .few-plots))
 
 -- what is met is the infimum of the columns above the member
-met-is : (c : tie.After-infimum-above) → take (c .before .before .before .before .before .before .before .args .n) (c .infimum-above .last .1 .1 .1 .1 .0) ≡ infimumAbove (c .before .before .before .before .before .before .before .args .n) (now (c .before .before .before .before .before .before .before .args .member)) (membersOf (c .before .before .before .before .before .before .before .args .n) (now (c .before .before .before .before .before .before .before .args .columns)) (c .before .before .before .before .before .before .before .args .count))
+met-is : (c : tie.After-infimum-above) → take (c .before .before .before .before .before .before .before .args .look .plots) (c .infimum-above .last .1 .1 .1 .1 .0) ≡ infimumAbove (c .before .before .before .before .before .before .before .args .look .plots) (now (c .before .before .before .before .before .before .before .args .member)) (membersOf (c .before .before .before .before .before .before .before .args .look .plots) (now (c .before .before .before .before .before .before .before .args .columns)) (c .before .before .before .before .before .before .before .args .look .count))
 met-is c =
     let s = c .before .before .before .before .before .before .before in
     let a = s .args in
-    let S = membersOf (a .n) (now (a .columns)) (a .count) in
+    let S = membersOf (a .look .plots) (now (a .columns)) (a .look .count) in
     let w = c .before .before .above-word in
-    c .infimum-above .ensures ∙ word-infimum (w .result) (a .n) (now (a .member)) S (a .count) (length-members (a .n) (s .pre .0 .few-plots) (now (a .columns)) (a .count)) (w .ensures)
+    c .infimum-above .ensures ∙ word-infimum (w .result) (a .look .plots) (now (a .member)) S (a .look .count) (length-members (a .look .plots) (s .pre .0 .0 .few-plots) (now (a .columns)) (a .look .count)) (w .ensures)
 
 -- it is on the member's plots
-met-length : (c : tie.After-infimum-above) → length (take (c .before .before .before .before .before .before .before .args .n) (c .infimum-above .last .1 .1 .1 .1 .0)) ≡ c .before .before .before .before .before .before .before .args .n
+met-length : (c : tie.After-infimum-above) → length (take (c .before .before .before .before .before .before .before .args .look .plots) (c .infimum-above .last .1 .1 .1 .1 .0)) ≡ c .before .before .before .before .before .before .before .args .look .plots
 met-length c =
     let s = c .before .before .before .before .before .before .before in
     let a = s .args in
-    let few = s .pre .0 .few in
-    let long = s .pre .0 .long in
-    ap length (met-is c) ∙ length-above (a .n) (now (a .member)) (membersOf (a .n) (now (a .columns)) (a .count)) (members-on (a .n) (s .pre .0 .few-plots) (now (a .columns)) (a .count) (omega arith))
+    let few = s .pre .0 .0 .few in
+    let long = s .pre .0 .0 .long in
+    ap length (met-is c) ∙ length-above (a .look .plots) (now (a .member)) (membersOf (a .look .plots) (now (a .columns)) (a .look .count)) (members-on (a .look .plots) (s .pre .0 .0 .few-plots) (now (a .columns)) (a .look .count) (omega arith))
 
 array-share-prefix-met : tie.Need-array-share-prefix-met
-array-share-prefix-met c = omega (arith, met-length c, length-take (c .before .before .before .before .before .before .before .args .n) (c .infimum-above .last .1 .1 .1 .1 .0))
+array-share-prefix-met c = omega (arith, met-length c, length-take (c .before .before .before .before .before .before .before .args .look .plots) (c .infimum-above .last .1 .1 .1 .1 .0))
 
 slice-aggregate-alike : tie.Need-slice-aggregate-alike
 slice-aggregate-alike c = sym (met-length (c .before))
@@ -68,17 +68,17 @@ returns : tie.Need-returns
 returns c =
     let s = c .before .before .before .before .before .before .before .before .before .before .before .before .before .before in
     let a = s .args in
-    let n = a .n in
+    let n = a .look .plots in
     let F = now (a .member) in
-    let S = membersOf n (now (a .columns)) (a .count) in
-    let names = columnNames (a .mark) (header (now (a .text))) in
+    let S = membersOf n (now (a .columns)) (a .look .count) in
+    let names = columnNames (a .look .mark) (header (now (a .text))) in
     let out = now (a .out) in
     let k = c .before .before .before .before .before .before .before in
     let e : alike (infimumAbove n F S) F ≡ true = sym (ap (λ (X : Column). alike X F) (met-is k)) ∙ sym (c .before .before .before .before .before .alike .ensures) ∙ c .before .before .before .before .if1 .taken in
     let m = k .before .before .above-word in
-    let size = length-members n (s .pre .0 .few-plots) (now (a .columns)) (a .count) in
-    let q : bytesOf names (name-infimum (passingFrom (listedBy (bitAt (m .result)) n S) 0 (a .count))) ≡ bytesOf names (nameByInfimum n S (a .place) F) =
-    ap (bytesOf names) (ap name-infimum (word-listed (m .result) n F S (a .count) size (m .ensures) ∙ ap (passingFrom (listed n F S) 0) (sym size)) ∙ sym (infimum-fits n S (a .place) F e)) in
+    let size = length-members n (s .pre .0 .0 .few-plots) (now (a .columns)) (a .look .count) in
+    let q : bytesOf names (name-infimum (passingFrom (listedBy (bitAt (m .result)) n S) 0 (a .look .count))) ≡ bytesOf names (nameByInfimum n S (a .place) F) =
+    ap (bytesOf names) (ap name-infimum (word-listed (m .result) n F S (a .look .count) size (m .ensures) ∙ ap (passingFrom (listed n F S) 0) (sym size)) ∙ sym (infimum-fits n S (a .place) F e)) in
     let w = c .before .before .put-infimum .ensures in
     (w .0 ∙ ap (placeAfter out 0) q, w .1 ∙ ap (written out 0) q)
 
@@ -96,10 +96,10 @@ unfolding bytesOf
 returns-2 c =
     let s = c .before .before .before .before .before .before .before .before .before .before .before .before .before .before .before .before .before .before in
     let a = s .args in
-    let n = a .n in
+    let n = a .look .plots in
     let F = now (a .member) in
-    let S = membersOf n (now (a .columns)) (a .count) in
-    let names = columnNames (a .mark) (header (now (a .text))) in
+    let S = membersOf n (now (a .columns)) (a .look .count) in
+    let names = columnNames (a .look .mark) (header (now (a .text))) in
     let out = now (a .out) in
     let i = c .before .before .before .before .before .before .before .before .before .before .before in
     let e : alike (infimumAbove n F S) F ≡ false = sym (ap (λ (X : Column). alike X F) (met-is i)) ∙ sym (c .before .before .before .before .before .before .before .before .before .alike .ensures) ∙ c .before .before .before .before .before .before .before .before .if1 .left in

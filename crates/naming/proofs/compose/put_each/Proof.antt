@@ -16,23 +16,23 @@ use Rattle.families.proofs.Lent.{part-of}
 use Rattle.decimal.specs.Writing.{written, placeAfter}
 use Rattle.decimal.proofs.Writing.{length-written}
 use Rattle.naming.specs.Answers.{startingWith}
-use Rattle.naming.specs.Members.{namesWritten, lengthsWritten, nameBy, held}
+use Rattle.naming.specs.Members.{eachHeld, namesWritten, lengthsWritten, nameBy, held}
 use Rattle.naming.proofs.Members.{names-turn, lengths-turn, slot-put, written-held, place-held}
 use Rattle.naming.proofs.compose.put_each.Statement.{statement}
 use Rattle.naming.proofs.compose.put_each.Tie as tie
 
 abbrev Inv-loop : tie.InvT-loop
-Inv-loop text mark columns n count family size names₀ lengths₀ i₀ names lengths i =
-    (i ≤ size) × (size ≤ 32) × (n ≤ 240) × (7680 ≤ length family) × (length names ≡ length names₀) × (96 * size ≤ length names₀) × (length lengths ≡ length lengths₀) × (size ≤ length lengths₀) × (names ≡ namesWritten (held (nameBy (columnNames mark (header text)) (membersOf n columns count) n family)) names₀ i) × (lengths ≡ lengthsWritten (held (nameBy (columnNames mark (header text)) (membersOf n columns count) n family)) lengths₀ i)
+Inv-loop text columns look family size names₀ lengths₀ n i₀ names lengths i =
+    (i ≤ size) × (size ≤ 32) × (look .plots ≤ 240) × (7680 ≤ length family) × (length names ≡ length names₀) × (96 * size ≤ length names₀) × (length lengths ≡ length lengths₀) × (size ≤ length lengths₀) × (names ≡ namesWritten (eachHeld look text columns family) names₀ i) × (lengths ≡ lengthsWritten (eachHeld look text columns family) lengths₀ i)
 
 abbrev μ-loop : tie.MeasureT-loop
-μ-loop text mark columns n count family size names₀ lengths₀ i₀ names lengths i = size - i
+μ-loop text columns look family size names₀ lengths₀ n i₀ names lengths i = size - i
 
 loop-holds : tie.Need-loop-holds Inv-loop μ-loop
 unfolding namesWritten lengthsWritten
 loop-holds c =
     let s = c .before .before .before .before .before in
-    (omega arith, s .pre .2 .few, s .pre .0 .few-plots, s .pre .2 .long, refl, s .pre .2 .room, refl, s .pre .2 .counted, refl, refl)
+    (omega arith, s .pre .1 .few, s .pre .0 .0 .few-plots, s .pre .1 .long, refl, s .pre .1 .room, refl, s .pre .1 .counted, refl, refl)
 
 mul-a : tie.Need-mul-a Inv-loop μ-loop
 mul-a c = omega arith
@@ -70,7 +70,7 @@ part-put-member-end-2 c = omega arith
 put-member-requires : tie.Need-put-member-requires Inv-loop μ-loop
 put-member-requires c κs =
     let s = c .before .before .before .before .before .before .before .before .before in
-    (s .pre .0, s .pre .1, simp (length-take, length-drop) (omega arith), simp (length-take, length-drop) (omega arith))
+    (s .pre .0, simp (length-take, length-drop) (omega arith), simp (length-take, length-drop) (omega arith))
 
 mul-lengths : tie.Need-mul-lengths Inv-loop μ-loop
 mul-lengths c = omega arith
@@ -90,10 +90,10 @@ loop-again c =
     let b = c .before .before .before .before .before .before in
     let s = b .before .before .before .before .before .before in
     let a = s .args in
-    let n = a .n in
+    let n = a .look .plots in
     let family = now (a .family) in
-    let S = membersOf n (now (a .columns)) (a .count) in
-    let columns = columnNames (a .mark) (header (now (a .text))) in
+    let S = membersOf n (now (a .columns)) (a .look .count) in
+    let columns = columnNames (a .look .mark) (header (now (a .text))) in
     let whole = nameBy columns S n family in
     let f = held whole in
     let i = b .loop .i in
@@ -104,9 +104,9 @@ loop-again c =
     ap₂ (λ (p : ℕ) (F : Column). bytesOf columns (nameOf n S p F)) (add-one i) (part-of n i family) in
     let part : length mid ≡ 96 = simp (length-take, length-drop) (omega arith) in
     let short : length (f i) ≤ 96 = simp length-take (omega arith) in
-    let back : w .last .1 .1 .1 .1 .1 .1 .1 .0 ≡ startingWith (f i) mid = w .ensures .1 ∙ ap (written mid 0) same ∙ written-held mid (whole i) ∙ ap (λ (m : ℕ). startingWith (take m (whole i)) mid) part in
+    let back : w .last .1 .1 .1 .1 .1 .0 ≡ startingWith (f i) mid = w .ensures .1 ∙ ap (written mid 0) same ∙ written-held mid (whole i) ∙ ap (λ (m : ℕ). startingWith (take m (whole i)) mid) part in
     let long : w .result ≡ length (f i) = w .ensures .0 ∙ ap (placeAfter mid 0) same ∙ place-held mid (whole i) ∙ ap (λ (m : ℕ). length (take m (whole i))) part in
-    let names-are : putMid (96 * i) k (b .loop .names) (w .last .1 .1 .1 .1 .1 .1 .1 .0) ≡ namesWritten f (now (a .names)) (i + 1) =
+    let names-are : putMid (96 * i) k (b .loop .names) (w .last .1 .1 .1 .1 .1 .0) ≡ namesWritten f (now (a .names)) (i + 1) =
     ap (putMid (96 * i) k (b .loop .names)) back ∙ slot-put i k (b .loop .names) (f i) (omega arith) (omega arith) short
     ∙ ap (λ (x : List ℕ). take (96 * i) x ++ startingWith (f i) (drop (96 * i) x)) (b .loop .inv .8) ∙ sym (names-turn f (now (a .names)) (now (a .lengths)) i) in
     let lengths-are : set (b .loop .lengths) i (w .result) ≡ lengthsWritten f (now (a .lengths)) (i + 1) =
@@ -115,7 +115,7 @@ loop-again c =
       b .loop .inv .1,
       b .loop .inv .2,
       b .loop .inv .3,
-      same-len-mid (96 * i) k (b .loop .names) (w .last .1 .1 .1 .1 .1 .1 .1 .0) (ap length (w .ensures .1) ∙ length-written mid 0 (bytesOf columns (nameOf n S (i + 1) (take (240 * i + n - 240 * i) (drop (240 * i) family))))) ∙ b .loop .inv .4,
+      same-len-mid (96 * i) k (b .loop .names) (w .last .1 .1 .1 .1 .1 .0) (ap length (w .ensures .1) ∙ length-written mid 0 (bytesOf columns (nameOf n S (i + 1) (take (240 * i + n - 240 * i) (drop (240 * i) family))))) ∙ b .loop .inv .4,
       b .loop .inv .5,
       length-set (b .loop .lengths) i (w .result) ∙ b .loop .inv .6,
       b .loop .inv .7,
@@ -133,7 +133,7 @@ returns : tie.Need-returns Inv-loop μ-loop
 returns c =
     let b = c .before in
     let a = b .before .before .before .before .before .before .args in
-    let f = held (nameBy (columnNames (a .mark) (header (now (a .text)))) (membersOf (a .n) (now (a .columns)) (a .count)) (a .n) (now (a .family))) in
+    let f = held (nameBy (columnNames (a .look .mark) (header (now (a .text)))) (membersOf (a .look .plots) (now (a .columns)) (a .look .count)) (a .look .plots) (now (a .family))) in
     let e : b .loop .i ≡ a .size = omega arith in
     (b .loop .inv .8 ∙ ap (namesWritten f (now (a .names))) e, b .loop .inv .9 ∙ ap (lengthsWritten f (now (a .lengths))) e)
 

@@ -37,14 +37,14 @@ returns c =
     let out = now (a .out) in
     let opened : List ℕ = 73 ∷ 40 ∷ [] in
     let closed : List ℕ = 41 ∷ [] in
-    let names = withCommas (columnNames (a .mark) (header (now (a .text)))) (passingFrom (listedBy (bitAt (a .above)) (a .n) (membersOf (a .n) (now (a .columns)) (a .count))) 0 (a .count)) in
+    let names = withCommas (columnNames (a .look .mark) (header (now (a .text)))) (passingFrom (listedBy (bitAt (a .above)) (a .look .plots) (membersOf (a .look .plots) (now (a .columns)) (a .look .count))) 0 (a .look .count)) in
     let k = c .before .before .before .before .before .before .before .before .before .before .write-bytes in
     let l = c .before .before .before .before .before .before .put-listed in
     let w = c .before .before .write-byte in
-    let bytes : l .last .1 .1 .1 .1 .1 .1 .0 ≡ written out 0 (opened ++ names) = l .ensures .1 ∙ then-bytes out 0 opened names (k .last .1 .0) (k .result) (k .ensures .1) (k .ensures .0) in
+    let bytes : l .last .1 .1 .1 .1 .0 ≡ written out 0 (opened ++ names) = l .ensures .1 ∙ then-bytes out 0 opened names (k .last .1 .0) (k .result) (k .ensures .1) (k .ensures .0) in
     let place : l .result ≡ placeAfter out 0 (opened ++ names) = l .ensures .0 ∙ then-place out 0 opened names (k .last .1 .0) (k .result) (k .ensures .1) (k .ensures .0) in (
-      w .ensures .0 ∙ then-place out 0 (opened ++ names) closed (l .last .1 .1 .1 .1 .1 .1 .0) (l .result) bytes place,
-      w .ensures .1 ∙ then-bytes out 0 (opened ++ names) closed (l .last .1 .1 .1 .1 .1 .1 .0) (l .result) bytes place,
+      w .ensures .0 ∙ then-place out 0 (opened ++ names) closed (l .last .1 .1 .1 .1 .0) (l .result) bytes place,
+      w .ensures .1 ∙ then-bytes out 0 (opened ++ names) closed (l .last .1 .1 .1 .1 .0) (l .result) bytes place,
     )
 
 pub put-infimum-spec : {M : Type 1} → statement M

@@ -21,16 +21,16 @@ use Rattle.naming.proofs.compose.put_listed.Statement.{statement}
 use Rattle.naming.proofs.compose.put_listed.Tie as tie
 
 abbrev Inv-loop : tie.InvT-loop
-Inv-loop text mark columns n count above out₀ at end₀ first₀ i₀ out end first i =
+Inv-loop text columns above out₀ at mark n count end₀ first₀ i₀ out end first i =
     (i ≤ count) × (length out ≡ length out₀) × Lists (columnNames mark (header text)) (listedBy (bitAt above) n (membersOf n columns count)) count out₀ at out end first i
 
 abbrev μ-loop : tie.MeasureT-loop
-μ-loop text mark columns n count above out₀ at end₀ first₀ i₀ out end first i = count - i
+μ-loop text columns above out₀ at mark n count end₀ first₀ i₀ out end first i = count - i
 
 loop-holds : tie.Need-loop-holds Inv-loop μ-loop
 loop-holds c =
     let a = c .before .before .before .args in
-    (omega arith, refl, lists-start (columnNames (a .mark) (header (now (a .text)))) (listedBy (bitAt (a .above)) (a .n) (membersOf (a .n) (now (a .columns)) (a .count))) (a .count) (now (a .out)) (a .at))
+    (omega arith, refl, lists-start (columnNames (a .look .mark) (header (now (a .text)))) (listedBy (bitAt (a .above)) (a .look .plots) (membersOf (a .look .plots) (now (a .columns)) (a .look .count))) (a .look .count) (now (a .out)) (a .at))
 
 is-listed-requires : tie.Need-is-listed-requires Inv-loop μ-loop
 is-listed-requires c κs =
@@ -51,8 +51,8 @@ loop-again c =
     let k = c .before in
     let b = k .before .before in
     let a = b .before .before .before .before .args in
-    let names = columnNames (a .mark) (header (now (a .text))) in
-    let t = listedBy (bitAt (a .above)) (a .n) (membersOf (a .n) (now (a .columns)) (a .count)) in
+    let names = columnNames (a .look .mark) (header (now (a .text))) in
+    let t = listedBy (bitAt (a .above)) (a .look .plots) (membersOf (a .look .plots) (now (a .columns)) (a .look .count)) in
     let out = b .loop .out in
     let end = b .loop .end in
     let i = b .loop .i in
@@ -63,10 +63,10 @@ loop-again c =
     let r = w .2 .ensures in
     let o : c .if1 .out ≡ written out end name = w .5 ∙ r .1 in
     let p : c .if1 .end ≡ placeAfter out end name = w .6 ∙ r .0 in
-    (omega arith, ap length o ∙ length-written out end name ∙ b .loop .inv .1, rw (o, p, w .7) (lists-next names t (a .count) (now (a .out)) (a .at) out end (b .loop .first) i (b .loop .inv .2) (omega arith) e)))
+    (omega arith, ap length o ∙ length-written out end name ∙ b .loop .inv .1, rw (o, p, w .7) (lists-next names t (a .look .count) (now (a .out)) (a .at) out end (b .loop .first) i (b .loop .inv .2) (omega arith) e)))
     (λ w.
     let e : t i ≡ false = sym (k .is-listed .ensures) ∙ w .0 .left in
-    (omega arith, ap length (w .1) ∙ b .loop .inv .1, rw (w .1, w .2, w .3) (lists-past names t (a .count) (now (a .out)) (a .at) out end (b .loop .first) i (b .loop .inv .2) (omega arith) e)))
+    (omega arith, ap length (w .1) ∙ b .loop .inv .1, rw (w .1, w .2, w .3) (lists-past names t (a .look .count) (now (a .out)) (a .at) out end (b .loop .first) i (b .loop .inv .2) (omega arith) e)))
     (c .if1 .came)
 
 same-length : tie.Need-same-length Inv-loop μ-loop
@@ -76,7 +76,7 @@ returns : tie.Need-returns Inv-loop μ-loop
 returns c =
     let b = c .before in
     let a = b .before .before .before .before .args in
-    let r = lists-end (columnNames (a .mark) (header (now (a .text)))) (listedBy (bitAt (a .above)) (a .n) (membersOf (a .n) (now (a .columns)) (a .count))) (a .count) (now (a .out)) (a .at) (b .loop .out) (b .loop .end) (b .loop .first) (b .loop .i) (b .loop .inv .2) (omega arith) in
+    let r = lists-end (columnNames (a .look .mark) (header (now (a .text)))) (listedBy (bitAt (a .above)) (a .look .plots) (membersOf (a .look .plots) (now (a .columns)) (a .look .count))) (a .look .count) (now (a .out)) (a .at) (b .loop .out) (b .loop .end) (b .loop .first) (b .loop .i) (b .loop .inv .2) (omega arith) in
     (r .1, r .0)
 
 pub put-listed-spec : {M : Type 1} → statement M

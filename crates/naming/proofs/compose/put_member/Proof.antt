@@ -24,10 +24,10 @@ returns : tie.Need-returns
 returns c =
     let p = c .before .before .before in
     let a = p .before .before .before .before .before .before .args in
-    let n = a .n in
+    let n = a .look .plots in
     let F = now (a .member) in
-    let Cs = membersOf n (now (a .columns)) (a .count) in
-    let names = columnNames (a .mark) (header (now (a .text))) in
+    let Cs = membersOf n (now (a .columns)) (a .look .count) in
+    let names = columnNames (a .look .mark) (header (now (a .text))) in
     let out = now (a .out) in
     let room : 1 ≤ length out = omega arith in
     let q = extreme-some names n Cs (a .place) F out room (λ z. c .if1 .taken (p .put-extreme .ensures .0 ∙ z)) in
@@ -43,10 +43,10 @@ returns-2 : tie.Need-returns-2
 returns-2 c =
     let p = c .before .before .before .before .before .before .before in
     let a = p .before .before .before .before .before .before .args in
-    let n = a .n in
+    let n = a .look .plots in
     let F = now (a .member) in
-    let Cs = membersOf n (now (a .columns)) (a .count) in
-    let names = columnNames (a .mark) (header (now (a .text))) in
+    let Cs = membersOf n (now (a .columns)) (a .look .count) in
+    let names = columnNames (a .look .mark) (header (now (a .text))) in
     let out = now (a .out) in
     let room : 1 ≤ length out = omega arith in
     let r = extreme-none names n Cs (a .place) F out room (sym (p .put-extreme .ensures .0) ∙ c .before .before .before .before .if1 .left) in

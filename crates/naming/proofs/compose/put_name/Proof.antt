@@ -29,10 +29,10 @@ returns : tie.Need-returns
 returns c =
     let p = c .before .before .before in
     let a = p .before .before .before .before .before .before .args in
-    let n = a .n in
+    let n = a .look .plots in
     let F = now (a .member) in
-    let Cs = columnsFrom n (now (a .levels)) (a .first) (a .count) in
-    let names = columnNames (a .mark) (header (now (a .text))) in
+    let Cs = columnsFrom n (now (a .levels)) (a .first) (a .look .count) in
+    let names = columnNames (a .look .mark) (header (now (a .text))) in
     let out = now (a .out) in
     let room : 1 ≤ length out = omega arith in
     let q = extreme-some names n Cs (a .place) F out room (λ z. c .if1 .taken (p .put-extreme .ensures .0 ∙ z)) in
@@ -53,8 +53,7 @@ by-columns-requires c κs =
     let a = c .before .before .before .before .before .before .before .before .before .before .before .before .before .before .args in
     let m = c .before .before .before .number-columns in
     let long : length (m .last .1 .1 .1 .1 .0) ≡ 1440 = search needs in (
-      record { few-plots = omega arith; few = omega arith; long = omega arith },
-      ap allNumbered (m .ensures) ∙ all-numbered (columnsFrom (a .n) (now (a .levels)) (a .first) (a .count)),
+      (record { few-plots = omega arith; few = omega arith; long = omega arith }, ap allNumbered (m .ensures) ∙ all-numbered (columnsFrom (a .look .plots) (now (a .levels)) (a .first) (a .look .count))),
       omega arith,
     )
 
@@ -66,17 +65,17 @@ unfolding numberedFrom
 returns-2 c =
     let p = c .before .before .before .before .before .before .before .before .before .before .before in
     let a = p .before .before .before .before .before .before .args in
-    let n = a .n in
+    let n = a .look .plots in
     let F = now (a .member) in
-    let Cs = columnsFrom n (now (a .levels)) (a .first) (a .count) in
-    let names = columnNames (a .mark) (header (now (a .text))) in
+    let Cs = columnsFrom n (now (a .levels)) (a .first) (a .look .count) in
+    let names = columnNames (a .look .mark) (header (now (a .text))) in
     let out = now (a .out) in
     let room : 1 ≤ length out = omega arith in
     let r = extreme-none names n Cs (a .place) F out room (sym (p .put-extreme .ensures .0) ∙ c .before .before .before .before .before .before .before .before .if1 .left) in
     let kept : p .put-extreme .last .1 .1 .0 ≡ out = p .put-extreme .ensures .1 ∙ r .0 in
     let m = c .before .before .before .before .before .before .number-columns in
-    let on = columns-on n (now (a .levels)) (a .first) (a .count) (omega arith) (omega arith) in
-    let q : bytesOf names (nameByColumn n (membersOf n (m .last .1 .1 .1 .1 .0) (a .count)) (a .place) F (equivalentColumn F 0 (membersOf n (m .last .1 .1 .1 .1 .0) (a .count)))) ≡ bytesOf names (nameByColumn n Cs (a .place) F (equivalentColumn F 0 Cs)) =
+    let on = columns-on n (now (a .levels)) (a .first) (a .look .count) (omega arith) (omega arith) in
+    let q : bytesOf names (nameByColumn n (membersOf n (m .last .1 .1 .1 .1 .0) (a .look .count)) (a .place) F (equivalentColumn F 0 (membersOf n (m .last .1 .1 .1 .1 .0) (a .look .count)))) ≡ bytesOf names (nameByColumn n Cs (a .place) F (equivalentColumn F 0 Cs)) =
     ap (λ (D : List Column). bytesOf names (nameByColumn n D (a .place) F (equivalentColumn F 0 D))) (m .ensures)
     ∙ ap (bytesOf names) (by-column-numbered n F Cs on (a .place)) in
     let w = c .before .before .by-columns .ensures in

@@ -33,9 +33,8 @@ put-each-requires c κs =
     let a = s .args in
     let m = c .before .before .before .before .number-columns in
     let long : length (m .last .1 .1 .1 .1 .0) ≡ 1440 = search needs in (
-      record { few-plots = omega arith; few = omega arith; long = omega arith },
-      ap allNumbered (m .ensures) ∙ all-numbered (columnsFrom (a .n) (now (a .levels)) (a .first) (a .count)),
-      s .pre .4,
+      (record { few-plots = omega arith; few = omega arith; long = omega arith }, ap allNumbered (m .ensures) ∙ all-numbered (columnsFrom (a .look .plots) (now (a .levels)) (a .first) (a .look .count))),
+      s .pre .0,
     )
 
 same-length : tie.Need-same-length
@@ -48,13 +47,13 @@ returns : tie.Need-returns
 unfolding numberedFrom
 returns c =
     let a = c .before .before .before .before .before .before .before .before .before .before .before .before .before .before .before .before .args in
-    let n = a .n in
-    let Cs = columnsFrom n (now (a .levels)) (a .first) (a .count) in
-    let columns = columnNames (a .mark) (header (now (a .text))) in
+    let n = a .look .plots in
+    let Cs = columnsFrom n (now (a .levels)) (a .first) (a .look .count) in
+    let columns = columnNames (a .look .mark) (header (now (a .text))) in
     let family = now (a .family) in
     let m = c .before .before .before .before .before .before .before .before .before .number-columns in
     let w = c .before .before .before .before .put-each .ensures in
-    let on = columns-on n (now (a .levels)) (a .first) (a .count) (omega arith) (omega arith) in
+    let on = columns-on n (now (a .levels)) (a .first) (a .look .count) (omega arith) (omega arith) in
     let same : (i : ℕ) → nameBy columns (map number Cs) n family i ≡ nameBy columns Cs n family i = name-by-numbered columns n Cs on family in (
       w .0 ∙ ap (λ (D : List Column). namesWritten (held (nameBy columns D n family)) (now (a .names)) (a .size)) (m .ensures) ∙ names-ext (held (nameBy columns (map number Cs) n family)) (held (nameBy columns Cs n family)) (now (a .names)) (a .size) (λ i h. ap (take 96) (same i)),
       w .1 ∙ ap (λ (D : List Column). lengthsWritten (held (nameBy columns D n family)) (now (a .lengths)) (a .size)) (m .ensures) ∙ lengths-ext (held (nameBy columns (map number Cs) n family)) (held (nameBy columns Cs n family)) (now (a .lengths)) (a .size) (λ i h. ap (take 96) (same i)),

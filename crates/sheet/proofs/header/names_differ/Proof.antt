@@ -52,7 +52,7 @@ new-name-requires c κs =
     let b = d .before in
     let t = now (b .before .before .args .text) in
     let k = held d in
-    (omega arith, omega arith, rest-ended t (b .loop .at) (d .end-of .result) (d .end-of .ensures) (b .loop .inv .0) (b .loop .inv .1) (c .if1 .left), rest-columns t (b .loop .at) (d .end-of .result) (d .end-of .ensures) (b .loop .inv .0) (b .loop .inv .1) (c .if1 .left))
+    (omega arith, omega arith, (rest-ended t (b .loop .at) (d .end-of .result) (d .end-of .ensures) (b .loop .inv .0) (b .loop .inv .1) (c .if1 .left), rest-columns t (b .loop .at) (d .end-of .result) (d .end-of .ensures) (b .loop .inv .0) (b .loop .inv .1) (c .if1 .left)))
 
 returns-2 : tie.Need-returns-2 Inv-loop μ-loop
 returns-2 c =

@@ -45,7 +45,7 @@ add-at c = omega arith
 loop-holds : tie.Need-loop-holds Inv-loop μ-loop
 loop-holds c =
     let s = c .before in
-    (s .pre .2, s .pre .3, refl)
+    (s .pre .2 .0, s .pre .2 .1, refl)
 
 end-of-requires : tie.Need-end-of-requires Inv-loop μ-loop
 end-of-requires c κs = search needs

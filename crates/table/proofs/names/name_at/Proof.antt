@@ -7,7 +7,7 @@ use native.Mathlib.Omega.{arith}
 use denote.Ref.{now}
 use lib.ListN.{length}
 use Rattle.rules.specs.Naming.{NameAnswer, nameBuffer}
-use Rattle.naming.specs.Answers.{kindOf, NameNumbers, nameNumbersOf}
+use Rattle.naming.specs.Answers.{kindOf, countIn, NameNumbers, nameNumbersOf}
 use Rattle.naming.proofs.Entry.{few-columns}
 use Rattle.table.proofs.NameTable.{name-placed, name-none, length-none}
 use borrow.Author.Needs.{needs}
@@ -27,7 +27,7 @@ returns c =
     let k = kindOf (a .kind) in
     let z : a .place ≡ 0 = c .if1 .taken in
     let l : 1 ≤ length (now (a .name)) = omega (arith, s .pre .2) in
-    rw z (length-none k (now (a .text)) (now (a .levels)) (now (a .family)) (a .plots), name-none k (now (a .text)) (now (a .levels)) (now (a .family)) (now (a .name)) (a .plots) l)
+    rw z (length-none k (now (a .text)) (now (a .levels)) (now (a .family)) (a .counts .plots), name-none k (now (a .text)) (now (a .levels)) (now (a .family)) (now (a .name)) (a .counts .plots) l)
 
 sub-a : tie.Need-sub-a
 sub-a c = search needs
@@ -59,11 +59,11 @@ same-length-2 c = search needs
 returns-2 : tie.Need-returns-2
 unfolding nameNumbersOf
 returns-2 c =
-    let s = c .before .before .before .before .before .before .before .before .before .before .before in
+    let s = c .before .before .before .before .before .before .before .before .before .before .before .before in
     let a = s .args in
     let l : 1 ≤ a .place = omega arith in
-    let few = few-columns (a .kind) (now (a .text)) (s .pre .0 .form) in
-    let same = name-placed (kindOf (a .kind)) (now (a .text)) (now (a .levels)) (now (a .family)) (a .plots) (a .count) (a .place) (length (now (a .name))) (s .pre .0) (s .pre .3) (omega (arith, s .pre .3)) l (s .pre .1) (s .pre .2) in
+    let few = few-columns (a .kind) (now (a .text)) (s .pre .0 .0 .form) in
+    let same = name-placed (kindOf (a .kind)) (now (a .text)) (now (a .levels)) (now (a .family)) (a .counts .plots) (countIn (a .kind) (a .counts)) (a .place) (length (now (a .name))) (s .pre .0 .0) (s .pre .0 .1) (omega (arith, s .pre .0 .1)) l (s .pre .1) (s .pre .2) in
     let r = c .before .before .before .name-counted .ensures in
     (c .length-of .ensures ∙ ap (λ (x : NameNumbers). x .size) (r .0) ∙ ap (λ (x : NameAnswer). length (x .name)) same, r .1 ∙ ap (nameBuffer (now (a .name))) same)
 
