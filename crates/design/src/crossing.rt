@@ -140,7 +140,7 @@ fn walk_pair(
 }
 
 // A plot member `f` with a treatment member `g`: by what follows from finer members, or by a walk.
-fn meet_pair(
+fn join_pair(
     plot: &[u8],
     f: Entry,
     first: &[u8],
@@ -201,7 +201,7 @@ fn cross_pair(
             size: held,
         };
     }
-    meet_pair(plot, f, first, g, n, store, counts, size, joins)
+    join_pair(plot, f, first, g, n, store, counts, size, joins)
 }
 
 // A plot member `f` with each treatment member, from the last on, up to one that is not orthogonal.

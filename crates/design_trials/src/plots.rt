@@ -8,10 +8,11 @@ use design::PlotDesign;
 use libc::STDOUT_FILENO;
 use limits::FAMILY;
 use limits::LEVELS;
+use limits::Level;
 use limits::PLOTS;
 
 // Prints what a plot design answers, and what it leaves in a buffer of the right length.
-fn show_slice(levels: &[u16], plots: usize, columns: usize) {
+fn show_slice(levels: &[Level], plots: usize, columns: usize) {
     let mut family = [0u8; FAMILY];
     let answer = design::plot_design(levels, plots, columns, &mut family);
     let mut size = 0;
@@ -35,25 +36,25 @@ fn show_slice(levels: &[u16], plots: usize, columns: usize) {
 }
 
 // The same of a level table of the right length.
-fn show(levels: &[u16; LEVELS], plots: usize, columns: usize) {
+fn show(levels: &[Level; LEVELS], plots: usize, columns: usize) {
     show_slice(levels, plots, columns);
 }
 
 // The same of a level table that is one number short.
 fn show_short() {
-    let levels = [1u16; 2879];
+    let levels: [Level; LEVELS - 1] = [1; LEVELS - 1];
     show_slice(&levels, 64, 1);
 }
 
-fn level(x: u8) -> u16 {
+fn level(x: u8) -> Level {
     if x < 48 {
         return 0;
     }
-    (x - 48) as u16
+    (x - 48) as Level
 }
 
 // Writes a column of one-digit levels.
-fn put(levels: &mut [u16; LEVELS], c: usize, digits: &[u8]) {
+pub(crate) fn put(levels: &mut [Level; LEVELS], c: usize, digits: &[u8]) {
     for u in 0..digits.len() {
         if u < PLOTS {
             if c < 12 {
@@ -64,17 +65,17 @@ fn put(levels: &mut [u16; LEVELS], c: usize, digits: &[u8]) {
 }
 
 // Six two-level columns fully crossed on 64 plots.
-fn cross(levels: &mut [u16; LEVELS]) {
+fn cross(levels: &mut [Level; LEVELS]) {
     for k in 0..384 {
         let c = k / 64;
         let u = k % 64;
-        levels[PLOTS * c + u] = (((u >> c) % 2) + 1) as u16;
+        levels[PLOTS * c + u] = (((u >> c) % 2) + 1) as Level;
     }
 }
 
 // The marked trials.
 pub(crate) fn marked() {
-    let mut levels = [0u16; LEVELS];
+    let mut levels: [Level; LEVELS] = [0; LEVELS];
     show(&levels, 1, 0);
     show(&levels, 2, 0);
     put(&mut levels, 0, b"112");
@@ -96,7 +97,7 @@ pub(crate) fn marked() {
 
 // Two-level columns fully crossed: five on 32 plots, six on 64.
 pub(crate) fn crossed() {
-    let mut levels = [0u16; LEVELS];
+    let mut levels: [Level; LEVELS] = [0; LEVELS];
     cross(&mut levels);
     show(&levels, 32, 5);
     show(&levels, 64, 6);
@@ -104,7 +105,7 @@ pub(crate) fn crossed() {
 
 // Counts and slices out of range, zeros in used and unused cells, equivalent columns, columns equal to U and E, large levels.
 pub(crate) fn odd() {
-    let mut levels = [0u16; LEVELS];
+    let mut levels: [Level; LEVELS] = [0; LEVELS];
     cross(&mut levels);
     show(&levels, 0, 1);
     show(&levels, 241, 1);
@@ -121,7 +122,7 @@ pub(crate) fn odd() {
 
 // The largest levels.
 pub(crate) fn large() {
-    let mut levels = [0u16; LEVELS];
+    let mut levels: [Level; LEVELS] = [0; LEVELS];
     levels[0] = 65535;
     levels[1] = 65535;
     levels[2] = 65534;

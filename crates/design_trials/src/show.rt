@@ -1,7 +1,6 @@
 // What is printed of a design: numbers, and the numbers of classes of the members that it leaves.
 
 use libc::STDOUT_FILENO;
-use limits::PLOTS;
 
 fn wide(n: usize) -> u64 {
     n as u64
@@ -20,29 +19,9 @@ fn number(x: u8) -> usize {
     x as usize
 }
 
-// How many classes a member has: the largest number, as they are numbered from 1.
-fn classes(member: &[u8]) -> usize {
-    let mut k: usize = 0;
-    for u in 0..member.len() {
-        let x = number(member[u]);
-        if k < x {
-            k = x;
-        }
-    }
-    k
-}
-
-// Prints the number of classes of each member written.
+// Prints the number of classes of each member written: its largest number.
 pub(crate) fn print_classes(family: &[u8], plots: usize, size: usize) {
     for i in 0..size {
-        if i < 32 {
-            if plots <= PLOTS {
-                let at = PLOTS * i;
-                let end = at + plots;
-                if end <= family.len() {
-                    print_next(classes(&family[at..end]));
-                }
-            }
-        }
+        print_next(number(factor::largest(families::member(family, i, plots))));
     }
 }

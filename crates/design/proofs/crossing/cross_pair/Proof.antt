@@ -1,4 +1,4 @@
--- `cross_pair` meets its contract: the coarser of two nested members, or as `meet_pair` has it.
+-- `cross_pair` meets its contract: the coarser of two nested members, or as `join_pair` has it.
 -- Assumes nothing.
 use mathlib.Core.Path.{sym, _∙_, subst}
 use mathlib.Core.List.{[], _∷_, _++_}
@@ -73,8 +73,8 @@ returns-2 c = let q = c .before .before in
       ),
     )
 
-meet-pair-requires : tie.Need-meet-pair-requires
-meet-pair-requires c κs = search needs
+join-pair-requires : tie.Need-join-pair-requires
+join-pair-requires c κs = search needs
 
 same-length-3 : tie.Need-same-length-3
 same-length-3 c = search needs
@@ -96,6 +96,6 @@ cross-pair-spec =
     add-member-requires-2
     same-length-2
     returns-2
-    meet-pair-requires
+    join-pair-requires
     same-length-3
     returns-3)

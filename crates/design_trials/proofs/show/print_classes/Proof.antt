@@ -1,4 +1,4 @@
--- `design_trials::show::print_classes` is safe and ends: each number is printed within bounds.
+-- `design_trials::show::print_classes` is safe and ends.
 -- Assumes nothing.
 use Prim.Native.Nat.{_≤_, _-_}
 use native.Mathlib.Omega.{arith}
@@ -15,23 +15,14 @@ abbrev μ-loop : tie.MeasureT-loop
 loop-holds : tie.Need-loop-holds Inv-loop μ-loop
 loop-holds c = search needs
 
-mul-at : tie.Need-mul-at Inv-loop μ-loop
-mul-at c = search needs
+member-requires : tie.Need-member-requires Inv-loop μ-loop
+member-requires c κs = search needs
 
-add-end : tie.Need-add-end Inv-loop μ-loop
-add-end c = search needs
+largest-requires : tie.Need-largest-requires Inv-loop μ-loop
+largest-requires c κs = search needs
 
-sub-classes : tie.Need-sub-classes Inv-loop μ-loop
-sub-classes c = search needs
-
-part-classes-start : tie.Need-part-classes-start Inv-loop μ-loop
-part-classes-start c = search needs
-
-part-classes-end : tie.Need-part-classes-end Inv-loop μ-loop
-part-classes-end c = search needs
-
-classes-requires : tie.Need-classes-requires Inv-loop μ-loop
-classes-requires c κs = search needs
+number-requires : tie.Need-number-requires Inv-loop μ-loop
+number-requires c κs = search needs
 
 print-next-requires : tie.Need-print-next-requires Inv-loop μ-loop
 print-next-requires c κs = search needs
@@ -55,12 +46,9 @@ print-classes-spec =
     Inv-loop
     μ-loop
     loop-holds
-    mul-at
-    add-end
-    sub-classes
-    part-classes-start
-    part-classes-end
-    classes-requires
+    member-requires
+    largest-requires
+    number-requires
     print-next-requires
     add-i
     loop-less

@@ -1,4 +1,4 @@
--- `meet_pair` meets its contract: the supremum that follows is in the store.
+-- `join_pair` meets its contract: the supremum that follows is in the store.
 -- Assumes nothing.
 use mathlib.Core.Path.{_≡_, sym, subst}
 use Prim.Native.Nat.{ℕ, suc, _+_, _*_, _-_}
@@ -10,8 +10,8 @@ use Rattle.design.specs.Crossing.{heldOf, Joins}
 use Rattle.design.proofs.Suprema.{member-in-buffer, number-made}
 use Rattle.design.proofs.Joins.{joins-more, joined-adds}
 use borrow.Author.Needs.{needs}
-use Rattle.design.proofs.crossing.meet_pair.Statement.{statement}
-use Rattle.design.proofs.crossing.meet_pair.Tie as tie
+use Rattle.design.proofs.crossing.join_pair.Statement.{statement}
+use Rattle.design.proofs.crossing.join_pair.Tie as tie
 
 following-requires : tie.Need-following-requires
 following-requires c κs = search needs
@@ -55,8 +55,8 @@ returns-2 c = let f = c .before in
       ),
     )
 
-pub meet-pair-spec : {M : Type 1} → statement M
-meet-pair-spec =
+pub join-pair-spec : {M : Type 1} → statement M
+join-pair-spec =
     tie.close
     (tie.spec
     following-requires
