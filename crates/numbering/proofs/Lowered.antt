@@ -1,6 +1,6 @@
 -- A column with each label counted from a lowest one. It has the classes of the column.
 -- Assumes nothing.
-use mathlib.Core.Path.{_≡_, sym, ap, _∙_}
+use mathlib.Core.Path.{_≡_, refl, sym, ap, _∙_}
 use mathlib.Core.List.{map}
 use Prim.Native.Nat.{ℕ, _-_, _≤_, _<_}
 use native.Mathlib.Omega.{arith}
@@ -39,4 +39,4 @@ module _ (low : ℕ) (F : Column) where
     number-lowered = number-unique (lowered low F) F length-lowered lowered-equivalent
 
     pub classes-lowered : classes (lowered low F) ≡ classes F
-    classes-lowered = classes-equivalent (lowered low F) F length-lowered lowered-equivalent
+    classes-lowered = classes-equivalent (length (lowered low F)) (lowered low F) F refl (sym length-lowered) lowered-equivalent

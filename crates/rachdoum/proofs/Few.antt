@@ -18,6 +18,7 @@ use Rattle.rules.specs.Lists.{tabulate, forPlaces}
 use Rattle.rules.specs.Relation.{relation, relationOf, relationRefused, familyWithin}
 use Rattle.rules.specs.Degrees.{degrees}
 use Rattle.rules.specs.Strata.{StrataAnswer, stratum, isStratum, residuals, strata, strataRefused, question15, question16, allHaveStratum}
+use Rattle.rules.proofs.Sheet.{and-left, and-right}
 use Rattle.rules.proofs.Numbering.{by-cases}
 use Rattle.rules.proofs.WellFormed.{Accepted, accepted}
 use Rattle.rules.proofs.Places.{at-places, length-places}
@@ -39,15 +40,6 @@ relation-few n b size =
     (λ f. rw (relation, w, f) (accepted (membersOf n b size) f .few))
     (λ f. rw (relation, w, f) (omega arith)))
     (λ w. rw (relation, w) (omega arith))
-
-and-left : (a b : Bool) → a && b ≡ true → a ≡ true
-and-left true b e = refl
-and-left false b e = e
-
-and-right : (a b : Bool) → a && b ≡ true → b ≡ true
-and-right true b e = e
-and-right false true e = refl
-and-right false false e = e
 
 -- a search ends within the family
 failing-few : (p : Column → Bool) (i : ℕ) (S : Family) → firstFailing p (suc i) S ≤ i + length S

@@ -13,16 +13,9 @@ use Rattle.rules.specs.Factor.{Column, at, same, Finer, Equivalent, addN
 use Rattle.rules.proofs.Numbering.{by-cases, length-number, number-infimum}
 use Rattle.rules.proofs.Supremum.{number-equivalent, equivalent-sym}
 use Rattle.rules.proofs.Classes.{classes-le, classes-lt}
+pub use Rattle.rules.proofs.Columns.{classes-equivalent, classes-number}
 use Rattle.rules.proofs.Extremes.{number-universal, length-universal, add-up, number-equality, length-up, length-equality}
 use Rattle.rules.proofs.Bounds.{numbered-equal, finer-refl, length-infimum′, infimum-left, infimum-greatest}
-
--- equivalent factors have as many classes
-pub classes-equivalent : (n : ℕ) (F G : Column) → length F ≡ n → length G ≡ n → Equivalent n F G → classes F ≡ classes G
-classes-equivalent n F G lF lG p = le-antisymm (classes-le n G F lG lF (p .from)) (classes-le n F G lF lG (p .to))
-
--- numbering keeps the number of classes
-pub classes-number : (F : Column) → classes (number F) ≡ classes F
-classes-number F = classes-equivalent (length F) (number F) F (length-number F) refl (number-equivalent F refl)
 
 -- a finer factor with as many classes is equivalent
 pub finer-equal : (n : ℕ) (F G : Column) → length F ≡ n → length G ≡ n → Finer n F G → classes F ≡ classes G → Equivalent n F G

@@ -75,14 +75,12 @@ module _ (F : Column) (u : ℕ) (look : ℕ → ℕ) (tells : Tells F u look) (h
       later e = record { plot = e .plot; less = omega (arith, e .less); label = e .label }
 
 -- equivalent columns have as many classes
-pub classes-equivalent : (F G : Column) → length F ≡ length G → Equivalent (length F) F G → classes F ≡ classes G
-classes-equivalent F G l h = le-antisymm (classes-le (length F) G F (sym l) refl (h .from)) (classes-le (length F) F G refl (sym l) (h .to))
+pub classes-equivalent : (n : ℕ) (F G : Column) → length F ≡ n → length G ≡ n → Equivalent n F G → classes F ≡ classes G
+classes-equivalent n F G lF lG h = le-antisymm (classes-le n G F lG lF (h .from)) (classes-le n F G lF lG (h .to))
 
+-- numbering keeps the number of classes
 pub classes-number : (F : Column) → classes (number F) ≡ classes F
-classes-number F = classes-equivalent (number F) F (length-number F) record {
-  to = λ u v hu hv. number-same F u v (rw length-number at hu) (rw length-number at hv) .0;
-  from = λ u v hu hv. number-same F u v (rw length-number at hu) (rw length-number at hv) .1;
-}
+classes-number F = classes-equivalent (length F) (number F) F (length-number F) refl record { to = λ u v hu hv. number-same F u v hu hv .0; from = λ u v hu hv. number-same F u v hu hv .1 }
 
 -- ---- two columns, plot by plot
 

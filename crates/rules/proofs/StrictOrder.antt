@@ -18,6 +18,7 @@ use Rattle.rules.proofs.Members.{clash, before-self, before-classes}
 use Rattle.rules.proofs.Classes.{finer-test}
 use Rattle.rules.proofs.Bounds.{finer-refl, finer-trans, numbered-equal}
 use Rattle.rules.proofs.Degrees.{coarser-fewer}
+use Rattle.rules.proofs.Sheet.{and-left}
 use Rattle.rules.proofs.Lists.{getD-tabulate}
 use Rattle.rules.proofs.Words.{word-lt}
 use Rattle.rules.proofs.Bits.{word-more}
@@ -26,10 +27,6 @@ use Rattle.rules.proofs.WellFormed.{Accepted, numbered-at, ascending-at
 -- what a strictly coarser factor is
 and-true : (a b : Bool) → a ≡ true → b ≡ false → a && not b ≡ true
 and-true a b e f = rw (e, f)
-
-and-left : (a b : Bool) → a && b ≡ true → a ≡ true
-and-left true b e = refl
-and-left false b e = e
 
 not-right : (a b : Bool) → a && not b ≡ true → b ≡ false
 not-right true true e = clash refl (sym e)

@@ -1,6 +1,6 @@
 -- One number for two labels, the second below w. It tells the labels, so the column of these numbers has the classes of the infimum.
 -- Assumes nothing.
-use mathlib.Core.Path.{_≡_, sym, ap, ap₂, _∙_}
+use mathlib.Core.Path.{_≡_, refl, sym, ap, ap₂, _∙_}
 use mathlib.Core.List.{map}
 use Prim.Native.Nat.{ℕ, _+_, _*_, _≤_, _<_}
 use native.Mathlib.Omega.{arith}
@@ -54,7 +54,7 @@ module _ (w : ℕ) (F G : Column) (l : length F ≡ length G) where
     number-codes = number-unique (codesOf w F G) (infimum F G) (length-codes ∙ sym (length-infimum F G l)) codes-equivalent ∙ number-infimum F G l
 
     pub classes-codes : classes (codesOf w F G) ≡ classes (infimum F G)
-    classes-codes = classes-equivalent (codesOf w F G) (infimum F G) (length-codes ∙ sym (length-infimum F G l)) codes-equivalent
+    classes-codes = classes-equivalent (length (codesOf w F G)) (codesOf w F G) (infimum F G) refl (length-infimum F G l ∙ sym length-codes) codes-equivalent
 
     -- a table that tells the numbers of the plots before plot u tells whether one of them is in its cell
     module _ (u : ℕ) (h : u < length F) (look : ℕ → ℕ) (tells : Tells (codesOf w F G) u look) where

@@ -316,7 +316,7 @@ module _ (F G : Column) (l : length G ≡ length F) where
 
     -- they have its number of classes
     pub classes-spread : classes (spread t F) ≡ classes (supremum F G)
-    classes-spread = classes-equivalent (spread t F) (supremum F G) (length-spread t F ∙ sym (length-supremum′ (length F) F G refl l)) (rw length-spread e)
+    classes-spread = classes-equivalent (length F) (spread t F) (supremum F G) (length-spread t F) (length-supremum′ (length F) F G refl l) e
 
 -- one entry of all plots makes one class
 module _ (t : List ℕ) (F : Column) (one : OneClass t F) where
@@ -328,7 +328,7 @@ module _ (t : List ℕ) (F : Column) (one : OneClass t F) where
 
   pub classes-one : 0 < length F → classes (spread t F) ≡ 1
   classes-one h =
-      classes-equivalent (spread t F) (universal (length F)) (length-spread t F ∙ sym (length-universal (length F))) (rw length-spread equivalent-one)
+      classes-equivalent (length F) (spread t F) (universal (length F)) (length-spread t F) (length-universal (length F)) equivalent-one
       ∙ classes-universal (length F) h
 
 -- ---- numbers by label
