@@ -24,10 +24,15 @@ use Rattle.factor.specs.Lent.{common, onCommon, overlay, plotsOf}
 use Rattle.decimal.proofs.Writing.{written-all}
 use Rattle.decimal.specs.Writing.{fits, written}
 use Rattle.naming.specs.Columns.{outdone, listedBy, infimumBy, numberedFrom}
-use Rattle.naming.proofs.Levels.{part-is}
 use Rattle.naming.proofs.Numbered.{On, passing-same}
 
 -- ---- lent parts and output arrays
+
+-- the part of a list that a slice lends
+part-is : (n at : ℕ) (l : List ℕ) → take (at + n - at) (drop at l) ≡ take n (drop at l)
+part-is n at l =
+    let e : at + n - at ≡ n = omega arith in
+    ap (λ (k : ℕ). take k (drop at l)) e
 
 pub length-part : (n at : ℕ) (l : List ℕ) → at + n ≤ length l → length (take n (drop at l)) ≡ n
 length-part n at l h = length-take-le n (drop at l) (simp length-drop (omega arith))

@@ -143,7 +143,7 @@ fn from_7(
     let look = kinds::look(kind, counts);
     let count = look.count;
     let first = kinds::first(kind);
-    if !questions::all_nonzero(levels, plots, first, count) {
+    if !levels::all_nonzero(levels, plots, first, count) {
         return Named::Refused(7);
     }
     if !families::well_formed(family, plots, size) {

@@ -30,22 +30,7 @@ first-requires : tie.Need-first-requires
 first-requires c κs = search needs
 
 all-nonzero-requires : tie.Need-all-nonzero-requires
-all-nonzero-requires c κs =
-    let s = c .before .before .before .before .before .before in
-    let a = s .args in
-    let text = now (a .text) in
-    let levels = now (a .levels) in
-    let buffer = now (a .family) in
-    let n = a .counts .plots in
-    let k = kindOf (a .kind) in
-    let out = now (a .name) in
-    let S = membersOf n buffer (a .size) in
-    let w = ranges n (a .size) (a .place) (length levels) (length buffer) (length out) (s .pre .1) in
-    let few = few-columns (a .kind) text (s .pre .0) in
-    let low = first-column (a .kind) in
-    let first : c .first .result ≡ firstColumn k = c .first .ensures in
-    let count : c .before .look .result .count ≡ countKind (markOf k) (header text) = ap (λ (x : Look). x .count) (c .before .look .ensures) ∙ s .pre .2 in
-    (w .few-plots, omega arith, w .table)
+all-nonzero-requires c κs = search needs
 
 returns : tie.Need-returns
 unfolding kindColumns
