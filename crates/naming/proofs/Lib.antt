@@ -1,4 +1,3 @@
-pub mod Levels
 pub mod Numbered
 pub mod Tables
 pub mod Listing

@@ -20,29 +20,21 @@ use Rattle.rules.proofs.Buffer.{put, members-add, columns-snoc, length-columns,
 use Rattle.rules.proofs.Members.{alike-self, clash}
 use Rattle.rules.proofs.Numbering.{by-cases, length-number, number-number}
 use Rattle.rules.proofs.Tests.{every-at}
-use Rattle.factor.specs.Lent.{common, onCommon, overlay, plotsOf}
+use Rattle.factor.specs.Lent.{columnAt, common, onCommon, overlay, plotsOf}
+use Rattle.factor.proofs.Lent.{length-part, take-overlay}
 use Rattle.decimal.proofs.Writing.{written-all}
 use Rattle.decimal.specs.Writing.{fits, written}
 use Rattle.naming.specs.Columns.{outdone, listedBy, infimumBy, numberedFrom}
-use Rattle.naming.proofs.Levels.{part-is}
 use Rattle.naming.proofs.Numbered.{On, passing-same}
 
 -- ---- lent parts and output arrays
 
-pub length-part : (n at : ℕ) (l : List ℕ) → at + n ≤ length l → length (take n (drop at l)) ≡ n
-length-part n at l h = length-take-le n (drop at l) (simp length-drop (omega arith))
-
--- what stands at the front of an output array
-overlay-front : (n : ℕ) (out : List ℕ) (X : Column) → length X ≡ n → take n (overlay out X) ≡ X
-overlay-front n out X l = take-at X (drop (length X) out) n l
-
--- the numbers of a column lent as a part
-pub numbered-part : (n at : ℕ) (out l : List ℕ) → n ≤ 240 → at + n ≤ length l
-    → take n (overlay out (number (plotsOf (take (at + n - at) (drop at l))))) ≡ number (take n (drop at l))
-numbered-part n at out l s h =
-    let len = length-part n at l h in
-    let e : plotsOf (take (at + n - at) (drop at l)) ≡ take n (drop at l) = ap (λ (F : Column). take 240 F) (part-is n at l) ∙ take-all 240 (take n (drop at l)) (omega arith) in
-    ap (λ (F : Column). take n (overlay out (number F))) e ∙ overlay-front n out (number (take n (drop at l))) (length-number (take n (drop at l)) ∙ len)
+-- the numbers of a column of the level table
+pub numbered-part : (n i : ℕ) (out l : List ℕ) → n ≤ 240 → 240 * i + n ≤ length l → (X : Column) → X ≡ columnAt n l i → take n (overlay out (number (plotsOf X))) ≡ number (columnAt n l i)
+numbered-part n i out l s h X is =
+    let C = columnAt n l i in
+    let len = length-part n i l h in
+    ap (λ (F : Column). take n (overlay out (number F))) (ap (take 240) is ∙ take-all 240 C (omega arith)) ∙ take-overlay out (number C) n (length-number C ∙ len)
 
 -- the infimum of a column on n plots and the first n numbers of an array
 module _ (n : ℕ) (out : List ℕ) (F M : Column) (s : n ≤ 240) (lF : length F ≡ n) (lM : length M ≡ 240) (l : length (infimum F (take n M)) ≡ n) where
@@ -52,14 +44,14 @@ module _ (n : ℕ) (out : List ℕ) (F M : Column) (s : n ≤ 240) (lF : length 
       ap (λ (k : ℕ). infimum (take k F) (take k M)) e ∙ ap (λ (X : Column). infimum X (take n M)) (take-all n F (le-of-eq lF))
 
   pub infimum-part : take n (overlay out (onCommon infimum F M)) ≡ infimum F (take n M)
-  infimum-part = ap (λ (X : Column). take n (overlay out X)) common-is ∙ overlay-front n out (infimum F (take n M)) l
+  infimum-part = ap (λ (X : Column). take n (overlay out X)) common-is ∙ take-overlay out (infimum F (take n M)) n l
 
 -- the column itself, written into an array
-pub column-part : (n at : ℕ) (out l : List ℕ) → n ≤ 240 → at + n ≤ length l → length out ≡ 240 → take n (written out 0 (take (at + n - at) (drop at l))) ≡ take n (drop at l)
-column-part n at out l small h z =
-    let X = take n (drop at l) in
-    let len : length X ≡ n = length-part n at l h in
-    ap (λ (Y : Column). take n (written out 0 Y)) (part-is n at l) ∙ ap (take n) (written-all out X (omega arith)) ∙ take-at X (drop (length X) out) n len
+pub column-part : (n i : ℕ) (out l : List ℕ) → n ≤ 240 → 240 * i + n ≤ length l → length out ≡ 240 → (X : Column) → X ≡ columnAt n l i → take n (written out 0 X) ≡ columnAt n l i
+column-part n i out l small h z X is =
+    let C = columnAt n l i in
+    let len : length C ≡ n = length-part n i l h in
+    ap (λ (Y : Column). take n (written out 0 Y)) is ∙ ap (take n) (written-all out C (omega arith)) ∙ take-overlay out C n len
 
 pub ones : (n m : ℕ) → n ≤ m → take n (replicate m 1) ≡ universal n
 unfolding universal
@@ -81,11 +73,11 @@ none-yet n b levels first = refl
 
 -- a turn: the next column is put after those that are there
 pub table-turn : (n : ℕ) → n ≤ 240 → (b levels : List ℕ) (first c : ℕ) → 240 * c + 240 ≤ length b → 240 * (first + c) + n ≤ length levels → membersOf n b c ≡ numberedFrom n levels first c
-    → membersOf n (written b (240 * c) (number (take n (drop (240 * (first + c)) levels)))) (c + 1) ≡ numberedFrom n levels first (c + 1)
+    → membersOf n (written b (240 * c) (number (columnAt n levels (first + c)))) (c + 1) ≡ numberedFrom n levels first (c + 1)
 unfolding numberedFrom
 table-turn n small b levels first c h k e =
-    let C = take n (drop (240 * (first + c)) levels) in
-    let l : length (number C) ≡ n = length-number C ∙ length-part n (240 * (first + c)) levels k in
+    let C = columnAt n levels (first + c) in
+    let l : length (number C) ≡ n = length-number C ∙ length-part n (first + c) levels k in
     rw add-one
     (ap (λ (x : List ℕ). membersOf n x (suc c)) (written-put n small b c (number C) l h)
     ∙ members-add n small b c (number C) l h
@@ -95,12 +87,12 @@ table-turn n small b levels first c h k e =
 pub columns-on : (n : ℕ) (levels : List ℕ) (first count : ℕ) → 240 * (first + count) ≤ length levels → n ≤ 240 → On n (columnsFrom n levels first count)
 columns-on n levels first count h s i l =
     let k : i < count = rw (length-columns n levels first count) at l in
-    ap length (column-at n levels first count i k) ∙ length-part n (240 * (first + i)) levels (omega arith)
+    ap length (column-at n levels first count i k) ∙ length-part n (first + i) levels (omega arith)
 
 pub members-on : (n : ℕ) → n ≤ 240 → (table : List ℕ) (count : ℕ) → 240 * count ≤ length table → On n (membersOf n table count)
 members-on n s table count h i l =
     let k : i < count = rw (length-members n s table count) at l in
-    ap length (member-is n s table count i k) ∙ length-part n (240 * i) table (omega arith)
+    ap length (member-is n s table count i k) ∙ length-part n i table (omega arith)
 
 pub all-numbered : (Cs : List Column) → allNumbered (map number Cs) ≡ true
 unfolding allNumbered

@@ -28,10 +28,8 @@ pub fn number_columns(levels: &[Level], n: usize, first: usize, count: usize, ou
     ensures { λ _. ⌜ membersOf n (now (out .exit)) count ≡ numberedFrom n (now (levels .entry)) first count ⌝ }
 {
     for c in 0..count {
-        let a = PLOTS * (first + c);
-        let e = a + n;
         let mut column = [0u8; PLOTS];
-        numbering::number_levels(&levels[a..e], &mut column);
+        numbering::number_levels(levels::column(levels, first + c, n), &mut column);
         decimal::write_bytes(&column[..n], out, PLOTS * c);
     }
 }
@@ -41,11 +39,10 @@ fn column_finer(columns: &[u8], n: usize, i: usize, j: usize) -> bool
     requires { ⌜ (n ≤ mostPlots) × (columnBytes ≤ length (now columns)) × (i < mostColumns) × (j < mostColumns) ⌝ }
     ensures { λ r. ⌜ r ≡ finer n (columnAt n (now (columns .entry)) i) (columnAt n (now (columns .entry)) j) ⌝ }
 {
-    let a = PLOTS * i;
-    let b = PLOTS * j;
-    let c = a + n;
-    let d = b + n;
-    factor::finer(&columns[a..c], &columns[b..d])
+    factor::finer(
+        families::member(columns, i, n),
+        families::member(columns, j, n),
+    )
 }
 
 // Whether column `i` is coarser than or equivalent to the member.
@@ -53,9 +50,7 @@ fn is_above(columns: &[u8], n: usize, i: usize, member: &[u8]) -> bool
     requires { ⌜ (n ≤ mostPlots) × (columnBytes ≤ length (now columns)) × (i < mostColumns) × (length (now member) ≡ n) ⌝ }
     ensures { λ r. ⌜ r ≡ finer n (now (member .entry)) (columnAt n (now (columns .entry)) i) ⌝ }
 {
-    let a = PLOTS * i;
-    let e = a + n;
-    factor::finer(member, &columns[a..e])
+    factor::finer(member, families::member(columns, i, n))
 }
 
 // Whether bit `j` of a word is set.
@@ -122,9 +117,7 @@ pub fn equivalent_column(columns: &[u8], n: usize, count: usize, member: &[u8]) 
     ensures { λ r. ⌜ r ≡ equivalentColumn (now (member .entry)) 0 (membersOf n (now (columns .entry)) count) ⌝ }
 {
     for c in 0..count {
-        let a = PLOTS * c;
-        let e = a + n;
-        if factor::alike(&columns[a..e], member) {
+        if factor::alike(families::member(columns, c, n), member) {
             return c + 1;
         }
     }
@@ -136,15 +129,14 @@ fn meet(columns: &[u8], n: usize, c: usize, some: bool, met: &mut [u8; PLOTS])
     requires { ⌜ (n ≤ mostPlots) × (columnBytes ≤ length (now columns)) × (c < mostColumns) × MeetAsks n (columnAt n (now columns) c) some (now met) ⌝ }
     ensures { λ _. ⌜ take n (now (met .exit)) ≡ infimum (columnAt n (now (columns .entry)) c) (take n (now (met .entry))) ⌝ }
 {
-    let a = PLOTS * c;
-    let e = a + n;
+    let column = families::member(columns, c, n);
     if some {
         let mut next = [0u8; PLOTS];
-        standing::infimum(&columns[a..e], met, &mut next);
+        standing::infimum(column, met, &mut next);
         *met = next;
         return;
     }
-    decimal::write_bytes(&columns[a..e], met, 0);
+    decimal::write_bytes(column, met, 0);
 }
 
 // The infimum of all columns in the word, in the first `n` bytes of `met`, which are 1 before. The last column is met first.

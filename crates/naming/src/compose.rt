@@ -200,11 +200,10 @@ fn put_each(
 {
     let n = look.plots;
     for i in 0..size {
-        let a = PLOTS * i;
-        let e = a + n;
-        let b = NAME * i;
-        let f = b + NAME;
-        lengths[i] = put_member(text, columns, look, &family[a..e], i + 1, &mut names[b..f]);
+        let a = NAME * i;
+        let e = a + NAME;
+        let member = families::member(family, i, n);
+        lengths[i] = put_member(text, columns, look, member, i + 1, &mut names[a..e]);
     }
 }
 

@@ -11,7 +11,6 @@ mod kinds;
 mod questions;
 
 use limits::Level;
-use limits::PLOTS;
 use limits::TEXT;
 use sheet::Counts;
 
@@ -143,13 +142,12 @@ fn from_7(
     let look = kinds::look(kind, counts);
     let count = look.count;
     let first = kinds::first(kind);
-    if !questions::all_nonzero(levels, plots, first, count) {
+    if !levels::all_nonzero(levels, plots, first, count) {
         return Named::Refused(7);
     }
     if !families::well_formed(family, plots, size) {
         return Named::Refused(15);
     }
-    let a = PLOTS * (place - 1);
-    let e = a + plots;
-    name_counted(text, levels, counts, kind, &family[a..e], place, name)
+    let member = families::member(family, place - 1, plots);
+    name_counted(text, levels, counts, kind, member, place, name)
 }

@@ -1,17 +1,11 @@
-// Questions 6 and 7, and what naming one member asks.
+// Question 6, and what naming one member asks.
 ghost use mathlib.Core.Path.{_≡_};
-ghost use Prim.Native.Nat.{_+_, _≤_};
-ghost use lib.ListN.{length};
-ghost use Rattle.rules.specs.Limits.{mostPlots, mostFields, tableCells};
-ghost use Rattle.rules.specs.Family.{columnsFrom};
-ghost use Rattle.rules.specs.Design.{nonzero, allNonzero};
 ghost use Rattle.rules.specs.Naming.{namingWithin};
 ghost use Rattle.naming.specs.Answers.{memberFits};
 ghost use Rattle.naming.specs.Members.{membersFit};
 use limits::COLUMNS;
 use limits::FAMILY;
 use limits::LEVELS;
-use limits::Level;
 use limits::MEMBERS;
 use limits::NAME;
 use limits::PLOTS;
@@ -104,31 +98,4 @@ pub fn within(
         return false;
     }
     NAME <= name
-}
-
-// Whether no level of a column is 0.
-fn nonzero(column: &[Level]) -> bool
-    ensures { λ r. ⌜ r ≡ nonzero (now (column .entry)) ⌝ }
-{
-    for u in 0..column.len() {
-        if column[u] == 0 {
-            return false;
-        }
-    }
-    true
-}
-
-// 7: is every level of the columns from `first` on, `count` of them, nonzero?
-pub fn all_nonzero(levels: &[Level], n: usize, first: usize, count: usize) -> bool
-    requires { ⌜ (n ≤ mostPlots) × (first + count ≤ mostFields) × (tableCells ≤ length (now levels)) ⌝ }
-    ensures { λ r. ⌜ r ≡ allNonzero (columnsFrom n (now (levels .entry)) first count) ⌝ }
-{
-    for c in 0..count {
-        let at = PLOTS * (first + c);
-        let end = at + n;
-        if !nonzero(&levels[at..end]) {
-            return false;
-        }
-    }
-    true
 }

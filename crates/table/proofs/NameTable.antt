@@ -21,7 +21,7 @@ use Rattle.rules.proofs.Buffer.{member-is}
 use Rattle.rules.proofs.NameSize.{name-length}
 use Rattle.rules.proofs.Numbering.{by-cases}
 use Rattle.families.specs.Lent.{columnAt}
-use Rattle.families.proofs.Lent.{part-of, length-column}
+use Rattle.families.proofs.Lent.{length-column}
 use Rattle.naming.specs.Answers.{memberFits, namingCounted, startingWith}
 use Rattle.naming.specs.Members.{namesWritten, lengthsWritten, membersFit, memberName}
 use Rattle.naming.proofs.Entry.{named-for}
@@ -38,13 +38,12 @@ fits-place text levels buffer n count i room w k h r =
 
 -- what naming the part answers is the name at the place
 pub name-placed : (kind : Kind) (text levels buffer : List ℕ) (n count place room : ℕ) → Nameable text levels buffer n → count ≡ countKind (markOf kind) (header text) → count ≤ 6 → 1 ≤ place → place ≤ 32 → 96 ≤ room
-    → namingCounted kind text levels n count (take (240 * (place - 1) + n - 240 * (place - 1)) (drop (240 * (place - 1)) buffer)) place room ≡ record { refusal = 0; name = placedName kind text n levels buffer place }
+    → namingCounted kind text levels n count (columnAt n buffer (place - 1)) place room ≡ record { refusal = 0; name = placedName kind text n levels buffer place }
 unfolding placedName
 name-placed kind text levels buffer n count zero room w is few l h r = absurd (not-suc-le-zero l)
 name-placed kind text levels buffer n count (suc i) room w is few l h r =
     let e : suc i - 1 ≡ i = omega arith in
-    ap (λ (k : ℕ). namingCounted kind text levels n count (take (240 * k + n - 240 * k) (drop (240 * k) buffer)) (suc i) room) e
-    ∙ ap (λ (F : List ℕ). namingCounted kind text levels n count F (suc i) room) (part-of n i buffer)
+    ap (λ (k : ℕ). namingCounted kind text levels n count (columnAt n buffer k) (suc i) room) e
     ∙ named-for kind text levels n count (columnAt n buffer i) (suc i) room (w .form) is h (fits-place text levels buffer n count i room w few (omega arith) r)
 
 -- no name at place 0

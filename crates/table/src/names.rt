@@ -7,7 +7,6 @@ ghost use Rattle.naming.specs.Answers.{kindOf, startingWith, nameNumbers};
 ghost use Rattle.naming.specs.Members.{Slots};
 ghost use Rattle.table.specs.Names.{NameableBy, NameSlots, namesIn, familyNames, placedName};
 use limits::Level;
-use limits::PLOTS;
 use naming::Kind;
 use naming::Named;
 use sheet::Counts;
@@ -48,9 +47,8 @@ pub fn name_at(
         name[0] = b'-';
         return 1;
     }
-    let a = PLOTS * (place - 1);
-    let e = a + counts.plots;
-    let named = naming::name_counted(text, levels, counts, kind, &family[a..e], place, name);
+    let member = families::member(family, place - 1, counts.plots);
+    let named = naming::name_counted(text, levels, counts, kind, member, place, name);
     length_of(named)
 }
 

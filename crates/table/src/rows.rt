@@ -59,7 +59,8 @@ fn put_source(
     put_row(stratum, name, d, out, at)
 }
 
-// Writes the lines of the treatment members in the stratum at place `i`, in their order.
+// Writes the lines of the treatment members in the stratum at place `i`, in their order. Nine parameters: no struct can hold the lent slices
+// of names, lengths, places and degrees of freedom.
 fn put_sources(
     stratum: &[u8],
     i: usize,
@@ -110,7 +111,7 @@ fn put_residual(stratum: &[u8], found: bool, residual: i64, out: &mut [u8], at: 
     put_row(stratum, b"=residual", residual, out, at)
 }
 
-// Writes the lines of one stratum: its treatment members, its residual, its total.
+// Writes the lines of one stratum: its treatment members, its residual, its total. Eleven parameters: the same, and the stratum's own numbers.
 fn put_stratum(
     stratum: &[u8],
     i: usize,
@@ -133,7 +134,7 @@ fn put_stratum(
     put_row(stratum, b"=total", total, out, third)
 }
 
-// Writes the lines of all strata, in their order.
+// Writes the lines of all strata, in their order. Twelve parameters: the names and the numbers of both families, each list a slice of its own.
 pub fn put_strata(
     strata: &[u8],
     strata_lengths: &[usize],
@@ -174,7 +175,7 @@ pub fn put_strata(
     next
 }
 
-// Writes the whole table of an accepted sheet: the first line, the lines of the strata, the last line.
+// Writes the whole table of an accepted sheet: the first line, the lines of the strata, the last line. The parameters as above.
 pub fn put_table(
     plots: usize,
     strata: &[u8],

@@ -5,7 +5,7 @@ use mathlib.Core.List.{List, []}
 use Prim.Native.Nat.{ℕ, _+_, _-_, _*_, _≤_}
 use native.Mathlib.Omega.{arith}
 use denote.Ref.{now}
-use lib.ListN.{length, getD, take, drop}
+use lib.ListN.{length, getD}
 use borrow.Author.Tests.{not-true, not-false}
 use Rattle.rules.specs.Factor.{Column}
 use Rattle.rules.specs.Family.{columnsFrom, membersOf}
@@ -14,10 +14,10 @@ use Rattle.rules.specs.Sheet.{countKind, header}
 use Rattle.rules.specs.Naming.{markOf, firstColumn, kindColumns, nameAt, NameAnswer, nameBuffer}
 use Rattle.rules.proofs.Buffer.{length-members, member-is}
 use Rattle.rules.proofs.WellFormed.{accepted}
-use Rattle.families.proofs.Lent.{part-of, formed-in}
+use Rattle.factor.proofs.Lent.{length-part}
+use Rattle.families.proofs.Lent.{formed-in}
 use Rattle.naming.specs.Answers.{kindOf, countIn, namingCounted}
 use Rattle.naming.specs.declared.columns.Look.{Look}
-use Rattle.naming.proofs.Tables.{length-part}
 use Rattle.naming.proofs.Entry.{few-columns, first-column, named-for, answered, refusing, naming-7, naming-15, naming-found, Ranges, ranges, ranges-fit}
 use borrow.Author.Needs.{needs}
 use Rattle.naming.proofs.from_7.Statement.{statement}
@@ -30,22 +30,7 @@ first-requires : tie.Need-first-requires
 first-requires c κs = search needs
 
 all-nonzero-requires : tie.Need-all-nonzero-requires
-all-nonzero-requires c κs =
-    let s = c .before .before .before .before .before .before in
-    let a = s .args in
-    let text = now (a .text) in
-    let levels = now (a .levels) in
-    let buffer = now (a .family) in
-    let n = a .counts .plots in
-    let k = kindOf (a .kind) in
-    let out = now (a .name) in
-    let S = membersOf n buffer (a .size) in
-    let w = ranges n (a .size) (a .place) (length levels) (length buffer) (length out) (s .pre .1) in
-    let few = few-columns (a .kind) text (s .pre .0) in
-    let low = first-column (a .kind) in
-    let first : c .first .result ≡ firstColumn k = c .first .ensures in
-    let count : c .before .look .result .count ≡ countKind (markOf k) (header text) = ap (λ (x : Look). x .count) (c .before .look .ensures) ∙ s .pre .2 in
-    (w .few-plots, omega arith, w .table)
+all-nonzero-requires c κs = search needs
 
 returns : tie.Need-returns
 unfolding kindColumns
@@ -105,23 +90,11 @@ bounds c =
     let size : length S ≡ a .size = length-members n (w .few-plots) buffer (a .size) in
     (w, omega (arith, w .last))
 
-sub-a : tie.Need-sub-a
-sub-a c = let b = bounds c in omega (arith, b .0 .first, b .0 .few-plots, b .0 .family, b .1)
+sub-member : tie.Need-sub-member
+sub-member c = let b = bounds c in omega (arith, b .0 .first)
 
-mul-a : tie.Need-mul-a
-mul-a c = let b = bounds c in omega (arith, b .0 .first, b .0 .few-plots, b .0 .family, b .1)
-
-add-e : tie.Need-add-e
-add-e c = let b = bounds c in omega (arith, b .0 .first, b .0 .few-plots, b .0 .family, b .1)
-
-sub-name-counted : tie.Need-sub-name-counted
-sub-name-counted c = let b = bounds c in omega (arith, b .0 .first, b .0 .few-plots, b .0 .family, b .1)
-
-part-name-counted-start : tie.Need-part-name-counted-start
-part-name-counted-start c = let b = bounds c in omega (arith, b .0 .first, b .0 .few-plots, b .0 .family, b .1)
-
-part-name-counted-end : tie.Need-part-name-counted-end
-part-name-counted-end c = let b = bounds c in omega (arith, b .0 .first, b .0 .few-plots, b .0 .family, b .1)
+member-requires : tie.Need-member-requires
+member-requires c κs = search needs
 
 name-counted-requires : tie.Need-name-counted-requires
 name-counted-requires c κs = search needs
@@ -144,15 +117,16 @@ returns-3 c =
     let w = ranges n (a .size) (a .place) (length levels) (length buffer) (length out) (s .pre .1) in
     let asked : allNonzero (kindColumns k text n levels) ≡ c .before .before .before .before .before .before .before .before .all-nonzero .result = sym (c .before .before .before .before .before .before .before .before .all-nonzero .ensures ∙ ap₂ (λ (i m : ℕ). allNonzero (columnsFrom n levels i m)) (c .before .before .before .before .before .before .before .before .before .first .ensures) (ap (λ (x : Look). x .count) (c .before .before .before .before .before .before .before .before .before .before .look .ensures) ∙ s .pre .2)) in
     let i = a .place - 1 in
+    let m = c .before .before .before .before .member in
     let b = bounds (c .before .before .before .before .before) in
     let f = sym (c .before .before .before .before .before .before .well-formed .ensures ∙ formed-in n buffer (a .size) (w .few-plots) (w .family)) ∙ not-false _ (c .before .before .before .before .before .if2 .left) in
     let e = naming-found k text n levels S (a .place) (asked ∙ not-false _ (c .before .before .before .before .before .before .before .if1 .left)) f in
     let is = member-is n (w .few-plots) buffer (a .size) i (omega (arith, w .first, w .last)) in
-    let on : length (getD S i []) ≡ n = ap length is ∙ length-part n (240 * i) buffer (omega (arith, b .1, w .first, w .few-plots, w .family)) in
+    let on : length (getD S i []) ≡ n = ap length is ∙ length-part n i buffer (omega (arith, b .1, w .first, w .few-plots, w .family)) in
     let few = few-columns (a .kind) text (s .pre .0) in
     let fitting = ranges-fit n (countIn (a .kind) (a .counts)) (a .size) (a .place) (length levels) (length buffer) (length out) (length (getD S i [])) w (omega (arith, s .pre .2)) on in
-    let same : namingCounted k text levels n (countIn (a .kind) (a .counts)) (take (240 * i + n - 240 * i) (drop (240 * i) buffer)) (a .place) (length out) ≡ record { refusal = 0; name = nameAt k text n levels S (a .place) } =
-    ap (λ (F : Column). namingCounted k text levels n (countIn (a .kind) (a .counts)) F (a .place) (length out)) (part-of n i buffer ∙ sym is)
+    let same : namingCounted k text levels n (countIn (a .kind) (a .counts)) (now (m .result)) (a .place) (length out) ≡ record { refusal = 0; name = nameAt k text n levels S (a .place) } =
+    ap (λ (F : Column). namingCounted k text levels n (countIn (a .kind) (a .counts)) F (a .place) (length out)) (m .ensures ∙ sym is)
     ∙ named-for k text levels n (countIn (a .kind) (a .counts)) (getD S i []) (a .place) (length out) (s .pre .0) (s .pre .2) (b .1) fitting in
     answered _ out _ _ _ (e ∙ sym same) (c .before .before .name-counted .ensures)
 
@@ -166,12 +140,8 @@ from-7-spec =
     returns
     well-formed-requires
     returns-2
-    sub-a
-    mul-a
-    add-e
-    sub-name-counted
-    part-name-counted-start
-    part-name-counted-end
+    sub-member
+    member-requires
     name-counted-requires
     same-length
     returns-3)

@@ -12,7 +12,6 @@ use Rattle.rules.specs.Family.{alike, membersOf}
 use Rattle.rules.specs.Names.{equivalentColumn}
 use Rattle.rules.proofs.Buffer.{length-members, member-is}
 use Rattle.rules.proofs.WellFormed.{numbered-at}
-use Rattle.families.proofs.Lent.{part-of}
 use Rattle.naming.proofs.Tables.{equivalent-here, equivalent-on, equivalent-end}
 use Rattle.naming.proofs.columns.equivalent_column.Statement.{statement}
 use Rattle.naming.proofs.columns.equivalent_column.Tie as tie
@@ -26,20 +25,8 @@ abbrev μ-loop : tie.MeasureT-loop
 loop-holds : tie.Need-loop-holds Inv-loop μ-loop
 loop-holds c = (omega arith, refl)
 
-mul-a : tie.Need-mul-a Inv-loop μ-loop
-mul-a c = let s = c .before .before .before .before in omega (arith, s .pre .0 .few-plots, s .pre .0 .few, s .pre .0 .long)
-
-add-e : tie.Need-add-e Inv-loop μ-loop
-add-e c = let s = c .before .before .before .before in omega (arith, s .pre .0 .few-plots, s .pre .0 .few, s .pre .0 .long)
-
-sub-alike : tie.Need-sub-alike Inv-loop μ-loop
-sub-alike c = let s = c .before .before .before .before in omega (arith, s .pre .0 .few-plots, s .pre .0 .few, s .pre .0 .long)
-
-part-alike-start : tie.Need-part-alike-start Inv-loop μ-loop
-part-alike-start c = let s = c .before .before .before .before in omega (arith, s .pre .0 .few-plots, s .pre .0 .few, s .pre .0 .long)
-
-part-alike-end : tie.Need-part-alike-end Inv-loop μ-loop
-part-alike-end c = let s = c .before .before .before .before in omega (arith, s .pre .0 .few-plots, s .pre .0 .few, s .pre .0 .long)
+member-requires : tie.Need-member-requires Inv-loop μ-loop
+member-requires c κs = search needs
 
 alike-requires : tie.Need-alike-requires Inv-loop μ-loop
 alike-requires c κs = search needs
@@ -58,7 +45,7 @@ tested c =
     let t = now (a .columns) in
     let S = membersOf (a .n) t (a .count) in
     let l : length S ≡ a .count = length-members (a .n) (s .pre .0 .few-plots) t (a .count) in
-    ap (λ (C : Column). alike C F) (numbered-at S (s .pre .1) (b .loop .c) (omega arith) ∙ member-is (a .n) (s .pre .0 .few-plots) t (a .count) (b .loop .c) (omega arith) ∙ sym (part-of (a .n) (b .loop .c) t))
+    ap (λ (C : Column). alike C F) (numbered-at S (s .pre .1) (b .loop .c) (omega arith) ∙ member-is (a .n) (s .pre .0 .few-plots) t (a .count) (b .loop .c) (omega arith) ∙ sym (c .before .member .ensures))
     ∙ sym (c .alike .ensures)
 
 returns : tie.Need-returns Inv-loop μ-loop
@@ -97,11 +84,7 @@ equivalent-column-spec =
     Inv-loop
     μ-loop
     loop-holds
-    mul-a
-    add-e
-    sub-alike
-    part-alike-start
-    part-alike-end
+    member-requires
     alike-requires
     add-result
     returns

@@ -5,15 +5,17 @@ use mathlib.Core.List.{List}
 use Prim.Native.Nat.{ℕ, _+_, _-_, _*_, _≤_}
 use native.Mathlib.Omega.{arith}
 use denote.Ref.{now}
-use lib.ListN.{length, take, drop, replicate, length-take}
+use lib.ListN.{length, take, replicate, length-take}
 use borrow.Author.Needs.{needs}
 use Rattle.rules.specs.Factor.{Column, number}
 use Rattle.rules.specs.Family.{membersOf}
 use Rattle.rules.proofs.Numbering.{length-number}
+use Rattle.factor.specs.Lent.{columnAt}
+use Rattle.factor.proofs.Lent.{length-part}
 use Rattle.decimal.specs.Writing.{written}
 use Rattle.decimal.proofs.Writing.{length-written}
 use Rattle.naming.specs.Columns.{numberedFrom}
-use Rattle.naming.proofs.Tables.{length-part, numbered-part, none-yet, table-turn}
+use Rattle.naming.proofs.Tables.{numbered-part, none-yet, table-turn}
 use Rattle.naming.proofs.columns.number_columns.Statement.{statement}
 use Rattle.naming.proofs.columns.number_columns.Tie as tie
 
@@ -28,26 +30,11 @@ loop-holds c =
     let a = c .before .before .args in
     (omega arith, refl, none-yet (a .n) (now (a .out)) (now (a .levels)) (a .first))
 
-add-a : tie.Need-add-a Inv-loop μ-loop
-add-a c = omega arith
+add-column : tie.Need-add-column Inv-loop μ-loop
+add-column c = omega arith
 
-mul-a : tie.Need-mul-a Inv-loop μ-loop
-mul-a c = omega arith
-
-add-e : tie.Need-add-e Inv-loop μ-loop
-add-e c = let s = c .before .before .before .before in omega (arith, s .pre .0 .few-plots)
-
-mul-number-levels : tie.Need-mul-number-levels Inv-loop μ-loop
-mul-number-levels c = let s = c .before .before .before .before in omega (arith, s .pre .0 .few-plots)
-
-sub-number-levels : tie.Need-sub-number-levels Inv-loop μ-loop
-sub-number-levels c = omega arith
-
-part-number-levels-start : tie.Need-part-number-levels-start Inv-loop μ-loop
-part-number-levels-start c = omega arith
-
-part-number-levels-end : tie.Need-part-number-levels-end Inv-loop μ-loop
-part-number-levels-end c = let s = c .before .before .before .before in omega (arith, s .pre .0 .few-plots)
+column-requires : tie.Need-column-requires Inv-loop μ-loop
+column-requires c κs = search needs
 
 number-levels-requires : tie.Need-number-levels-requires Inv-loop μ-loop
 number-levels-requires c κs = search needs
@@ -57,8 +44,8 @@ module _ (c : tie.After-number-levels Inv-loop μ-loop) where
   abbrev n : ℕ
   n = c .before .before .before .before .before .before .before .args .n
 
-  abbrev from : ℕ
-  from = 240 * (c .before .before .before .before .before .before .before .args .first + c .before .before .before .before .loop .c)
+  abbrev place : ℕ
+  place = c .before .before .before .before .before .before .before .args .first + c .before .before .before .before .loop .c
 
   abbrev levels : List ℕ
   levels = now (c .before .before .before .before .before .before .before .args .levels)
@@ -66,14 +53,16 @@ module _ (c : tie.After-number-levels Inv-loop μ-loop) where
   abbrev column : Column
   column = c .number-levels .last .1 .0
 
-  inside : from + n ≤ length levels
+  inside : 240 * place + n ≤ length levels
   inside = omega (arith, c .before .before .before .before .before .before .before .pre .0 .few-plots)
 
-  column-is : take n column ≡ number (take n (drop from levels))
-  column-is = ap (take n) (c .number-levels .ensures .1) ∙ numbered-part n from (replicate 240 0) levels (c .before .before .before .before .before .before .before .pre .0 .few-plots) inside
+  column-is : take n column ≡ number (columnAt n levels place)
+  column-is =
+      ap (take n) (c .number-levels .ensures .1)
+      ∙ numbered-part n place (replicate 240 0) levels (c .before .before .before .before .before .before .before .pre .0 .few-plots) inside _ (c .before .before .column .ensures)
 
   column-length : length (take n column) ≡ n
-  column-length = ap length column-is ∙ length-number (take n (drop from levels)) ∙ length-part n from levels inside
+  column-length = ap length column-is ∙ length-number (columnAt n levels place) ∙ length-part n place levels inside
 
 array-share-prefix-column : tie.Need-array-share-prefix-column Inv-loop μ-loop
 array-share-prefix-column c = omega (arith, column-length c, length-take (n c) (column c))
@@ -102,10 +91,10 @@ loop-again c =
     let out = b .loop .out in
     let few = s .pre .0 .few in
     let long = s .pre .0 .long in
-    let w : c .before .before .write-bytes .last .1 .0 ≡ written out (240 * b .loop .c) (number (take (a .n) (drop (from k) (levels k)))) =
+    let w : c .before .before .write-bytes .last .1 .0 ≡ written out (240 * b .loop .c) (number (columnAt (a .n) (levels k) (place k))) =
     c .before .before .write-bytes .ensures .1 ∙ ap (written out (240 * b .loop .c)) (column-is k) in (
       omega arith,
-      ap length w ∙ length-written out (240 * b .loop .c) (number (take (a .n) (drop (from k) (levels k)))) ∙ b .loop .inv .1,
+      ap length w ∙ length-written out (240 * b .loop .c) (number (columnAt (a .n) (levels k) (place k))) ∙ b .loop .inv .1,
       ap (λ (o : List ℕ). membersOf (a .n) o (b .loop .c + 1)) w ∙ table-turn (a .n) (s .pre .0 .few-plots) out (levels k) (a .first) (b .loop .c) (omega arith) (inside k) (b .loop .inv .2),
     )
 
@@ -126,13 +115,8 @@ number-columns-spec =
     Inv-loop
     μ-loop
     loop-holds
-    add-a
-    mul-a
-    add-e
-    mul-number-levels
-    sub-number-levels
-    part-number-levels-start
-    part-number-levels-end
+    add-column
+    column-requires
     number-levels-requires
     array-share-prefix-column
     slice-aggregate-write-bytes

@@ -6,13 +6,14 @@ use Prim.Native.Nat.{ℕ, _+_, _-_, _*_, _≤_}
 use native.Mathlib.Numerals.{add-one}
 use native.Mathlib.Omega.{arith}
 use denote.Ref.{now}
+use borrow.Author.Needs.{needs}
 use lib.ListN.{length, take, drop, length-take, length-drop, set, length-set}
 use borrow.Rule.Slice.PartMut.{midOf, putMid, same-len-mid}
 use Rattle.rules.specs.Factor.{Column}
 use Rattle.rules.specs.Family.{membersOf}
 use Rattle.rules.specs.Sheet.{columnNames, header}
 use Rattle.rules.specs.Names.{nameOf, bytesOf}
-use Rattle.families.proofs.Lent.{part-of}
+use Rattle.factor.proofs.Lent.{length-part}
 use Rattle.decimal.specs.Writing.{written, placeAfter}
 use Rattle.decimal.proofs.Writing.{length-written}
 use Rattle.naming.specs.Answers.{startingWith}
@@ -40,11 +41,8 @@ mul-a c = omega arith
 add-e : tie.Need-add-e Inv-loop μ-loop
 add-e c = omega arith
 
-mul-b : tie.Need-mul-b Inv-loop μ-loop
-mul-b c = omega arith
-
-add-f : tie.Need-add-f Inv-loop μ-loop
-add-f c = omega arith
+member-requires : tie.Need-member-requires Inv-loop μ-loop
+member-requires c κs = search needs
 
 sub-put-member : tie.Need-sub-put-member Inv-loop μ-loop
 sub-put-member c = omega arith
@@ -58,19 +56,11 @@ part-put-member-end c = omega arith
 add-put-member : tie.Need-add-put-member Inv-loop μ-loop
 add-put-member c = omega arith
 
-sub-put-member-2 : tie.Need-sub-put-member-2 Inv-loop μ-loop
-sub-put-member-2 c = omega arith
-
-part-put-member-start-2 : tie.Need-part-put-member-start-2 Inv-loop μ-loop
-part-put-member-start-2 c = omega arith
-
-part-put-member-end-2 : tie.Need-part-put-member-end-2 Inv-loop μ-loop
-part-put-member-end-2 c = omega arith
-
 put-member-requires : tie.Need-put-member-requires Inv-loop μ-loop
 put-member-requires c κs =
     let s = c .before .before .before .before .before .before .before .before .before in
-    (s .pre .0, simp (length-take, length-drop) (omega arith), simp (length-take, length-drop) (omega arith))
+    let on = ap length (c .before .member .ensures) ∙ length-part (s .args .look .plots) (c .before .before .before .loop .i) (now (s .args .family)) (omega arith) in
+    (s .pre .0, on, simp (length-take, length-drop) (omega arith))
 
 mul-lengths : tie.Need-mul-lengths Inv-loop μ-loop
 mul-lengths c = omega arith
@@ -100,8 +90,9 @@ loop-again c =
     let k = 96 * i + 96 - 96 * i in
     let mid = midOf (96 * i) k (b .loop .names) in
     let w = c .before .before .put-member in
-    let same : bytesOf columns (nameOf n S (i + 1) (take (240 * i + n - 240 * i) (drop (240 * i) family))) ≡ whole i =
-    ap₂ (λ (p : ℕ) (F : Column). bytesOf columns (nameOf n S p F)) (add-one i) (part-of n i family) in
+    let m = c .before .before .before .before .member in
+    let same : bytesOf columns (nameOf n S (i + 1) (now (m .result))) ≡ whole i =
+    ap₂ (λ (p : ℕ) (F : Column). bytesOf columns (nameOf n S p F)) (add-one i) (m .ensures) in
     let part : length mid ≡ 96 = simp (length-take, length-drop) (omega arith) in
     let short : length (f i) ≤ 96 = simp length-take (omega arith) in
     let back : w .last .1 .1 .1 .1 .1 .0 ≡ startingWith (f i) mid = w .ensures .1 ∙ ap (written mid 0) same ∙ written-held mid (whole i) ∙ ap (λ (m : ℕ). startingWith (take m (whole i)) mid) part in
@@ -115,7 +106,7 @@ loop-again c =
       b .loop .inv .1,
       b .loop .inv .2,
       b .loop .inv .3,
-      same-len-mid (96 * i) k (b .loop .names) (w .last .1 .1 .1 .1 .1 .0) (ap length (w .ensures .1) ∙ length-written mid 0 (bytesOf columns (nameOf n S (i + 1) (take (240 * i + n - 240 * i) (drop (240 * i) family))))) ∙ b .loop .inv .4,
+      same-len-mid (96 * i) k (b .loop .names) (w .last .1 .1 .1 .1 .1 .0) (ap length (w .ensures .1) ∙ length-written mid 0 (bytesOf columns (nameOf n S (i + 1) (now (m .result))))) ∙ b .loop .inv .4,
       b .loop .inv .5,
       length-set (b .loop .lengths) i (w .result) ∙ b .loop .inv .6,
       b .loop .inv .7,
@@ -146,15 +137,11 @@ put-each-spec =
     loop-holds
     mul-a
     add-e
-    mul-b
-    add-f
+    member-requires
+    add-put-member
     sub-put-member
     part-put-member-start
     part-put-member-end
-    add-put-member
-    sub-put-member-2
-    part-put-member-start-2
-    part-put-member-end-2
     put-member-requires
     mul-lengths
     slice-write-lengths

@@ -7,7 +7,7 @@ use native.Mathlib.Omega.{arith}
 use denote.Ref.{now}
 use lib.ListN.{length}
 use Rattle.rules.specs.Naming.{NameAnswer, nameBuffer}
-use Rattle.naming.specs.Answers.{kindOf, countIn, NameNumbers, nameNumbersOf}
+use Rattle.naming.specs.Answers.{kindOf, countIn, namingCounted, NameNumbers, nameNumbersOf}
 use Rattle.naming.proofs.Entry.{few-columns}
 use Rattle.table.proofs.NameTable.{name-placed, name-none, length-none}
 use borrow.Author.Needs.{needs}
@@ -29,23 +29,11 @@ returns c =
     let l : 1 ≤ length (now (a .name)) = omega (arith, s .pre .2) in
     rw z (length-none k (now (a .text)) (now (a .levels)) (now (a .family)) (a .counts .plots), name-none k (now (a .text)) (now (a .levels)) (now (a .family)) (now (a .name)) (a .counts .plots) l)
 
-sub-a : tie.Need-sub-a
-sub-a c = search needs
+sub-member : tie.Need-sub-member
+sub-member c = search needs
 
-mul-a : tie.Need-mul-a
-mul-a c = search needs
-
-add-e : tie.Need-add-e
-add-e c = search needs
-
-sub-name-counted : tie.Need-sub-name-counted
-sub-name-counted c = search needs
-
-part-name-counted-start : tie.Need-part-name-counted-start
-part-name-counted-start c = search needs
-
-part-name-counted-end : tie.Need-part-name-counted-end
-part-name-counted-end c = search needs
+member-requires : tie.Need-member-requires
+member-requires c κs = search needs
 
 name-counted-requires : tie.Need-name-counted-requires
 name-counted-requires c κs = search needs
@@ -59,11 +47,12 @@ same-length-2 c = search needs
 returns-2 : tie.Need-returns-2
 unfolding nameNumbersOf
 returns-2 c =
-    let s = c .before .before .before .before .before .before .before .before .before .before .before .before in
+    let s = c .before .before .before .before .before .before .before .before .before .before .before in
     let a = s .args in
     let l : 1 ≤ a .place = omega arith in
     let few = few-columns (a .kind) (now (a .text)) (s .pre .0 .0 .form) in
-    let same = name-placed (kindOf (a .kind)) (now (a .text)) (now (a .levels)) (now (a .family)) (a .counts .plots) (countIn (a .kind) (a .counts)) (a .place) (length (now (a .name))) (s .pre .0 .0) (s .pre .0 .1) (omega (arith, s .pre .0 .1)) l (s .pre .1) (s .pre .2) in
+    let lent = ap (λ (F : List ℕ). namingCounted (kindOf (a .kind)) (now (a .text)) (now (a .levels)) (a .counts .plots) (countIn (a .kind) (a .counts)) F (a .place) (length (now (a .name)))) (c .before .before .before .before .before .member .ensures) in
+    let same = lent ∙ name-placed (kindOf (a .kind)) (now (a .text)) (now (a .levels)) (now (a .family)) (a .counts .plots) (countIn (a .kind) (a .counts)) (a .place) (length (now (a .name))) (s .pre .0 .0) (s .pre .0 .1) (omega (arith, s .pre .0 .1)) l (s .pre .1) (s .pre .2) in
     let r = c .before .before .before .name-counted .ensures in
     (c .length-of .ensures ∙ ap (λ (x : NameNumbers). x .size) (r .0) ∙ ap (λ (x : NameAnswer). length (x .name)) same, r .1 ∙ ap (nameBuffer (now (a .name))) same)
 
@@ -74,12 +63,8 @@ name-at-spec =
     slice-write-name
     same-length
     returns
-    sub-a
-    mul-a
-    add-e
-    sub-name-counted
-    part-name-counted-start
-    part-name-counted-end
+    sub-member
+    member-requires
     name-counted-requires
     length-of-requires
     same-length-2
