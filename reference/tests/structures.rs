@@ -6,21 +6,6 @@ mod common;
 use common::*;
 use reference::{Entries, Level, FAMILY};
 
-type Partition = Vec<u8>;
-
-/// Every division of the plots, numbered by first appearance.
-fn partitions(plots: usize) -> Vec<Partition> {
-    let mut found = vec![vec![1]];
-    for _ in 1..plots {
-        let longer = |start: &Partition| -> Vec<Partition> {
-            let most = start.iter().copied().max().unwrap_or(0);
-            (1..=most + 1).map(|number| [&start[..], &[number]].concat()).collect()
-        };
-        found = found.iter().flat_map(longer).collect();
-    }
-    found
-}
-
 fn numbered(labels: &[usize]) -> Partition {
     let first = |u: usize| labels.iter().position(|&label| label == labels[u]).unwrap_or(u);
     let firsts: Vec<usize> = (0..labels.len()).filter(|&u| first(u) == u).collect();

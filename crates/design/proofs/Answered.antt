@@ -1,21 +1,21 @@
 -- Laws of the answers: what each case of the verdict says in numbers.
 -- Assumes nothing.
 use Rattle.rules.specs.Structure.{Lent, Demand3}
-use Rattle.rules.specs.Closing.{Closing, tooMany, family, both, plotFamily, InPlotFamily}
+use Rattle.rules.specs.Closing.{Closing, tooMany, family, plotFamily, InPlotFamily}
 use Rattle.rules.specs.Factor.{orthogonal, uniform}
 use Rattle.rules.specs.Family.{Family, written, membersOf, columnsFrom, AtMost}
-use Rattle.rules.specs.Design.{Places, firstPair, question9, question10, refused, question8, firstFailing, plotBuffer, plotsWithin, withinLimits, allNonzero, question7, plotDesign, returned}
+use Rattle.rules.specs.Design.{Answer, Places, firstPair, question9, question10, refused, question8, firstFailing, plotBuffer, withinLimits, allNonzero, question7, plotDesign, returned}
 use Rattle.rules.proofs.Demand3.{demand-3}
+use Rattle.rules.proofs.PlotStrata.{plot-trusted}
 use Rattle.rules.proofs.Verdict.{verdict-members}
-use borrow.Author.Tests.{eq-eqb, ne-eqb, ltb-true, leb-true}
-use lib.Dec.{ltb, leb}
+use borrow.Author.Tests.{eq-eqb, ne-eqb}
 use mathlib.Core.List.{List}
-use mathlib.Core.Path.{_≡_, refl, sym, ap, _∙_}
-use mathlib.Core.Bool.{Bool, true, false, _&&_, true≢false}
-use Prim.Native.Nat.{ℕ, zero, suc, _≤_}
+use mathlib.Core.Path.{_≡_, refl, ap, _∙_}
+use mathlib.Core.Bool.{true, false}
+use Prim.Native.Nat.{ℕ, zero, suc}
 use lib.ListN.{length}
 use Rattle.design.specs.Closings.{closedIn}
-use Rattle.design.specs.Answers.{PlotNumbers, plotNumbersOf}
+use Rattle.design.specs.Answers.{PlotNumbers, plotNumbersOf, PlotTrusted}
 
 -- the numbers of a refusal
 abbrev pub refusing : ℕ → ℕ → ℕ → ℕ → PlotNumbers
@@ -84,27 +84,6 @@ module _ (n : ℕ) (memory : List ℕ) (m : ℕ) where
 
 -- ---- the plot design
 
-and-yes : (a b : Bool) → a && b ≡ true → (a ≡ true) × (b ≡ true)
-and-yes true b e = (refl, e)
-and-yes false b e = absurd (true≢false (sym e))
-
--- what question 6 tells
-pub record Limits (n c tableLength bufferLength : ℕ) : Type 0 where
-  pub some : 1 ≤ n
-  pub most : n ≤ 240
-  pub columns : c ≤ 6
-  pub table : 2880 ≤ tableLength
-  pub buffer : 7680 ≤ bufferLength
-
-pub limits : (n c t b : ℕ) → withinLimits n c t b ≡ true → Limits n c t b
-unfolding withinLimits plotsWithin
-limits n c t b e =
-    let e0 = and-yes ((ltb 0 n && leb n 240) && leb c 6 && leb 2880 t) (leb 7680 b) e in
-    let e1 = and-yes ((ltb 0 n && leb n 240) && leb c 6) (leb 2880 t) (e0 .0) in
-    let e2 = and-yes (ltb 0 n && leb n 240) (leb c 6) (e1 .0) in
-    let e3 = and-yes (ltb 0 n) (leb n 240) (e2 .0) in
-    record { some = ltb-true 0 n (e3 .0); most = leb-true n 240 (e3 .1); columns = leb-true c 6 (e2 .1); table = leb-true 2880 t (e1 .1); buffer = leb-true 7680 b (e0 .1) }
-
 module _ (n c : ℕ) (levels : List ℕ) (b : ℕ) where
   -- question 6 says no
   pub design-6 : withinLimits n c (length levels) b ≡ false → plotDesign n c levels b ≡ refused 6
@@ -121,9 +100,15 @@ module _ (n c : ℕ) (levels : List ℕ) (b : ℕ) where
   unfolding plotDesign question7
   design-8 e f = rw (e, plotDesign) (rw (f, question7))
 
--- demand 3, of the numbers answered and the bytes left
-pub demanded : (n c : ℕ) (levels buffer after : List ℕ) (numbers : PlotNumbers)
-    → numbers ≡ plotNumbersOf (plotDesign n c levels (length buffer)) → after ≡ plotBuffer buffer (plotDesign n c levels (length buffer))
-    → Lent n c levels buffer → AtMost 32 (InPlotFamily n (columnsFrom n levels 0 c)) → Demand3 n (columnsFrom n levels 0 c) (numbers .refusal) (membersOf n after (numbers .size))
-unfolding returned plotNumbersOf
-demanded n c levels buffer after numbers e f lent few = rw (e, f) (demand-3 n c levels buffer lent few)
+-- the promise whole: demand 3 and C-13 of the numbers answered and the bytes left are its last parts
+module _ (n c : ℕ) (levels buffer after : List ℕ) (numbers : PlotNumbers) where
+  abbrev made : Answer
+  made = plotDesign n c levels (length buffer)
+
+  abbrev Demanded : Type 0
+  Demanded =
+      Lent n c levels buffer → AtMost 32 (InPlotFamily n (columnsFrom n levels 0 c)) → Demand3 n (columnsFrom n levels 0 c) (numbers .refusal) (membersOf n after (numbers .size))
+
+  pub promised : numbers ≡ plotNumbersOf made → after ≡ plotBuffer buffer made → (numbers ≡ plotNumbersOf made) × ((after ≡ plotBuffer buffer made) × (Demanded × PlotTrusted n numbers after))
+  unfolding returned plotNumbersOf
+  promised e f = (e, (f, (λ lent few. rw (e, f) (demand-3 n c levels buffer lent few), rw (e, f) (plot-trusted n c levels buffer))))

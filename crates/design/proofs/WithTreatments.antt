@@ -1,18 +1,18 @@
 -- Laws of the full design around the plot design: what an accepted and a refused plot family lead to, questions 6 and 7, and the promise whole.
 -- Assumes nothing.
 use mathlib.Core.Path.{_≡_, refl, sym, ap, ap₂, _∙_}
-use mathlib.Core.Bool.{Bool, true, false, _&&_, true≢false}
+use mathlib.Core.Bool.{true, false, _&&_, true≢false}
 use mathlib.Core.List.{List, [], _∷_, _++_}
-use Prim.Native.Nat.{ℕ, zero, suc, _+_, _≤_}
+use Prim.Native.Nat.{ℕ, zero, suc, _≤_}
 use native.Mathlib.Nat.{suc-ne-zero}
 use native.Mathlib.Omega.{arith}
-use lib.Dec.{ltb, leb}
+use lib.Dec.{leb}
 use lib.ListN.{length}
-use borrow.Author.Tests.{eq-eqb, ltb-true, leb-true}
+use borrow.Author.Tests.{eq-eqb}
 use Rattle.rules.specs.Factor.{Column, uniform, orthogonal, equality}
 use Rattle.rules.specs.Family.{Family, _∈_, columnsFrom, membersOf}
 use Rattle.rules.specs.Closing.{Closing, tooMany, family, plotFamily, by-equality, firstTreatmentFamily, finalTreatmentFamily}
-use Rattle.rules.specs.Design.{Answer, Places, firstPair, firstCross, firstFailing, question8, question9, question10, question11, question12, question13, question14, withTreatments, nonzero, allNonzero, withinLimits, fullWithinLimits, fullQuestion7, fullDesign, refused, plotBuffer, treatmentBuffer}
+use Rattle.rules.specs.Design.{Answer, Places, firstPair, firstCross, firstFailing, question8, question9, question10, question11, question12, question13, question14, withTreatments, nonzero, allNonzero, fullWithinLimits, fullQuestion7, fullDesign, refused, plotBuffer, treatmentBuffer}
 use Rattle.rules.specs.Demand2.{Demand2}
 use Rattle.rules.proofs.Numbering.{by-cases}
 use Rattle.rules.proofs.Verdict.{verdict-members}
@@ -20,12 +20,12 @@ use Rattle.rules.proofs.Buffer.{length-members}
 use Rattle.rules.proofs.Families.{plot-family-lists}
 use Rattle.rules.proofs.Made.{plot-made}
 use Rattle.rules.proofs.Demand2.{demand-2}
+use Rattle.rules.proofs.FullStrata.{demand-trusted}
 use Rattle.design.specs.Treatments.{Numbered}
 use Rattle.design.proofs.Asked.{numbered-made}
-use Rattle.design.specs.Answers.{PlotNumbers, plotNumbersOf, FullNumbers, fullNumbersOf, fullLeft, fullRefusing}
+use Rattle.design.specs.Answers.{PlotNumbers, plotNumbersOf, FullNumbers, fullNumbersOf, fullLeft, FullTrusted, fullRefusing}
 use Rattle.design.specs.Closings.{closedIn, goesOn}
-use Rattle.standing.proofs.CellTable.{and-both}
-use Rattle.design.proofs.Answered.{accepting, held-over, held-on, Limits, limits}
+use Rattle.design.proofs.Answered.{accepting, held-over, held-on}
 
 -- ---- the plot design writes no treatment family
 
@@ -152,23 +152,6 @@ unfolding allNonzero
 nonzero-append [] Ts = refl
 nonzero-append (F ∷ Fs) Ts = by-cases (nonzero F) (λ e. rw (e, allNonzero) (nonzero-append Fs Ts)) (λ e. rw (e, allNonzero))
 
--- what question 6 of the full design tells
-pub record FullLimits (n c d k t p b : ℕ) : Type 0 where
-  pub plots : Limits n c t p
-  pub treatments : d ≤ 6
-  pub some : 1 ≤ k
-  pub most : k ≤ 6
-  pub buffer : 7680 ≤ b
-
-pub full-limits : (n c d k t p b : ℕ) → fullWithinLimits n c d k t p b ≡ true → FullLimits n c d k t p b
-unfolding fullWithinLimits
-full-limits n c d k t p b e =
-    let e0 = and-both (((withinLimits n c t p && leb d 6) && ltb 0 k) && leb k 6) (leb 7680 b) e in
-    let e1 = and-both ((withinLimits n c t p && leb d 6) && ltb 0 k) (leb k 6) (e0 .0) in
-    let e2 = and-both (withinLimits n c t p && leb d 6) (ltb 0 k) (e1 .0) in
-    let e3 = and-both (withinLimits n c t p) (leb d 6) (e2 .0) in
-    record { plots = limits n c t p (e3 .0); treatments = leb-true d 6 (e3 .1); some = ltb-true 0 k (e2 .1); most = leb-true k 6 (e1 .1); buffer = leb-true 7680 b (e0 .1) }
-
 module _ (n c d k : ℕ) (levels : List ℕ) (p b : ℕ) where
   pub full-6 : fullWithinLimits n c d k (length levels) p b ≡ false → fullDesign n c d k levels p b ≡ refused 6
   unfolding fullDesign
@@ -184,12 +167,14 @@ module _ (n c d k : ℕ) (levels : List ℕ) (p b : ℕ) where
     unfolding fullDesign fullQuestion7
     full-8 f g = rw (e, fullDesign) (rw (nonzero-append (columnsFrom n levels 0 c) (columnsFrom n levels 6 d) ∙ ap₂ _&&_ f g, fullQuestion7))
 
--- the promise whole, demand 2 of the numbers answered and the bytes left being its last part
+-- the promise whole: demand 2 and C-13 of the numbers answered and the bytes left are its last parts
 module _ (n c d k : ℕ) (levels p b after after′ : List ℕ) (r : FullNumbers) where
   abbrev made : Answer
   made = fullDesign n c d k levels (length p) (length b)
 
   pub promised : r ≡ fullNumbersOf made → after ≡ plotBuffer p made → after′ ≡ treatmentBuffer b made
-      → (r ≡ fullNumbersOf made) × ((after ≡ plotBuffer p made) × ((after′ ≡ treatmentBuffer b made) × Demand2 n c d k levels p b (fullLeft n r after after′)))
+      → (r ≡ fullNumbersOf made) × ((after ≡ plotBuffer p made) × ((after′ ≡ treatmentBuffer b made) × (Demand2 n c d k levels p b (fullLeft n r after after′) × FullTrusted n r after after′)))
   unfolding fullNumbersOf
-  promised e f g = (e, (f, (g, rw (e, f, g) (demand-2 n c d k levels p b))))
+  promised e f g =
+      let met : Demand2 n c d k levels p b (fullLeft n r after after′) = rw (e, f, g) (demand-2 n c d k levels p b) in
+      (e, (f, (g, (met, demand-trusted n c d k levels p b (fullLeft n r after after′) met))))

@@ -1,11 +1,14 @@
 -- The answers of the designs as the rules count them: the number of the refusal, its places and the sizes, for each case of the enums.
 -- Assumes nothing.
+use mathlib.Core.Path.{_≡_}
 use mathlib.Core.Bool.{Bool, true, false}
 use mathlib.Core.List.{List}
 use Prim.Native.Nat.{ℕ}
 use lib.Dec.{eqb}
 use Rattle.rules.specs.Family.{membersOf}
 use Rattle.rules.specs.Design.{Answer, plotSize, treatmentSize}
+use Rattle.rules.specs.Degrees.{TrustedStrata}
+use Rattle.rules.specs.Strata.{Trusted}
 use Rattle.design.specs.declared.PlotDesign.{PlotDesign}
 use Rattle.design.specs.declared.PlotDesign.the-variants.{Accepted, Refused}
 use Rattle.design.specs.declared.FullDesign.{FullDesign}
@@ -27,6 +30,10 @@ plotNumbers (Refused r) = record { accepted = false; refusal = r .number; first 
 -- an answer of the rules
 unfoldable pub plotNumbersOf : Answer → PlotNumbers
 plotNumbersOf a = record { accepted = eqb (a .refusal) 0; refusal = a .refusal; first = a .places .first; second = a .places .second; size = plotSize a }
+
+-- C-13 of what a plot design leaves: the numbers answered, and the family in the buffer afterwards, as many members as the size answered
+abbrev pub PlotTrusted : ℕ → PlotNumbers → List ℕ → Type 0
+PlotTrusted n r buffer = r .refusal ≡ 0 → TrustedStrata n (membersOf n buffer (r .size))
 
 -- ---- the full design
 
@@ -51,6 +58,10 @@ fullNumbersOf a = record { accepted = eqb (a .refusal) 0; refusal = a .refusal; 
 -- what a full design leaves: the numbers answered, and the families in the two buffers afterwards, as many members as the sizes answered
 abbrev pub fullLeft : ℕ → FullNumbers → List ℕ → List ℕ → Answer
 fullLeft n r plots treatments = record { refusal = r .refusal; places = record { first = r .first; second = r .second }; plot = membersOf n plots (r .plot); treatment = membersOf n treatments (r .treatment) }
+
+-- C-13 of it
+abbrev pub FullTrusted : ℕ → FullNumbers → List ℕ → List ℕ → Type 0
+FullTrusted n r plots treatments = r .refusal ≡ 0 → Trusted n (membersOf n plots (r .plot)) (membersOf n treatments (r .treatment))
 
 -- a refusal by question q, with its places and the sizes of the two families
 abbrev pub fullRefusing : ℕ → ℕ → ℕ → ℕ → ℕ → FullNumbers

@@ -128,3 +128,31 @@ module _ (n : ℕ) (F G : Column) (lF : length F ≡ n) (lG : length G ≡ n) wh
   pub supremum-absorbs : supremum F (infimum F G) ≡ number F
   supremum-absorbs =
       supremum-comm n F (infimum F G) lF (length-infimum′ n F G lF lG) ∙ supremum-coarser-is n (infimum F G) F (length-infimum′ n F G lF lG) lF (infimum-left n F G lF lG)
+
+-- ---- suprema of three factors
+
+module _ (n : ℕ) (F G H : Column) (lF : length F ≡ n) (lG : length G ≡ n) (lH : length H ≡ n) where
+  lFG : length (supremum F G) ≡ n
+  lFG = length-supremum′ n F G lF lG
+
+  lGH : length (supremum G H) ≡ n
+  lGH = length-supremum′ n G H lG lH
+
+  down : Finer n (supremum (supremum F G) H) (supremum F (supremum G H))
+  down = supremum-least n (supremum F G) H lFG lH (supremum F (supremum G H))
+      (supremum-least n F G lF lG (supremum F (supremum G H)) (supremum-left n F (supremum G H) lF lGH)
+      (finer-trans n G (supremum G H) (supremum F (supremum G H)) (supremum-left n G H lG lH) (supremum-right n F (supremum G H) lF lGH)))
+      (finer-trans n H (supremum G H) (supremum F (supremum G H)) (supremum-right n G H lG lH) (supremum-right n F (supremum G H) lF lGH))
+
+  up : Finer n (supremum F (supremum G H)) (supremum (supremum F G) H)
+  up = supremum-least n F (supremum G H) lF lGH (supremum (supremum F G) H)
+      (finer-trans n F (supremum F G) (supremum (supremum F G) H) (supremum-left n F G lF lG) (supremum-left n (supremum F G) H lFG lH))
+      (supremum-least n G H lG lH (supremum (supremum F G) H)
+      (finer-trans n G (supremum F G) (supremum (supremum F G) H) (supremum-right n F G lF lG) (supremum-left n (supremum F G) H lFG lH)) (supremum-right n (supremum F G) H lFG lH))
+
+  -- the supremum is associative
+  pub supremum-assoc : supremum (supremum F G) H ≡ supremum F (supremum G H)
+  supremum-assoc =
+      sym (number-supremum (supremum F G) H (lFG ∙ sym lH))
+      ∙ numbered-equal n (supremum (supremum F G) H) (supremum F (supremum G H)) (length-supremum′ n (supremum F G) H lFG lH) (length-supremum′ n F (supremum G H) lF lGH) (record { to = down; from = up })
+      ∙ number-supremum F (supremum G H) (lF ∙ sym lGH)

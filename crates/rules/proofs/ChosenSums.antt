@@ -10,9 +10,9 @@ use native.Mathlib.Omega.{arith}
 use lib.IntN.{ℤ, pos, _+ℤ_}
 use lib.ListN.{length, getD}
 use Rattle.rules.specs.Lists.{passingFrom}
+use Rattle.rules.specs.Degrees.{addUp}
 use Rattle.rules.specs.Listing.{Enumerates}
 use Rattle.rules.proofs.Numbering.{by-cases}
-unfoldable pub use Rattle.rules.proofs.DegreesLaws.{addUp}
 use Rattle.rules.proofs.Listing.{enumerates-unique, enumerates-as, passing-enumerates}
 
 -- g adds up the numbers that belong to those elements that pass the test p

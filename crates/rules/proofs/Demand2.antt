@@ -18,7 +18,8 @@ use Rattle.rules.specs.Design.{Answer, Places, firstFailing, pairAt, fir
 use Rattle.rules.specs.Strata.{allHaveStratum}
 use Rattle.rules.specs.Places.{atPlace, FirstPlace, FirstPlaces, FirstCross}
 use Rattle.rules.specs.Asking.{Verdict, Asked, firstNo, atPlaces, fewEnough, membersIn, asks6, asks7, asks8, asks9, asks10, asks11, asks12, asks13, asks14, plotColumns, treatmentColumns, plotMembers, firstMembers, fullQuestions, verdictOf, writtenFrom, fullAnswer}
-use Rattle.rules.specs.Demand2.{readBack, Condition, condition, FirstBroken, AllHold, Within, PlotLimits, NoneMissing, condition6, condition7, condition8, condition9, condition10, condition11, condition12, condition13, condition14, fullConditions, plotConditions, FirstUneven, FirstApart, FirstApartAcross, Carries, Demand2}
+use Rattle.rules.specs.Limits.{PlotLimits}
+use Rattle.rules.specs.Demand2.{readBack, Condition, condition, FirstBroken, AllHold, Within, NoneMissing, condition6, condition7, condition8, condition9, condition10, condition11, condition12, condition13, condition14, fullConditions, plotConditions, FirstUneven, FirstApart, FirstApartAcross, Carries, Demand2}
 use Rattle.rules.proofs.Numbering.{by-cases}
 use Rattle.rules.proofs.Members.{clash}
 use Rattle.rules.proofs.Tests.{uniform-test, orthogonal-test, orthogonal-sym, orthogonal-self}
@@ -36,7 +37,8 @@ use Rattle.rules.proofs.DesignAsks.{six-no, plot-design-asks, full-desi
 
 -- ---- 6
 
-plot-limits : (n c t b : ℕ) → withinLimits n c t b ≡ true → PlotLimits n c t b
+-- what question 6 of a plot design tells
+pub plot-limits : (n c t b : ℕ) → withinLimits n c t b ≡ true → PlotLimits n c t b
 unfolding withinLimits plotsWithin
 plot-limits n c t b e =
     let w : Bool = ltb 0 n && leb n 240 in
@@ -54,7 +56,8 @@ plot-limits n c t b e =
     }
 
 module _ (n c d k : ℕ) (levels plots treatments : List ℕ) where
-  within-to : fullWithinLimits n c d k (length levels) (length plots) (length treatments) ≡ true → Within n c d k levels plots treatments
+  -- what question 6 of a full design tells
+  pub within-to : fullWithinLimits n c d k (length levels) (length plots) (length treatments) ≡ true → Within n c d k levels plots treatments
   unfolding fullWithinLimits
   within-to e =
       let w : Bool = withinLimits n c (length levels) (length plots) in

@@ -11,7 +11,7 @@ use lib.ListN.{length, getD, take, drop, length-drop}
 use lib.Seq.{length-take-le, getD-take, getD-drop}
 use borrow.Author.Tests.{ne-eqb, le-leb}
 use Rattle.rules.specs.Factor.{Column, Equivalent, number, infimum, supremum, universal, equality, uniform, Orthogonal, orthogonal}
-use Rattle.rules.specs.Family.{Family, _∈_, before, Ascending, empty, cons, AtMost, columnsFrom}
+use Rattle.rules.specs.Family.{Family, _∈_, before, Ascending, empty, cons, AtMost, Lists, columnsFrom}
 use Rattle.rules.specs.Closing.{InPlotFamily, by-column, by-universal, by-equality, by-infimum, by-supremum, both, plotGenerators, Closing, family, plotFamily}
 use Rattle.rules.specs.Design.{firstFailing, firstPair, none, question8, nonzero, allNonzero, withinLimits, question7, plotDesign, returned}
 use Rattle.rules.specs.Structure.{Contains, Inside, Inequivalent, no-member, unlike, OrthogonalBlockStructure, Lent, Demand3}
@@ -23,6 +23,9 @@ use Rattle.rules.proofs.Tests.{uniform-test, orthogonal-test, uniform-e
 use Rattle.rules.proofs.Buffer.{written-members}
 use Rattle.rules.proofs.Extremes.{length-universal, number-universal, length-equality, number-equality}
 use Rattle.rules.proofs.Families.{made-in-family, in-family-made}
+use Rattle.rules.proofs.WellFormed.{Accepted}
+use Rattle.rules.proofs.DegreesLaws.{lists-accepted}
+use Rattle.rules.proofs.Structures.{structure-degrees, structure-total}
 use Rattle.rules.proofs.Verdict.{failing-none, failing-pass, pairs-none, pairs-pass, pairwise-cases, verdict-members, verdict-accepts, verdict-passes, verdict-number}
 
 -- ---- the members of the plot family
@@ -112,6 +115,13 @@ module _ (n : ℕ) (Fs : List Column) where
           two F G m k (inr (inl q)) = orthogonal-test n F G .0 q
           two F G m k (inr (inr q)) = orthogonal-sym n G F (member-length G (in-R G k)) (member-length F (in-R F m)) (orthogonal-test n G F .0 q)
 
+      listed-R : Lists (InPlotFamily n Fs) R
+      listed-R = record { ascending = s .ascending; few = s .few; only = in-R; all = to-R }
+
+      -- question 15 accepts it
+      pub accepted-family : Accepted R
+      accepted-family = lists-accepted listed-R member-numbered by-equality
+
       pub accepted-contains : (F : Column) → F ∈ Fs → Contains n R F
       accepted-contains F m = record { member = number F; isMember = to-R (number F) (by-column m); equivalent = number-equivalent F (on F m) }
 
@@ -147,6 +157,8 @@ verdict-right n Fs on few x (listed {R} s) = record {
   structure = λ e. rw (verdict-members n R) (accepted-structure n Fs on R s e);
   contains = λ e F m. rw (verdict-members n R) (accepted-contains n Fs on R s F m);
   least = λ e S o c. rw (verdict-members n R) (lies-inside n Fs on R s S o c);
+  strata = λ e i. rw (verdict-members n R) (structure-degrees n R (accepted-family n Fs on R s) (accepted-structure n Fs on R s e) i);
+  total = λ e. rw (verdict-members n R) (structure-total n R (accepted-family n Fs on R s) (accepted-structure n Fs on R s e));
 }
 
 -- at most 32 members, each on n plots

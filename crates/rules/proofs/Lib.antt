@@ -57,3 +57,14 @@ pub mod Totals
 pub mod NameBytes
 pub mod NameLaws
 pub mod NamesAnswered
+pub mod Ring
+pub mod Shares
+pub mod Matrices
+pub mod Averages
+pub mod Parts
+pub mod Weights
+pub mod Structures
+pub mod Readings
+pub mod PlotStrata
+pub mod Residuals
+pub mod FullStrata

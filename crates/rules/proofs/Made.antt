@@ -2,62 +2,25 @@
 -- Assumes nothing.
 use mathlib.Core.Path.{_≡_, sym, ap, ap₂, subst}
 use mathlib.Core.Logic.{_⊎_, inl, inr}
-use mathlib.Core.Bool.{Bool, true, false, _&&_}
+use mathlib.Core.Bool.{true, false}
 use mathlib.Core.List.{List}
 use Prim.Native.Nat.{ℕ, _≤_}
 use native.Mathlib.Nat.{not-suc-le-zero}
 use native.Mathlib.Omega.{arith}
-use lib.Dec.{eqb, ltb, leb}
+use lib.Dec.{eqb}
 use lib.ListN.{length, replicate, length-replicate}
-use borrow.Author.Tests.{ltb-true, leb-true, eqb-true, eqb-false}
+use borrow.Author.Tests.{eqb-true, eqb-false}
 use Rattle.rules.specs.Factor.{Column, equality}
 use Rattle.rules.specs.Family.{Family, _∈_, membersOf}
-use Rattle.rules.specs.Design.{Answer, Places, plotsWithin, withinLimits, fullWithinLimits, fullDesign, plotBuffer, treatmentBuffer}
+use Rattle.rules.specs.Design.{Answer, Places, fullDesign, plotBuffer, treatmentBuffer}
 use Rattle.rules.specs.Strata.{allHaveStratum}
 use Rattle.rules.specs.Table.{firstKind, secondKind, familyOf}
 use Rattle.rules.specs.Asking.{verdictOf}
 use Rattle.rules.specs.Demand2.{WithPlaces, Carries}
 use Rattle.rules.proofs.Numbering.{by-cases}
 use Rattle.rules.proofs.Buffer.{written-members, length-written}
-use Rattle.rules.proofs.Sheet.{and-left, and-right}
 pub use Rattle.rules.proofs.WellMade.{well-formed, WellMade, plot-made, chosen-on, chosen-numbered, first-made, final-made}
 use Rattle.rules.proofs.Demand2.{full-families, full-demanded}
-
--- what question 6 of a full design tells
-pub record FullLimits (n c d k tableLength plotLength treatmentLength : ℕ) : Type 0 where
-  pub plots-some : 1 ≤ n
-  pub plots-few : n ≤ 240
-  pub plot-columns : c ≤ 6
-  pub treatment-columns : d ≤ 6
-  pub table : 2880 ≤ tableLength
-  pub plot-room : 7680 ≤ plotLength
-  pub treatment-room : 7680 ≤ treatmentLength
-
-pub full-limits : (n c d k t p r : ℕ) → fullWithinLimits n c d k t p r ≡ true → FullLimits n c d k t p r
-unfolding fullWithinLimits withinLimits plotsWithin
-full-limits n c d k t p r e =
-    let w : Bool = ltb 0 n && leb n 240 in
-    let w1 : Bool = w && leb c 6 in
-    let w2 : Bool = w1 && leb 2880 t in
-    let w3 : Bool = w2 && leb 7680 p in
-    let w4 : Bool = w3 && leb d 6 in
-    let w5 : Bool = w4 && ltb 0 k in
-    let e6 = and-left (w5 && leb k 6) (leb 7680 r) e in
-    let e5 = and-left w5 (leb k 6) e6 in
-    let e4 = and-left w4 (ltb 0 k) e5 in
-    let e3 = and-left w3 (leb d 6) e4 in
-    let e2 = and-left w2 (leb 7680 p) e3 in
-    let e1 = and-left w1 (leb 2880 t) e2 in
-    let e0 = and-left w (leb c 6) e1 in
-    record {
-      plots-some = ltb-true 0 n (and-left (ltb 0 n) (leb n 240) e0);
-      plots-few = leb-true n 240 (and-right (ltb 0 n) (leb n 240) e0);
-      plot-columns = leb-true c 6 (and-right w (leb c 6) e1);
-      treatment-columns = leb-true d 6 (and-right w3 (leb d 6) e4);
-      table = leb-true 2880 t (and-right w1 (leb 2880 t) e2);
-      plot-room = leb-true 7680 p (and-right w2 (leb 7680 p) e3);
-      treatment-room = leb-true 7680 r (and-right (w5 && leb k 6) (leb 7680 r) e);
-    }
 
 -- ---- what an answer tells
 

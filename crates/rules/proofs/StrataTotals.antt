@@ -4,7 +4,7 @@ use mathlib.Core.Path.{_≡_, refl, sym, ap, ap₂, _∙_, subst}
 use mathlib.Core.Logic.{_↔_}
 use mathlib.Core.Bool.{true, false}
 use mathlib.Core.List.{List, [], _∷_, map}
-use Prim.Native.Nat.{ℕ, zero, suc, _+_, _-_, _≤_, _<_}
+use Prim.Native.Nat.{ℕ, zero, suc, _+_, _≤_, _<_}
 use native.Mathlib.Nat.{not-suc-le-zero, suc-inj, suc-ne-zero}
 use native.Mathlib.Omega.{arith}
 use lib.Dec.{eqb}
@@ -16,7 +16,7 @@ use Rattle.rules.specs.Factor.{Column}
 use Rattle.rules.specs.Family.{Family, _∈_, wellFormed}
 use Rattle.rules.specs.Design.{fullDesign}
 use Rattle.rules.specs.Relation.{memberAt}
-use Rattle.rules.specs.Degrees.{degrees}
+use Rattle.rules.specs.Degrees.{degrees, addUp}
 use Rattle.rules.specs.Strata.{allHaveStratum, stratum, sumAt, residualsFrom, residuals}
 use Rattle.rules.specs.Listing.{Enumerates}
 use Rattle.rules.specs.Allocation.{IsStratum}
@@ -29,7 +29,7 @@ use Rattle.rules.proofs.Printing.{stratum-some, stratum-most}
 use Rattle.rules.proofs.Totals.{accepted-total, stratum-total}
 use Rattle.rules.proofs.Allocation.{stratum-at}
 use Rattle.rules.proofs.Listing.{enumerates-as}
-use Rattle.rules.proofs.ChosenSums.{addUp, sum-enumerated}
+use Rattle.rules.proofs.ChosenSums.{sum-enumerated}
 
 module _ (i s : ℕ) (ss : List ℕ) (d : ℤ) (ds : List ℤ) where
   sum-here : eqb s i ≡ true → sumAt i (s ∷ ss) (d ∷ ds) ≡ d +ℤ sumAt i ss ds

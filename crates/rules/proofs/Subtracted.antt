@@ -13,7 +13,7 @@ use Rattle.rules.specs.Factor.{Column, coarser, classes}
 use Rattle.rules.specs.Family.{Family, _∈_, Ascending, membersOf, wellFormed}
 use Rattle.rules.specs.Lists.{tabulate, forPlaces}
 use Rattle.rules.specs.Relation.{memberAt, familyWithin}
-use Rattle.rules.specs.Degrees.{coarserSum, degrees, DegreesAnswer, degreesRefused, degreesOfFreedom}
+use Rattle.rules.specs.Degrees.{coarserSum, degrees, addUp, DegreesAnswer, degreesRefused, degreesOfFreedom}
 use Rattle.rules.specs.Strata.{allHaveStratum, stratum, residuals, question15, question16, StrataAnswer, strataRefused, strata}
 use Rattle.rules.specs.Listing.{Enumerates}
 use Rattle.rules.specs.Above.{StrictlyCoarser}
@@ -25,7 +25,7 @@ use Rattle.rules.proofs.Places.{at-places}
 use Rattle.rules.proofs.Degrees.{sum-yes, sum-no, degrees-equation}
 use Rattle.rules.proofs.DegreesLaws.{length-degrees}
 use Rattle.rules.proofs.Listing.{enumerates-as}
-use Rattle.rules.proofs.ChosenSums.{addUp, sum-enumerated}
+use Rattle.rules.proofs.ChosenSums.{sum-enumerated}
 use Rattle.rules.proofs.Taken.{places-found, Taken, taken-many, taken-on, degrees-taken, StrataTaken, strata-taken}
 use Rattle.rules.proofs.Above.{coarser-test}
 use Rattle.rules.proofs.Printing.{stratum-some}

@@ -9,94 +9,54 @@ use mathlib.Core.Path.{_≡_, refl, sym, ap, ap₂, _∙_, subst}
 use mathlib.Core.Logic.{_⊎_, inl, inr}
 use mathlib.Core.Bool.{Bool, true, false, not, _&&_, _||_, true≢false}
 use mathlib.Core.List.{List, [], _∷_, List·Memᴰ·head, List·Memᴰ·tail, List·Memᴰ·cases-cons, List·Memᴰ·not-nil, List·Memᴰ·eq-of-singleton}
-use Prim.Native.Nat.{ℕ, zero, suc, _≤_}
+use Prim.Native.Nat.{ℕ, zero, suc}
 use lib.ListN.{length}
 use Rattle.rules.specs.Factor.{Column, Finer, finer, number, supremum, universal, equality, infimum}
 use Rattle.rules.specs.Family.{Family, _∈_, insertAll, Ascending, empty, cons}
-use Rattle.rules.specs.Closing.{both, onlySupremum, family, close, plotGenerators, plotFamily, choices, treatmentGenerators, firstTreatmentFamily, finalTreatmentFamily, given, infimumAll, by-equality}
+use Rattle.rules.specs.Closing.{both, onlySupremum, family, close, plotGenerators, plotFamily, choices, treatmentGenerators, firstTreatmentFamily, finalTreatmentFamily, given, infimumAll, by-equality, SupremumOfEach}
 use Rattle.rules.specs.Strata.{all, isStratum, stratum, allHaveStratum}
 use Rattle.rules.proofs.Numbering.{by-cases}
-use Rattle.rules.proofs.Supremum.{number-supremum}
 use Rattle.rules.proofs.Members.{clash, insertAll-has, insertAll-only, ascending-insertAll, ascending-unique}
-use Rattle.rules.proofs.Bounds.{finer-trans, numbered-equal, length-supremum′, supremum-left, supremum-right, supremum-least, supremum-comm, supremum-coarser-is, infimum-comm, infimum-finer-is, infimum-self, supremum-self}
+use Rattle.rules.proofs.Bounds.{finer-trans, length-supremum′, supremum-left, supremum-right, supremum-least, supremum-comm, supremum-coarser-is, infimum-comm, infimum-finer-is, infimum-self, supremum-self, supremum-assoc}
 use Rattle.rules.proofs.Classes.{finer-test}
 use Rattle.rules.proofs.ClassCount.{finer-universal, equality-finer}
 use Rattle.rules.proofs.Extremes.{length-universal, number-universal, length-equality, number-equality}
-use Rattle.rules.proofs.Families.{InFinalTreatmentFamily, final-only, final-all, final-ascending, plot-family-lists}
+use Rattle.rules.proofs.Families.{final-only, final-all, final-ascending, plot-family-lists}
 use Rattle.rules.proofs.Tests.{or-not}
 use Rattle.rules.proofs.Verdict.{failing-none}
 
--- ---- suprema of three factors
+-- ---- the suprema of one of P and one of S
 
-module _ (n : ℕ) (F G H : Column) (lF : length F ≡ n) (lG : length G ≡ n) (lH : length H ≡ n) where
-  lFG : length (supremum F G) ≡ n
-  lFG = length-supremum′ n F G lF lG
+module _ (n : ℕ) (P S : Column → Type 0) (onP : (F : Column) → P F → length F ≡ n) (onS : (F : Column) → S F → length F ≡ n) where
+  -- all of S are among them, where P has E
+  pub each-second : P (equality n) → ((F : Column) → S F → number F ≡ F) → (G : Column) → S G → SupremumOfEach P S G
+  each-second e numbered G m = record {
+    plot = equality n;
+    treatment = G;
+    in-plot = e;
+    in-treatment = m;
+    is = sym (supremum-coarser-is n (equality n) G (length-equality n) (onS G m) (equality-finer n G) ∙ numbered G m);
+  }
 
-  lGH : length (supremum G H) ≡ n
-  lGH = length-supremum′ n G H lG lH
+  -- they are on the n plots
+  pub each-length : (H : Column) → SupremumOfEach P S H → length H ≡ n
+  each-length H p = ap length (p .is) ∙ length-supremum′ n (p .plot) (p .treatment) (onP (p .plot) (p .in-plot)) (onS (p .treatment) (p .in-treatment))
 
-  down : Finer n (supremum (supremum F G) H) (supremum F (supremum G H))
-  down = supremum-least n (supremum F G) H lFG lH (supremum F (supremum G H))
-      (supremum-least n F G lF lG (supremum F (supremum G H)) (supremum-left n F (supremum G H) lF lGH)
-      (finer-trans n G (supremum G H) (supremum F (supremum G H)) (supremum-left n G H lG lH) (supremum-right n F (supremum G H) lF lGH)))
-      (finer-trans n H (supremum G H) (supremum F (supremum G H)) (supremum-right n G H lG lH) (supremum-right n F (supremum G H) lF lGH))
+  module _ (closedP : (F G : Column) → P F → P G → P (supremum F G)) where
+    -- they are closed under supremum with those of P
+    pub each-with-first : (F H : Column) → P F → SupremumOfEach P S H → SupremumOfEach P S (supremum F H)
+    each-with-first F H m p = record {
+      plot = supremum F (p .plot);
+      treatment = p .treatment;
+      in-plot = closedP F (p .plot) m (p .in-plot);
+      in-treatment = p .in-treatment;
+      is = ap (supremum F) (p .is) ∙ sym (supremum-assoc n F (p .plot) (p .treatment) (onP F m) (onP (p .plot) (p .in-plot)) (onS (p .treatment) (p .in-treatment)));
+    }
 
-  up : Finer n (supremum F (supremum G H)) (supremum (supremum F G) H)
-  up = supremum-least n F (supremum G H) lF lGH (supremum (supremum F G) H)
-      (finer-trans n F (supremum F G) (supremum (supremum F G) H) (supremum-left n F G lF lG) (supremum-left n (supremum F G) H lFG lH))
-      (supremum-least n G H lG lH (supremum (supremum F G) H)
-      (finer-trans n G (supremum F G) (supremum (supremum F G) H) (supremum-right n F G lF lG) (supremum-left n (supremum F G) H lFG lH)) (supremum-right n (supremum F G) H lFG lH))
-
-  -- the supremum is associative
-  pub supremum-assoc : supremum (supremum F G) H ≡ supremum F (supremum G H)
-  supremum-assoc =
-      sym (number-supremum (supremum F G) H (lFG ∙ sym lH))
-      ∙ numbered-equal n (supremum (supremum F G) H) (supremum F (supremum G H)) (length-supremum′ n (supremum F G) H lFG lH) (length-supremum′ n F (supremum G H) lF lGH) (record { to = down; from = up })
-      ∙ number-supremum F (supremum G H) (lF ∙ sym lGH)
-
--- ---- the final treatment family
-
-module _ (n : ℕ) (P S : Family) (onP : (F : Column) → F ∈ P → length F ≡ n) (onS : (F : Column) → F ∈ S → length F ≡ n) where
-  -- it contains the first treatment family, where the plot family has E
-  pub final-contains : equality n ∈ P → ((F : Column) → F ∈ S → number F ≡ F) → (G : Column) → G ∈ S → G ∈ finalTreatmentFamily P S
-  final-contains e numbered G m =
-      final-all P S G record {
-        plot = equality n;
-        treatment = G;
-        in-plot = e;
-        in-treatment = m;
-        is = sym (supremum-coarser-is n (equality n) G (length-equality n) (onS G m) (equality-finer n G) ∙ numbered G m);
-      }
-
-  -- its members are on the n plots
-  pub final-length : (H : Column) → H ∈ finalTreatmentFamily P S → length H ≡ n
-  final-length H m = let p = final-only P S H m in ap length (p .is) ∙ length-supremum′ n (p .plot) (p .treatment) (onP (p .plot) (p .in-plot)) (onS (p .treatment) (p .in-treatment))
-
-  module _ (closedP : (F G : Column) → F ∈ P → G ∈ P → supremum F G ∈ P) where
-    -- it is closed under supremum with plot members
-    pub final-with-plot : (F H : Column) → F ∈ P → H ∈ finalTreatmentFamily P S → supremum F H ∈ finalTreatmentFamily P S
-    final-with-plot F H m k =
-        final-all P S (supremum F H) record {
-          plot = supremum F (p .plot);
-          treatment = p .treatment;
-          in-plot = closedP F (p .plot) m (p .in-plot);
-          in-treatment = p .in-treatment;
-          is = ap (supremum F) (p .is) ∙ sym (supremum-assoc n F (p .plot) (p .treatment) (onP F m) (onP (p .plot) (p .in-plot)) (onS (p .treatment) (p .in-treatment)));
-        }
+    -- they are closed under supremum
+    pub each-closed : ((F G : Column) → S F → S G → S (supremum F G)) → (G H : Column) → SupremumOfEach P S G → SupremumOfEach P S H → SupremumOfEach P S (supremum G H)
+    each-closed closedS G H p q = subst (SupremumOfEach P S) (sym turned) (each-with-first (p .plot) (supremum (p .treatment) H) (p .in-plot) inner)
       where
-        p : InFinalTreatmentFamily P S H
-        p = final-only P S H k
-
-    -- it is closed under supremum
-    pub final-closed : ((F G : Column) → F ∈ S → G ∈ S → supremum F G ∈ S) → (G H : Column) → G ∈ finalTreatmentFamily P S → H ∈ finalTreatmentFamily P S → supremum G H ∈ finalTreatmentFamily P S
-    final-closed closedS G H m k = subst (λ (F : Column). F ∈ finalTreatmentFamily P S) (sym turned) (final-with-plot (p .plot) (supremum (p .treatment) H) (p .in-plot) inner)
-      where
-        p : InFinalTreatmentFamily P S G
-        p = final-only P S G m
-
-        q : InFinalTreatmentFamily P S H
-        q = final-only P S H k
-
         lp : length (p .plot) ≡ n
         lp = onP (p .plot) (p .in-plot)
 
@@ -110,7 +70,7 @@ module _ (n : ℕ) (P S : Family) (onP : (F : Column) → F ∈ P → length F �
         lt = onS (q .treatment) (q .in-treatment)
 
         turned : supremum G H ≡ supremum (p .plot) (supremum (p .treatment) H)
-        turned = ap (λ (F : Column). supremum F H) (p .is) ∙ supremum-assoc n (p .plot) (p .treatment) H lp ls (final-length H k)
+        turned = ap (λ (F : Column). supremum F H) (p .is) ∙ supremum-assoc n (p .plot) (p .treatment) H lp ls (each-length H q)
 
         -- s ∨ (p′ ∨ t′) is p′ ∨ (s ∨ t′)
         moved : supremum (p .treatment) H ≡ supremum (q .plot) (supremum (p .treatment) (q .treatment))
@@ -118,14 +78,25 @@ module _ (n : ℕ) (P S : Family) (onP : (F : Column) → F ∈ P → length F �
             ap (supremum (p .treatment)) (q .is) ∙ sym (supremum-assoc n (p .treatment) (q .plot) (q .treatment) ls lq lt)
             ∙ ap (λ (F : Column). supremum F (q .treatment)) (supremum-comm n (p .treatment) (q .plot) ls lq) ∙ supremum-assoc n (q .plot) (p .treatment) (q .treatment) lq ls lt
 
-        inner : supremum (p .treatment) H ∈ finalTreatmentFamily P S
-        inner = final-all P S (supremum (p .treatment) H) record {
+        inner : SupremumOfEach P S (supremum (p .treatment) H)
+        inner = record {
           plot = q .plot;
           treatment = supremum (p .treatment) (q .treatment);
           in-plot = q .in-plot;
           in-treatment = closedS (p .treatment) (q .treatment) (p .in-treatment) (q .in-treatment);
           is = moved;
         }
+
+-- ---- the final treatment family
+
+module _ (n : ℕ) (P S : Family) (onP : (F : Column) → F ∈ P → length F ≡ n) (onS : (F : Column) → F ∈ S → length F ≡ n) where
+  -- it contains the first treatment family, where the plot family has E
+  pub final-contains : equality n ∈ P → ((F : Column) → F ∈ S → number F ≡ F) → (G : Column) → G ∈ S → G ∈ finalTreatmentFamily P S
+  final-contains e numbered G m = final-all P S G (each-second n (λ F. F ∈ P) (λ F. F ∈ S) onP onS e numbered G m)
+
+  -- its members are on the n plots
+  pub final-length : (H : Column) → H ∈ finalTreatmentFamily P S → length H ≡ n
+  final-length H m = each-length n (λ F. F ∈ P) (λ F. F ∈ S) onP onS H (final-only P S H m)
 
 -- ---- strata
 

@@ -77,12 +77,12 @@ module _ (n : ℕ) where
       number-infimum T (infimumAll n C) (h T (List·Memᴰ·head refl) ∙ sym (chosen-on c (λ F m. h F (List·Memᴰ·tail m))))
 
 module _ (n k : ℕ) (Ts : List Column) (on : (F : Column) → F ∈ Ts → length F ≡ n) where
-  first-length : (H : Column) → InFirstTreatmentFamily n k Ts H → length H ≡ n
+  pub first-length : (H : Column) → InFirstTreatmentFamily n k Ts H → length H ≡ n
   first-length H of-universal = length-universal n
   first-length H (of-infimum c h) = chosen-on n c on
   first-length H (of-supremum {F} {G} p q) = length-supremum F G (first-length F p ∙ sym (first-length G q)) ∙ first-length F p
 
-  first-numbered : (H : Column) → InFirstTreatmentFamily n k Ts H → number H ≡ H
+  pub first-numbered : (H : Column) → InFirstTreatmentFamily n k Ts H → number H ≡ H
   first-numbered H of-universal = number-universal n
   first-numbered H (of-infimum c h) = chosen-numbered n c on
   first-numbered H (of-supremum {F} {G} p q) = number-supremum F G (first-length F p ∙ sym (first-length G q))

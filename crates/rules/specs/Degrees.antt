@@ -1,9 +1,11 @@
 -- Degrees of freedom; questions 6 and 15.
 -- Assumes nothing.
+use mathlib.Core.Path.{_≡_}
 use mathlib.Core.Bool.{true, false}
 use mathlib.Core.List.{List, [], _∷_, _++_}
 use Prim.Native.Nat.{ℕ}
 use lib.IntN.{ℤ, pos, _+ℤ_, _-ℤ_}
+use lib.ListN.{getD}
 use Rattle.rules.specs.Factor.{Column, finer, coarser, classes}
 use Rattle.rules.specs.Family.{Family, membersOf, wellFormed}
 use Rattle.rules.specs.Lists.{forPlaces}
@@ -42,6 +44,27 @@ classNumber F = pos (classes F)
 unfoldable pub degrees : ℕ → Family → List ℤ
 unfolding remainders classes
 degrees n S = remainders classNumber n S
+
+-- ---- what C-13 says of them
+
+-- numbers added up
+unfoldable pub addUp : List ℤ → ℤ
+addUp [] = pos 0
+addUp (d ∷ ds) = d +ℤ addUp ds
+
+-- a number that is not below 0
+pub record NonNeg (z : ℤ) : Type 0 where
+  pub value : ℕ
+  pub is : z ≡ pos value
+
+-- no number of a list is below 0; past its end stands 0
+abbrev pub NoneBelow0 : List ℤ → Type 0
+NoneBelow0 ds = (i : ℕ) → NonNeg (getD ds i (pos 0))
+
+-- "no stratum is below 0 and the strata sum to N", of a plot family on n plots
+pub record TrustedStrata (n : ℕ) (P : Family) : Type 0 where
+  pub no-stratum : NoneBelow0 (degrees n P)
+  pub strata-sum : addUp (degrees n P) ≡ pos n
 
 -- ---- the answer
 

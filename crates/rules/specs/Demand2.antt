@@ -3,9 +3,9 @@
 use mathlib.Core.Path.{_≡_}
 use mathlib.Core.Logic.{_↔_, _⊎_}
 use mathlib.Core.List.{List, [], _∷_}
-use Prim.Native.Nat.{ℕ, _+_, _*_, _-_, _≤_, _<_}
+use Prim.Native.Nat.{ℕ, _+_, _*_, _≤_, _<_}
 use lib.ListN.{length, getD}
-use Rattle.rules.specs.Limits.{mostPlots, mostColumns, mostMembers, mostInteraction, tableCells, familyBytes}
+use Rattle.rules.specs.Limits.{mostPlots, mostColumns, mostMembers, mostInteraction, tableCells, familyBytes, PlotLimits}
 use Rattle.rules.specs.Factor.{Column, Uniform, Orthogonal}
 use Rattle.rules.specs.Family.{Family, AtMost, Lists, membersOf}
 use Rattle.rules.specs.Closing.{InPlotFamily, InFirstTreatmentFamily, SupremumOfEach}
@@ -46,14 +46,6 @@ pub record Within (n c d k : ℕ) (levels plots treatments : List ℕ) : Type 0 
   pub table : tableCells ≤ length levels
   pub plot-family : familyBytes ≤ length plots
   pub treatment-family : familyBytes ≤ length treatments
-
--- 6 for the plot design, which has no treatment columns and no k
-pub record PlotLimits (n c tableLength bufferLength : ℕ) : Type 0 where
-  pub plots-some : 1 ≤ n
-  pub plots-few : n ≤ mostPlots
-  pub columns : c ≤ mostColumns
-  pub table : tableCells ≤ tableLength
-  pub room : familyBytes ≤ bufferLength
 
 -- 7. "Is every used level nonzero?" "Column c, plot u (both from 0) is number 240 × c + u"
 abbrev pub NoneMissing : ℕ → ℕ → ℕ → List ℕ → Type 0

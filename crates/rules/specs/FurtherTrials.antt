@@ -14,7 +14,7 @@ use Rattle.rules.specs.Strata.{StrataAnswer, strata}
 use Rattle.rules.specs.Sheet.{Outcome, read, refused, reading}
 use Rattle.rules.specs.Naming.{Kind, plot, treatment, NameAnswer, naming}
 use Rattle.rules.specs.Table.{signed, tableText, TableAnswer, skeletonTable}
-use Rattle.rules.specs.Trials.{Trial, treats, observed}
+use Rattle.rules.specs.Trials.{Trial, refuses, treats, observed}
 
 pub data FurtherTrial : Type 0 where
   -- a trial as in Trials
@@ -64,6 +64,11 @@ each = 1 ∷ 2 ∷ 3 ∷ 4 ∷ []
 
 abbrev square : Family
 square = one ∷ halves ∷ turns ∷ each ∷ []
+
+-- six plots: U, three divisions into pairs with no pair twice, E; closed, but no two of the three are orthogonal
+abbrev pairings : Family
+pairings =
+    (1 ∷ 1 ∷ 1 ∷ 1 ∷ 1 ∷ 1 ∷ []) ∷ (1 ∷ 1 ∷ 2 ∷ 2 ∷ 3 ∷ 3 ∷ []) ∷ (1 ∷ 2 ∷ 1 ∷ 3 ∷ 2 ∷ 3 ∷ []) ∷ (1 ∷ 2 ∷ 3 ∷ 1 ∷ 3 ∷ 2 ∷ []) ∷ (1 ∷ 2 ∷ 3 ∷ 4 ∷ 5 ∷ 6 ∷ []) ∷ []
 
 -- eight plots: two columns that cross, their infimum, U
 abbrev fours : Column
@@ -230,6 +235,9 @@ furtherTrials =
     -- degrees of freedom: 4 less 1, 1 and 1; 4 less 2, 2 and 2, where the family is not closed
     ∷ subtracts 4 square 4 (record { refusal = 0; degrees = filledSigned (pos 1 ∷ pos 1 ∷ pos 1 ∷ pos 1 ∷ []) })
     ∷ subtracts 4 (halves ∷ turns ∷ ends ∷ each ∷ []) 4 (record { refusal = 0; degrees = filledSigned (pos 2 ∷ pos 2 ∷ pos 2 ∷ negsuc 1 ∷ []) })
+    -- closed, but not orthogonal: refused as a plot design; E has 6 less 1, 2, 2 and 2
+    ∷ plans (refuses 6 pairings 10 2 3)
+    ∷ subtracts 6 pairings 5 (record { refusal = 0; degrees = filledSigned (pos 1 ∷ pos 2 ∷ pos 2 ∷ pos 2 ∷ negsuc 0 ∷ []) })
     ∷ subtracts 0 square 4 (record { refusal = 6; degrees = filledSigned [] })
     ∷ subtracts 4 square 0 (record { refusal = 15; degrees = filledSigned [] })
     -- strata: beside U and E both treatment columns are in E; beside U alone a column has none

@@ -1,6 +1,6 @@
 -- The limits, each named once.
 -- "Limits: 1 to 240 plots (N); 0 to 6 plot columns; 0 to 6 treatment columns; 1 to 32 members in a family; interaction level k from 1 to 6; sheet text 1 to 32,768 bytes."
-use Prim.Native.Nat.{ℕ}
+use Prim.Native.Nat.{ℕ, _≤_}
 
 -- plots of a sheet, and the distance from one column or member to the next in lent memory
 abbrev pub mostPlots : ℕ
@@ -43,3 +43,11 @@ mostLevel = 65535
 -- bytes of a column's name after its first: "a letter and then 1 to 11 letters or digits"
 abbrev pub mostNameTail : ℕ
 mostNameTail = 11
+
+-- 6 for the plot design: "Are the plot count, column counts .. within limits, .. and are all lent slices long enough"
+pub record PlotLimits (n c tableLength bufferLength : ℕ) : Type 0 where
+  pub plots-some : 1 ≤ n
+  pub plots-few : n ≤ mostPlots
+  pub columns : c ≤ mostColumns
+  pub table : tableCells ≤ tableLength
+  pub room : familyBytes ≤ bufferLength

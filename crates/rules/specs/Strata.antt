@@ -12,7 +12,7 @@ use Rattle.rules.specs.Family.{Family, membersOf, wellFormed}
 use Rattle.rules.specs.Design.{firstFailing}
 use Rattle.rules.specs.Lists.{forPlaces}
 use Rattle.rules.specs.Relation.{familyWithin}
-use Rattle.rules.specs.Degrees.{degrees}
+use Rattle.rules.specs.Degrees.{degrees, NoneBelow0, TrustedStrata}
 
 -- every member passes the test
 unfoldable pub all : (Column → Bool) → Family → Bool
@@ -45,6 +45,12 @@ residualsFrom i (e ∷ es) ss ds = (e -ℤ sumAt i ss ds) ∷ residualsFrom (suc
 unfoldable pub residuals : ℕ → Family → Family → List ℤ
 unfolding residualsFrom degrees stratum
 residuals n P R = residualsFrom 1 (degrees n P) (map (stratum n P) R) (degrees n R)
+
+-- C-13: "no treatment member and no residual is below 0", and what it says of strata, of a plot family and a final treatment family on n plots
+pub record Trusted (n : ℕ) (P R : Family) : Type 0 where
+  pub plot-strata : TrustedStrata n P
+  pub no-treatment : NoneBelow0 (degrees n R)
+  pub no-residual : NoneBelow0 (residuals n P R)
 
 -- ---- the answer
 

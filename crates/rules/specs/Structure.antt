@@ -4,10 +4,12 @@ use mathlib.Core.Path.{_≡_}
 use mathlib.Core.List.{List, [], _∷_}
 use mathlib.Core.Logic.{_↔_, _⊎_}
 use Prim.Native.Nat.{ℕ, _+_, _*_, _<_, _≤_}
+use lib.IntN.{pos}
 use lib.ListN.{length, getD}
 use Rattle.rules.specs.Limits.{mostPlots, mostColumns, tableCells, familyBytes}
 use Rattle.rules.specs.Factor.{Column, Equivalent, infimum, supremum, universal, equality, Uniform, Orthogonal}
 use Rattle.rules.specs.Family.{Family, _∈_}
+use Rattle.rules.specs.Degrees.{degrees, addUp, NoneBelow0}
 
 -- "A family contains a factor when one of its members is equivalent to it."
 pub record Contains (n : ℕ) (S : Family) (F : Column) : Type 0 where
@@ -60,3 +62,6 @@ pub record Demand3 (n : ℕ) (Fs : List Column) (refusal : ℕ) (R : Family) : T
   pub contains : refusal ≡ 0 → ContainsAll n R Fs
   -- "and lies inside every other one that contains them"
   pub least : refusal ≡ 0 → (S : Family) → OrthogonalBlockStructure n S → ContainsAll n S Fs → Inside n R S
+  -- C-13: "no stratum is below 0 and the strata sum to N"
+  pub strata : refusal ≡ 0 → NoneBelow0 (degrees n R)
+  pub total : refusal ≡ 0 → addUp (degrees n R) ≡ pos n

@@ -30,6 +30,7 @@ use Rattle.rules.proofs.Bits.{every-ext, every-suc}
 use Rattle.rules.proofs.WellFormed.{Accepted}
 use Rattle.rules.proofs.StrictOrder.{finer-places}
 use Rattle.rules.proofs.DegreesLaws.{length-degrees}
+use Rattle.rules.proofs.Totals.{length-residuals, residual-at}
 use Rattle.families.specs.Lent.{columnAt}
 use Rattle.strata.specs.Lent.{Formed}
 use Rattle.strata.specs.Words.{candidateWord, below, coarsest, firstPassing}
@@ -196,17 +197,6 @@ placed-is n P R size l h places e =
     ∙ sym (all-every (λ T. not (eqb (stratum n P T) 0)) R)
 
 -- ---- residuals
-
-pub length-residuals : (i : ℕ) (es : List ℤ) (ss : List ℕ) (ds : List ℤ) → length (residualsFrom i es ss ds) ≡ length es
-unfolding residualsFrom
-length-residuals i [] ss ds = refl
-length-residuals i (e ∷ es) ss ds = ap suc (length-residuals (suc i) es ss ds)
-
-residual-at : (i : ℕ) (es : List ℤ) (ss : List ℕ) (ds : List ℤ) (p : ℕ) → p < length es → getD (residualsFrom i es ss ds) p (pos 0) ≡ getD es p (pos 0) -ℤ sumAt (i + p) ss ds
-unfolding residualsFrom
-residual-at i [] ss ds p h = absurd (not-suc-le-zero h)
-residual-at i (e ∷ es) ss ds zero h = let z : i + 0 ≡ i = omega arith in rw z
-residual-at i (e ∷ es) ss ds (suc p) h = let m : i + suc p ≡ suc i + p = omega arith in rw m (residual-at (suc i) es ss ds p (le-of-suc-le-suc h))
 
 module _ (n : ℕ) (P R : Family) (plots treatments : ℕ) (lP : length P ≡ plots) (lR : length R ≡ treatments) (hP : plots ≤ 32) (hR : treatments ≤ 32) where
   pub residuals-are : tabulate (residualAt (forPlaces (pos 0) (degrees n P)) (forPlaces (pos 0) (degrees n R)) (forPlaces 0 (map (stratum n P) R)) treatments) plots ≡ residuals n P R

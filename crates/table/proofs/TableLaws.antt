@@ -23,11 +23,11 @@ use Rattle.rules.proofs.Buffer.{member-is, length-members}
 use Rattle.rules.proofs.Places.{length-places, at-places}
 use Rattle.rules.proofs.Sheet.{length-after}
 use Rattle.rules.proofs.DegreesLaws.{length-degrees}
+use Rattle.rules.proofs.Totals.{length-residuals}
 use Rattle.rules.proofs.Printing.{strata-answered}
 use Rattle.rules.proofs.Made.{Tells, Placed, plot-back, plot-buffer-length, treatment-back, treatment-buffer-length}
 use Rattle.design.specs.Answers.{FullNumbers, fullNumbersOf}
 use Rattle.naming.specs.Answers.{startingWith}
-use Rattle.strata.proofs.StratumLaws.{length-residuals}
 use Rattle.strata.specs.Answers.{Analysis, withDegrees}
 use Rattle.table.specs.Names.{Nameable, placedName, tableOf}
 use Rattle.table.specs.Designs.{Accepted, bufferFor, placedRow, namedRows}

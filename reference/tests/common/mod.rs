@@ -40,3 +40,19 @@ pub fn lines(expected: &[&str]) -> String {
 pub fn classes(members: &[Vec<u8>]) -> Vec<u8> {
     members.iter().map(|member| member.iter().copied().max().unwrap_or(0)).collect()
 }
+
+/// A division of the plots into classes.
+pub type Partition = Vec<u8>;
+
+/// Every division of the plots, numbered by first appearance.
+pub fn partitions(plots: usize) -> Vec<Partition> {
+    let mut found = vec![vec![1]];
+    for _ in 1..plots {
+        let longer = |start: &Partition| -> Vec<Partition> {
+            let most = start.iter().copied().max().unwrap_or(0);
+            (1..=most + 1).map(|number| [&start[..], &[number]].concat()).collect()
+        };
+        found = found.iter().flat_map(longer).collect();
+    }
+    found
+}

@@ -1,16 +1,17 @@
--- `design::full_design` meets its contract: questions 6 and 7 of both kinds of columns, then questions 8 to 14, and demand 2 of what is left.
+-- `design::full_design` meets its contract: questions 6 and 7 of both kinds of columns, then questions 8 to 14, demand 2 and C-13 of what is left.
 -- Assumes nothing.
 use mathlib.Core.Path.{_≡_, refl, sym, ap, _∙_}
 use mathlib.Core.Bool.{Bool, true, false, _&&_}
-use native.Mathlib.Omega.{arith}
 use denote.Ref.{now}
 use lib.ListN.{length}
 use borrow.Author.Needs.{needs}
 use borrow.Author.Tests.{not-true, not-false}
 use Rattle.rules.specs.Family.{columnsFrom, written}
 use Rattle.rules.specs.Design.{allNonzero, plotBuffer, treatmentBuffer}
+use Rattle.rules.specs.Demand2.{Within}
+use Rattle.rules.proofs.Demand2.{within-to}
 use Rattle.design.specs.Answers.{fullNumbers, fullNumbersOf}
-use Rattle.design.proofs.WithTreatments.{FullLimits, full-limits, full-6, full-7, full-8, promised}
+use Rattle.design.proofs.WithTreatments.{full-6, full-7, full-8, promised}
 use Rattle.design.proofs.full_design.Statement.{statement}
 use Rattle.design.proofs.full_design.Tie as tie
 
@@ -36,8 +37,8 @@ returns c =
     promised (a .plots) (a .plot-columns) (a .treatment-columns) (a .k) levels p b p b (fullNumbers (c .full-refused .result)) (c .full-refused .ensures ∙ ap fullNumbersOf (sym e)) (ap (plotBuffer p) (sym e)) (ap (treatmentBuffer b) (sym e))
 
 -- question 6 said yes
-in-limits : (c : tie.Else1) → FullLimits (c .before .before .before .before .before .args .plots) (c .before .before .before .before .before .args .plot-columns) (c .before .before .before .before .before .args .treatment-columns) (c .before .before .before .before .before .args .k) (length (now (c .before .before .before .before .before .args .levels))) (length (now (c .before .before .before .before .before .args .plot-family))) (length (now (c .before .before .before .before .before .args .treatment-family)))
-in-limits c = full-limits _ _ _ _ _ _ _ (sym (c .before .full-within .ensures) ∙ not-false _ (c .if1 .left))
+in-limits : (c : tie.Else1) → let a = c .before .before .before .before .before .args in Within (a .plots) (a .plot-columns) (a .treatment-columns) (a .k) (now (a .levels)) (now (a .plot-family)) (now (a .treatment-family))
+in-limits c = within-to _ _ _ _ _ _ _ (sym (c .before .full-within .ensures) ∙ not-false _ (c .if1 .left))
 
 all-nonzero-requires : tie.Need-all-nonzero-requires
 all-nonzero-requires c κs = search needs
@@ -83,7 +84,7 @@ returns-3 c =
 full-from-8-requires : tie.Need-full-from-8-requires
 full-from-8-requires c κs =
     let l = in-limits (c .before .before .before .before .before .before) in
-    (l .plots .some, l .plots .most, l .plots .columns, l .treatments, l .some, l .most, l .plots .table, l .plots .buffer, l .buffer)
+    (l .plots-least, l .plots-most, l .plot-columns, l .treatment-columns, l .level-least, l .level-most, l .table, l .plot-family, l .treatment-family)
 
 same-length : tie.Need-same-length
 same-length c = search needs

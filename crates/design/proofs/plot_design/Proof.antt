@@ -1,16 +1,17 @@
--- `design::plot_design` meets its contract: questions 6 to 10 in turn, and demand 3 of the family left in the buffer.
+-- `design::plot_design` meets its contract: questions 6 to 10 in turn, demand 3 and C-13 of the family left in the buffer.
 -- Assumes nothing.
 use mathlib.Core.Path.{_≡_, sym, ap, _∙_}
 use mathlib.Core.Bool.{true, false}
-use native.Mathlib.Omega.{arith}
 use denote.Ref.{now}
 use lib.ListN.{length}
 use borrow.Author.Needs.{needs}
 use borrow.Author.Tests.{not-true, not-false}
+use Rattle.rules.specs.Limits.{PlotLimits}
 use Rattle.rules.specs.Family.{columnsFrom, written}
 use Rattle.rules.specs.Design.{plotBuffer, withinLimits, allNonzero, refused}
+use Rattle.rules.proofs.Demand2.{plot-limits}
 use Rattle.design.specs.Answers.{plotNumbers, plotNumbersOf}
-use Rattle.design.proofs.Answered.{Limits, limits, design-6, design-7, design-8, demanded}
+use Rattle.design.proofs.Answered.{design-6, design-7, design-8, promised}
 use Rattle.design.proofs.plot_design.Statement.{statement}
 use Rattle.design.proofs.plot_design.Tie as tie
 
@@ -29,13 +30,11 @@ returns c =
     let family = now (a .family) in
     let no6 : withinLimits (a .plots) (a .columns) (length levels) (length family) ≡ false = sym (w .within .ensures) ∙ not-true _ (c .before .if1 .taken) in
     let e = design-6 (a .plots) (a .columns) levels (length family) no6 in
-    let answer = c .refused .ensures ∙ ap plotNumbersOf (sym e) in
-    let buffer = ap (plotBuffer family) (sym e) in
-    (answer, (buffer, demanded (a .plots) (a .columns) levels family family (plotNumbers (c .refused .result)) answer buffer))
+    promised (a .plots) (a .columns) levels family family (plotNumbers (c .refused .result)) (c .refused .ensures ∙ ap plotNumbersOf (sym e)) (ap (plotBuffer family) (sym e))
 
 -- question 6 said yes
-in-limits : (c : tie.Else1) → Limits (c .before .before .before .before .args .plots) (c .before .before .before .before .args .columns) (length (now (c .before .before .before .before .args .levels))) (length (now (c .before .before .before .before .args .family)))
-in-limits c = limits _ _ _ _ (sym (c .before .within .ensures) ∙ not-false _ (c .if1 .left))
+in-limits : (c : tie.Else1) → PlotLimits (c .before .before .before .before .args .plots) (c .before .before .before .before .args .columns) (length (now (c .before .before .before .before .args .levels))) (length (now (c .before .before .before .before .args .family)))
+in-limits c = plot-limits _ _ _ _ (sym (c .before .within .ensures) ∙ not-false _ (c .if1 .left))
 
 all-nonzero-requires : tie.Need-all-nonzero-requires
 all-nonzero-requires c κs = search needs
@@ -54,12 +53,10 @@ returns-2 c =
     let yes6 : withinLimits (a .plots) (a .columns) (length levels) (length family) ≡ true = sym (w .within .ensures) ∙ not-false _ (z .before .if1 .left) in
     let no7 : allNonzero (columnsFrom (a .plots) levels 0 (a .columns)) ≡ false = sym (z .all-nonzero .ensures) ∙ not-true _ (c .before .if2 .taken) in
     let e = design-7 (a .plots) (a .columns) levels (length family) yes6 no7 in
-    let answer = c .refused2 .ensures ∙ ap plotNumbersOf (sym e) in
-    let buffer = ap (plotBuffer family) (sym e) in
-    (answer, (buffer, demanded (a .plots) (a .columns) levels family family (plotNumbers (c .refused2 .result)) answer buffer))
+    promised (a .plots) (a .columns) levels family family (plotNumbers (c .refused2 .result)) (c .refused2 .ensures ∙ ap plotNumbersOf (sym e)) (ap (plotBuffer family) (sym e))
 
 plot-from-8-requires : tie.Need-plot-from-8-requires
-plot-from-8-requires c κs = let l = in-limits (c .before .before .before) in (l .some, l .most, l .columns, l .table, l .buffer)
+plot-from-8-requires c κs = let l = in-limits (c .before .before .before) in (l .plots-some, l .plots-few, l .columns, l .table, l .room)
 
 same-length : tie.Need-same-length
 same-length c = search needs
@@ -76,9 +73,7 @@ returns-3 c =
     let yes6 : withinLimits (a .plots) (a .columns) (length levels) (length family) ≡ true = sym (w .within .ensures) ∙ not-false _ (z .before .if1 .left) in
     let yes7 : allNonzero (columnsFrom (a .plots) levels 0 (a .columns)) ≡ true = sym (z .all-nonzero .ensures) ∙ not-false _ (d .if2 .left) in
     let e = design-8 (a .plots) (a .columns) levels (length family) yes6 yes7 in
-    let answer = f .plot-from-8 .ensures .0 ∙ ap plotNumbersOf (sym e) in
-    let buffer = f .plot-from-8 .ensures .1 ∙ ap (plotBuffer family) (sym e) in
-    (answer, (buffer, demanded (a .plots) (a .columns) levels family (f .plot-from-8 .last .1 .1 .1 .0) (plotNumbers (f .plot-from-8 .result)) answer buffer))
+    promised (a .plots) (a .columns) levels family (f .plot-from-8 .last .1 .1 .1 .0) (plotNumbers (f .plot-from-8 .result)) (f .plot-from-8 .ensures .0 ∙ ap plotNumbersOf (sym e)) (f .plot-from-8 .ensures .1 ∙ ap (plotBuffer family) (sym e))
 
 pub plot-design-spec : {M : Type 1} → statement M
 plot-design-spec =
