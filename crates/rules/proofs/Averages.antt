@@ -17,15 +17,16 @@ use Rattle.rules.proofs.Numbering.{by-cases, eqb-self}
 use Rattle.rules.proofs.Members.{clash}
 use Rattle.rules.proofs.Tests.{count-yes, count-no, count-none, size-same, supremum-chain′}
 use Rattle.rules.proofs.Classes.{distinct-labels}
+use Rattle.rules.proofs.Sheet.{and-left, and-right}
 use Rattle.rules.proofs.Sums.{label-of, label-plot}
-use Rattle.rules.proofs.Ring.{sum, sum-same, sum-zero, sum-add, where-true, true-same}
+use Rattle.rules.proofs.Ring.{sumTo, sum-same, sum-zero, sum-add, where-true, true-same}
 use Rattle.rules.proofs.Matrices.{Matrix, product}
 
 -- ---- sums of one number where a test passes
 
 -- one number for each place that passes
-pub sum-count : (n c : ℕ) (t : ℕ → Bool) → sum n (λ w. where-true (t w) (pos c)) ≡ pos (count n t * c)
-unfolding sum count
+pub sum-count : (n c : ℕ) (t : ℕ → Bool) → sumTo n (λ w. where-true (t w) (pos c)) ≡ pos (count n t * c)
+unfolding sumTo count
 sum-count zero c t = ap pos (sym (zero-mul c))
 sum-count (suc k) c t =
     by-cases (t k)
@@ -112,14 +113,9 @@ module _ (n L : ℕ) (weight : Column → ℕ → ℕ) where
         outside : (Same K u v → ⊥) → overlap n F u G v ≡ 0
         outside ne = count-none n _ (λ w hw. by-cases (same F u w && same G v w) (λ e. absurd (ne (link w hw e))) (λ e. e))
           where
-            both : (a b : Bool) → a && b ≡ true → (a ≡ true) × (b ≡ true)
-            both true b e = (refl, e)
-            both false b e = clash e refl
-
             link : (w : ℕ) → w < n → same F u w && same G v w ≡ true → Same K u v
             link w hw e =
-                let b : (same F u w ≡ true) × (same G v w ≡ true) = both (same F u w) (same G v w) e in
-                supremum-chain′ n F G lF lG u v hu hv .1 (alongG (alongF start hw (eqb-true _ _ (b .0))) hv (sym (eqb-true _ _ (b .1))))
+                supremum-chain′ n F G lF lG u v hu hv .1 (alongG (alongF start hw (eqb-true _ _ (and-left _ (same G v w) e))) hv (sym (eqb-true _ _ (and-right (same F u w) _ e))))
 
 -- ---- the trace: L for each class
 
@@ -156,19 +152,19 @@ total-one (g ∷ s) (apart n d) x y m =
     go ne below (inl q) = absurd (ne (sym q))
     go ne below (inr k) = below k
 
-sum-total : (n : ℕ) (s : List ℕ) (f : ℕ → ℕ → ℤ) → sum n (λ u. total s (λ g. f u g)) ≡ total s (λ g. sum n (λ u. f u g))
+sum-total : (n : ℕ) (s : List ℕ) (f : ℕ → ℕ → ℤ) → sumTo n (λ u. total s (λ g. f u g)) ≡ total s (λ g. sumTo n (λ u. f u g))
 unfolding total
 sum-total n [] f = sum-zero n
-sum-total n (g ∷ s) f = sum-add n (λ u. f u g) (λ u. total s (λ h. f u h)) ∙ ap (λ (z : ℤ). sum n (λ u. f u g) +ℤ z) (sum-total n s f)
+sum-total n (g ∷ s) f = sum-add n (λ u. f u g) (λ u. total s (λ h. f u h)) ∙ ap (λ (z : ℤ). sumTo n (λ u. f u g) +ℤ z) (sum-total n s f)
 
 -- the plots added up class by class
-pub sum-by-class : (n : ℕ) (F : Column) → length F ≡ n → (f : ℕ → ℤ) → sum n f ≡ total (labels eqb [] F) (λ g. sum n (λ u. where-true (eqb g (at F u)) (f u)))
+pub sum-by-class : (n : ℕ) (F : Column) → length F ≡ n → (f : ℕ → ℤ) → sumTo n f ≡ total (labels eqb [] F) (λ g. sumTo n (λ u. where-true (eqb g (at F u)) (f u)))
 sum-by-class n F l f =
     sum-same n _ _ (λ u hu. sym (total-one (labels eqb [] F) (distinct-labels F [] none-left) (at F u) (f u) (label-of n F l u hu)))
     ∙ sum-total n (labels eqb [] F) (λ u g. where-true (eqb g (at F u)) (f u))
 
 -- the trace of an averaging matrix is L for each class
-pub average-trace : (n L : ℕ) (weight : Column → ℕ → ℕ) (F : Column) → length F ≡ n → Weighs n L weight F → sum n (λ u. average weight F u u) ≡ pos (classes F * L)
+pub average-trace : (n L : ℕ) (weight : Column → ℕ → ℕ) (F : Column) → length F ≡ n → Weighs n L weight F → sumTo n (λ u. average weight F u u) ≡ pos (classes F * L)
 unfolding average classes classSize
 average-trace n L weight F l h =
     sum-same n _ _ (λ u hu. ap (λ (b : Bool). where-true b (pos (weight F u))) (eqb-self (at F u)))
@@ -176,7 +172,7 @@ average-trace n L weight F l h =
     ∙ total-same (labels eqb [] F) _ (λ g. pos L) each
     ∙ total-constant (labels eqb [] F) L
   where
-    each : (g : ℕ) → g ∈ labels eqb [] F → sum n (λ u. where-true (eqb g (at F u)) (pos (weight F u))) ≡ pos L
+    each : (g : ℕ) → g ∈ labels eqb [] F → sumTo n (λ u. where-true (eqb g (at F u)) (pos (weight F u))) ≡ pos L
     each g m = sum-same n _ _ one ∙ sum-count n (weight F v) (λ u. same F v u) ∙ ap pos (mul-comm _ (weight F v) ∙ h v hv)
       where
         v : ℕ

@@ -5,7 +5,7 @@ use mathlib.Core.Bool.{Bool}
 use Prim.Native.Nat.{ℕ, _<_}
 use lib.IntN.{ℤ, _-ℤ_, _*ℤ_, *ℤ-comm}
 use Rattle.rules.specs.Degrees.{NonNeg}
-use Rattle.rules.proofs.Ring.{sum, sum-same, sum-sub, sum-times, sum-times-right, sum-swap, sum-times-true, sum-true-times, sum-true-swap, where-true, times-assoc, times-sub, sub-times, square-nonneg, sum-nonneg}
+use Rattle.rules.proofs.Ring.{sumTo, sum-same, sum-sub, sum-times, sum-times-right, sum-swap, sum-times-true, sum-true-times, sum-true-swap, where-true, times-assoc, times-sub, sub-times, square-nonneg, sum-nonneg}
 
 -- a number for every two plots
 abbrev pub Matrix : Type 0
@@ -13,8 +13,8 @@ Matrix = ℕ → ℕ → ℤ
 
 -- the product of two matrices on n plots
 unfoldable pub product : ℕ → Matrix → Matrix → Matrix
-unfolding sum
-product n a b u v = sum n (λ w. a u w *ℤ b w v)
+unfolding sumTo
+product n a b u v = sumTo n (λ w. a u w *ℤ b w v)
 
 -- the same number at every two plots
 abbrev pub SameOn : ℕ → Matrix → Matrix → Type 0
@@ -30,7 +30,7 @@ scaled L a u v = L *ℤ a u v
 
 -- the sum of those matrices whose place passes a test
 abbrev pub gathered : ℕ → (ℕ → Bool) → (ℕ → Matrix) → Matrix
-gathered m t q u v = sum m (λ x. where-true (t x) (q x u v))
+gathered m t q u v = sumTo m (λ x. where-true (t x) (q x u v))
 
 -- one matrix less another
 abbrev pub difference : Matrix → Matrix → Matrix
@@ -51,7 +51,7 @@ module _ (n : ℕ) where
   pub product-assoc : (a b c : Matrix) (u v : ℕ) → product n (product n a b) c u v ≡ product n a (product n b c) u v
   unfolding product
   product-assoc a b c u v =
-      sum-same n _ _ (λ w hw. *ℤ-comm (sum n (λ x. a u x *ℤ b x w)) (c w v) ∙ sym (sum-times n (c w v) (λ x. a u x *ℤ b x w)))
+      sum-same n _ _ (λ w hw. *ℤ-comm (sumTo n (λ x. a u x *ℤ b x w)) (c w v) ∙ sym (sum-times n (c w v) (λ x. a u x *ℤ b x w)))
       ∙ sum-swap n n (λ w x. c w v *ℤ (a u x *ℤ b x w))
       ∙ sum-same n _ _ (λ x hx. sum-same n _ _ (λ w hw. *ℤ-comm (c w v) (a u x *ℤ b x w) ∙ times-assoc (a u x) (b x w) (c w v)) ∙ sum-times n (a u x) (λ w. b x w *ℤ c w v))
 
@@ -67,12 +67,12 @@ module _ (n : ℕ) where
       sum-same n _ _ (λ w hw. *ℤ-comm (a u w) (L *ℤ b w v) ∙ times-assoc L (b w v) (a u w) ∙ ap (λ (z : ℤ). L *ℤ z) (*ℤ-comm (b w v) (a u w))) ∙ sum-times n L (λ w. a u w *ℤ b w v)
 
   -- a product goes through a gathered sum on its left
-  pub product-gathered-left : (m : ℕ) (t : ℕ → Bool) (q : ℕ → Matrix) (b : Matrix) (u v : ℕ) → product n (gathered m t q) b u v ≡ sum m (λ x. where-true (t x) (product n (q x) b u v))
+  pub product-gathered-left : (m : ℕ) (t : ℕ → Bool) (q : ℕ → Matrix) (b : Matrix) (u v : ℕ) → product n (gathered m t q) b u v ≡ sumTo m (λ x. where-true (t x) (product n (q x) b u v))
   unfolding product
   product-gathered-left m t q b u v = sum-same n _ _ (λ w hw. sym (sum-true-times m (b w v) t (λ x. q x u w))) ∙ sum-true-swap n m t (λ w x. q x u w *ℤ b w v)
 
   -- and through one on its right
-  pub product-gathered-right : (m : ℕ) (t : ℕ → Bool) (q : ℕ → Matrix) (a : Matrix) (u v : ℕ) → product n a (gathered m t q) u v ≡ sum m (λ x. where-true (t x) (product n a (q x) u v))
+  pub product-gathered-right : (m : ℕ) (t : ℕ → Bool) (q : ℕ → Matrix) (a : Matrix) (u v : ℕ) → product n a (gathered m t q) u v ≡ sumTo m (λ x. where-true (t x) (product n a (q x) u v))
   unfolding product
   product-gathered-right m t q a u v = sum-same n _ _ (λ w hw. sym (sum-times-true m (a u w) t (λ x. q x w v))) ∙ sum-true-swap n m t (λ w x. a u w *ℤ q x w v)
 
@@ -96,13 +96,13 @@ module _ (n : ℕ) where
   -- a number read off each matrix: it goes through sums and differences, and is not below 0 on projections
   pub record Form (value : Matrix → ℤ) : Type 0 where
     pub value-same : (a b : Matrix) → SameOn n a b → value a ≡ value b
-    pub value-gathered : (m : ℕ) (t : ℕ → Bool) (q : ℕ → Matrix) → value (gathered m t q) ≡ sum m (λ x. where-true (t x) (value (q x)))
+    pub value-gathered : (m : ℕ) (t : ℕ → Bool) (q : ℕ → Matrix) → value (gathered m t q) ≡ sumTo m (λ x. where-true (t x) (value (q x)))
     pub value-difference : (a b : Matrix) → value (difference a b) ≡ value a -ℤ value b
     pub value-nonneg : (L : ℤ) (q : Matrix) → Projects L q → NonNeg (L *ℤ value q)
 
   -- the sum of the numbers at each plot and itself
   unfoldable pub trace : Matrix → ℤ
-  trace a = sum n (λ u. a u u)
+  trace a = sumTo n (λ u. a u u)
 
   -- the trace of a projection is a sum of squares
   pub trace-form : Form trace
@@ -118,14 +118,14 @@ module _ (n : ℕ) where
 
   -- a matrix applied to readings
   abbrev pub applied : Matrix → (ℕ → ℤ) → ℕ → ℤ
-  applied a y u = sum n (λ v. a u v *ℤ y v)
+  applied a y u = sumTo n (λ v. a u v *ℤ y v)
 
   -- readings times a matrix times the same readings
   unfoldable pub squares : (ℕ → ℤ) → Matrix → ℤ
-  squares y a = sum n (λ u. y u *ℤ applied a y u)
+  squares y a = sumTo n (λ u. y u *ℤ applied a y u)
 
   -- for a projection q that is the sum of the squares of q's readings
-  squares-projected : (y : ℕ → ℤ) (L : ℤ) (q : Matrix) → Projects L q → sum n (λ w. applied q y w *ℤ applied q y w) ≡ L *ℤ squares y q
+  squares-projected : (y : ℕ → ℤ) (L : ℤ) (q : Matrix) → Projects L q → sumTo n (λ w. applied q y w *ℤ applied q y w) ≡ L *ℤ squares y q
   unfolding squares product
   squares-projected y L q p =
       sum-same n _ _ (λ w hw. sym (sum-times n (applied q y w) (λ u. q w u *ℤ y u)))
@@ -138,7 +138,7 @@ module _ (n : ℕ) where
           *ℤ-comm (applied q y w) (q w u *ℤ y u) ∙ ap (λ (z : ℤ). z *ℤ applied q y w) (*ℤ-comm (q w u) (y u) ∙ ap (λ (z : ℤ). y u *ℤ z) (p .symmetric w u hw hu))
           ∙ times-assoc (y u) (q u w) (applied q y w)
 
-      twice : (u : ℕ) → u < n → sum n (λ w. q u w *ℤ applied q y w) ≡ L *ℤ applied q y u
+      twice : (u : ℕ) → u < n → sumTo n (λ w. q u w *ℤ applied q y w) ≡ L *ℤ applied q y u
       twice u hu =
           sum-same n _ _ (λ w hw. sym (sum-times n (q u w) (λ v. q w v *ℤ y v)) ∙ sum-same n _ _ (λ v hv. sym (times-assoc (q u w) (q w v) (y v))))
           ∙ sum-swap n n (λ w v. (q u w *ℤ q w v) *ℤ y v)

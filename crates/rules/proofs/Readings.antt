@@ -17,7 +17,7 @@ use Rattle.rules.proofs.Numbering.{by-cases}
 use Rattle.rules.proofs.Extremes.{length-equality}
 use Rattle.rules.proofs.ClassCount.{at-up, classes-equality}
 use Rattle.rules.proofs.WellFormed.{Accepted}
-use Rattle.rules.proofs.Ring.{sum, sum-same, sum-times, sum-times-true, sum-true-times, sum-one, where-true, true-times, true-same, one-times, distrib-left, times-assoc}
+use Rattle.rules.proofs.Ring.{sumTo, sum-same, sum-times, sum-times-true, sum-true-times, sum-one, where-true, true-times, true-same, one-times, distrib-left, times-assoc}
 use Rattle.rules.proofs.Shares.{equality-total, nonneg-everywhere, length-remainders}
 use Rattle.rules.proofs.Matrices.{applied, squares, squares-form}
 use Rattle.rules.proofs.Averages.{average, total, total-same, sum-by-class}
@@ -30,7 +30,7 @@ oneSize F u = classes F
 
 -- the readings of the class with label g, added up
 abbrev pub classTotal : ℕ → (ℕ → ℤ) → Column → ℕ → ℤ
-classTotal n y F g = sum n (λ u. where-true (eqb g (at F u)) (y u))
+classTotal n y F g = sumTo n (λ u. where-true (eqb g (at F u)) (y u))
 
 -- N times the crude sum: the number of classes times the squared class totals, added up
 abbrev pub crude : ℕ → (ℕ → ℤ) → Column → ℤ
@@ -67,14 +67,14 @@ module _ (n : ℕ) (y : ℕ → ℤ) where
       T : ℕ → ℤ
       T = classTotal n y F
 
-      each : (g : ℕ) → sum n (λ u. where-true (eqb g (at F u)) (y u *ℤ (c *ℤ T (at F u)))) ≡ c *ℤ (T g *ℤ T g)
+      each : (g : ℕ) → sumTo n (λ u. where-true (eqb g (at F u)) (y u *ℤ (c *ℤ T (at F u)))) ≡ c *ℤ (T g *ℤ T g)
       each g =
           sum-same n _ _ (λ u hu. true-same (eqb g (at F u)) _ _ (λ e. ap (λ (h : ℕ). y u *ℤ (c *ℤ T h)) (sym (eqb-true g (at F u) e))))
           ∙ sum-true-times n (c *ℤ T g) (λ u. eqb g (at F u)) y
           ∙ across (T g) c (T g)
 
   -- of E it is N times the sum of the squared readings
-  crude-equality : crude n y (equality n) ≡ pos n *ℤ sum n (λ u. y u *ℤ y u)
+  crude-equality : crude n y (equality n) ≡ pos n *ℤ sumTo n (λ u. y u *ℤ y u)
   unfolding squares equality
   crude-equality =
       crude-read (equality n) (length-equality n)
@@ -102,5 +102,5 @@ module _ (n : ℕ) (y : ℕ → ℤ) where
         (omega (arith, length-remainders (crude n y) n S)))
 
     -- together they are N times the sum of the squared readings
-    pub readings-total : addUp (remainders (crude n y) n S) ≡ pos n *ℤ sum n (λ u. y u *ℤ y u)
+    pub readings-total : addUp (remainders (crude n y) n S) ≡ pos n *ℤ sumTo n (λ u. y u *ℤ y u)
     readings-total = equality-total n S is (o .onPlots) (crude n y) (structure-equality n S is o) ∙ crude-equality

@@ -25,7 +25,7 @@ use Rattle.rules.proofs.First.{member-suc}
 use Rattle.rules.proofs.WellFormed.{member-at}
 use Rattle.rules.proofs.Allocation.{stratum-there}
 use Rattle.rules.proofs.Totals.{residual-at}
-use Rattle.rules.proofs.Ring.{sum, sum-same, sum-one, sum-front, where-true, true-same, true-swap, sum-times-true, times-sub, nonneg-divide}
+use Rattle.rules.proofs.Ring.{sumTo, sum-same, sum-one, sum-front, where-true, true-same, true-swap, sum-times-true, times-sub, nonneg-divide}
 use Rattle.rules.proofs.Shares.{length-remainders}
 use Rattle.rules.proofs.Matrices.{Matrix, product, SameOn, Symmetric, scaled, gathered, difference, product-turn, product-gathered-left, product-gathered-right, product-difference-left, product-difference-right, Projects, Form}
 use Rattle.rules.proofs.Averages.{average}
@@ -50,8 +50,8 @@ stratum-coarsest n P T s e i h =
     w = subst (IsStratum n P T) (member-suc P s) (stratum-there n P T (suc s) (omega arith) e)
 
 -- the numbers of the treatment members of one stratum, added up place by place
-sum-at : (i : ℕ) (f : Column → ℕ) (R : Family) (ds : List ℤ) → length ds ≡ length R → sumAt i (map f R) ds ≡ sum (length R) (λ j. where-true (eqb (f (memberAt R j)) i) (getD ds j (pos 0)))
-unfolding sumAt sum
+sum-at : (i : ℕ) (f : Column → ℕ) (R : Family) (ds : List ℤ) → length ds ≡ length R → sumAt i (map f R) ds ≡ sumTo (length R) (λ j. where-true (eqb (f (memberAt R j)) i) (getD ds j (pos 0)))
+unfolding sumAt sumTo
 sum-at i f [] ds l = refl
 sum-at i f (T ∷ R) [] l = absurd (suc-ne-zero _ (sym l))
 sum-at i f (T ∷ R) (d ∷ ds) l =
@@ -59,7 +59,7 @@ sum-at i f (T ∷ R) (d ∷ ds) l =
     (λ e. rw (e, sumAt) (ap (λ (z : ℤ). d +ℤ z) (sum-at i f R ds (suc-inj l))) ∙ back)
     (λ e. rw (e, sumAt) (sum-at i f R ds (suc-inj l) ∙ sym (+ℤ-idl _)) ∙ back)
   where
-    back : where-true (eqb (f T) i) d +ℤ sum (length R) (λ j. where-true (eqb (f (memberAt R j)) i) (getD ds j (pos 0))) ≡ sum (suc (length R)) (λ j. where-true (eqb (f (memberAt (T ∷ R) j)) i) (getD (d ∷ ds) j (pos 0)))
+    back : where-true (eqb (f T) i) d +ℤ sumTo (length R) (λ j. where-true (eqb (f (memberAt R j)) i) (getD ds j (pos 0))) ≡ sumTo (suc (length R)) (λ j. where-true (eqb (f (memberAt (T ∷ R) j)) i) (getD (d ∷ ds) j (pos 0)))
     back = sym (sum-front (length R) (λ j. where-true (eqb (f (memberAt (T ∷ R) j)) i) (getD (d ∷ ds) j (pos 0))))
 
 -- ---- plot family P and treatment family R

@@ -77,43 +77,43 @@ times-assoc a b c = by-steps (λ (x : ℤ). (x *ℤ b) *ℤ c ≡ x *ℤ (b *ℤ
 -- ---- finite sums
 
 -- f 0 + f 1 + .. + f (n − 1)
-unfoldable pub sum : ℕ → (ℕ → ℤ) → ℤ
-sum zero f = pos zero
-sum (suc k) f = sum k f +ℤ f k
+unfoldable pub sumTo : ℕ → (ℕ → ℤ) → ℤ
+sumTo zero f = pos zero
+sumTo (suc k) f = sumTo k f +ℤ f k
 
 -- equal terms, equal sums
-pub sum-same : (n : ℕ) (f g : ℕ → ℤ) → ((i : ℕ) → i < n → f i ≡ g i) → sum n f ≡ sum n g
-unfolding sum
+pub sum-same : (n : ℕ) (f g : ℕ → ℤ) → ((i : ℕ) → i < n → f i ≡ g i) → sumTo n f ≡ sumTo n g
+unfolding sumTo
 sum-same zero f g h = refl
 sum-same (suc k) f g h = ap₂ _+ℤ_ (sum-same k f g (λ i hi. h i (omega arith))) (h k (le-refl _))
 
 -- zeros add up to 0
-pub sum-zero : (n : ℕ) → sum n (λ i. pos zero) ≡ pos zero
-unfolding sum
+pub sum-zero : (n : ℕ) → sumTo n (λ i. pos zero) ≡ pos zero
+unfolding sumTo
 sum-zero zero = refl
 sum-zero (suc k) = +ℤ-idr _ ∙ sum-zero k
 
 -- a sum of sums, term by term
-pub sum-add : (n : ℕ) (f g : ℕ → ℤ) → sum n (λ i. f i +ℤ g i) ≡ sum n f +ℤ sum n g
-unfolding sum
+pub sum-add : (n : ℕ) (f g : ℕ → ℤ) → sumTo n (λ i. f i +ℤ g i) ≡ sumTo n f +ℤ sumTo n g
+unfolding sumTo
 sum-add zero f g = refl
-sum-add (suc k) f g = ap (λ (x : ℤ). x +ℤ (f k +ℤ g k)) (sum-add k f g) ∙ four (sum k f) (sum k g) (f k) (g k)
+sum-add (suc k) f g = ap (λ (x : ℤ). x +ℤ (f k +ℤ g k)) (sum-add k f g) ∙ four (sumTo k f) (sumTo k g) (f k) (g k)
 
 -- a factor goes out of a sum
-pub sum-times : (n : ℕ) (a : ℤ) (f : ℕ → ℤ) → sum n (λ i. a *ℤ f i) ≡ a *ℤ sum n f
-unfolding sum
+pub sum-times : (n : ℕ) (a : ℤ) (f : ℕ → ℤ) → sumTo n (λ i. a *ℤ f i) ≡ a *ℤ sumTo n f
+unfolding sumTo
 sum-times zero a f = sym (*ℤ-zero a)
-sum-times (suc k) a f = ap (λ (x : ℤ). x +ℤ a *ℤ f k) (sum-times k a f) ∙ sym (distrib-left a (sum k f) (f k))
+sum-times (suc k) a f = ap (λ (x : ℤ). x +ℤ a *ℤ f k) (sum-times k a f) ∙ sym (distrib-left a (sumTo k f) (f k))
 
 -- the same with the factor on the right
-pub sum-times-right : (n : ℕ) (a : ℤ) (f : ℕ → ℤ) → sum n (λ i. f i *ℤ a) ≡ sum n f *ℤ a
-sum-times-right n a f = sum-same n _ _ (λ i hi. *ℤ-comm (f i) a) ∙ sum-times n a f ∙ *ℤ-comm a (sum n f)
+pub sum-times-right : (n : ℕ) (a : ℤ) (f : ℕ → ℤ) → sumTo n (λ i. f i *ℤ a) ≡ sumTo n f *ℤ a
+sum-times-right n a f = sum-same n _ _ (λ i hi. *ℤ-comm (f i) a) ∙ sum-times n a f ∙ *ℤ-comm a (sumTo n f)
 
 -- two sums change places
-pub sum-swap : (n m : ℕ) (f : ℕ → ℕ → ℤ) → sum n (λ i. sum m (λ j. f i j)) ≡ sum m (λ j. sum n (λ i. f i j))
-unfolding sum
+pub sum-swap : (n m : ℕ) (f : ℕ → ℕ → ℤ) → sumTo n (λ i. sumTo m (λ j. f i j)) ≡ sumTo m (λ j. sumTo n (λ i. f i j))
+unfolding sumTo
 sum-swap zero m f = sym (sum-zero m)
-sum-swap (suc k) m f = ap (λ (x : ℤ). x +ℤ sum m (λ j. f k j)) (sum-swap k m f) ∙ sym (sum-add m (λ j. sum k (λ i. f i j)) (λ j. f k j))
+sum-swap (suc k) m f = ap (λ (x : ℤ). x +ℤ sumTo m (λ j. f k j)) (sum-swap k m f) ∙ sym (sum-add m (λ j. sumTo k (λ i. f i j)) (λ j. f k j))
 
 -- a number counted where a test passes
 abbrev pub where-true : Bool → ℤ → ℤ
@@ -121,8 +121,8 @@ where-true true x = x
 where-true false x = pos zero
 
 -- one term of a sum
-pub sum-one : (n i : ℕ) (f : ℕ → ℤ) → i < n → sum n (λ x. where-true (eqb x i) (f x)) ≡ f i
-unfolding sum
+pub sum-one : (n i : ℕ) (f : ℕ → ℤ) → i < n → sumTo n (λ x. where-true (eqb x i) (f x)) ≡ f i
+unfolding sumTo
 sum-one zero i f h = absurd (not-suc-le-zero h)
 sum-one (suc k) i f h =
     by-cases (eqb k i)
@@ -143,7 +143,7 @@ true-times true x y = refl
 true-times false x y = zero-*ℤ y
 
 -- a test that does not depend on the place goes out of a sum
-pub sum-true : (n : ℕ) (t : Bool) (f : ℕ → ℤ) → sum n (λ i. where-true t (f i)) ≡ where-true t (sum n f)
+pub sum-true : (n : ℕ) (t : Bool) (f : ℕ → ℤ) → sumTo n (λ i. where-true t (f i)) ≡ where-true t (sumTo n f)
 sum-true n true f = refl
 sum-true n false f = sum-zero n
 
@@ -164,22 +164,22 @@ true-same true x y h = h refl
 true-same false x y h = refl
 
 -- a factor that does not depend on the place goes out of a sum of what passes a test
-pub sum-times-true : (n : ℕ) (a : ℤ) (t : ℕ → Bool) (f : ℕ → ℤ) → sum n (λ i. where-true (t i) (a *ℤ f i)) ≡ a *ℤ sum n (λ i. where-true (t i) (f i))
+pub sum-times-true : (n : ℕ) (a : ℤ) (t : ℕ → Bool) (f : ℕ → ℤ) → sumTo n (λ i. where-true (t i) (a *ℤ f i)) ≡ a *ℤ sumTo n (λ i. where-true (t i) (f i))
 sum-times-true n a t f = sum-same n _ _ (λ i hi. sym (times-true (t i) a (f i))) ∙ sum-times n a (λ i. where-true (t i) (f i))
 
 -- the same with the factor on the right
-pub sum-true-times : (n : ℕ) (a : ℤ) (t : ℕ → Bool) (f : ℕ → ℤ) → sum n (λ i. where-true (t i) (f i *ℤ a)) ≡ sum n (λ i. where-true (t i) (f i)) *ℤ a
+pub sum-true-times : (n : ℕ) (a : ℤ) (t : ℕ → Bool) (f : ℕ → ℤ) → sumTo n (λ i. where-true (t i) (f i *ℤ a)) ≡ sumTo n (λ i. where-true (t i) (f i)) *ℤ a
 sum-true-times n a t f = sum-same n _ _ (λ i hi. ap (where-true (t i)) (*ℤ-comm (f i) a)) ∙ sum-times-true n a t f ∙ *ℤ-comm a _
 
 -- sums of what passes a test change places
-pub sum-true-swap : (n m : ℕ) (t : ℕ → Bool) (f : ℕ → ℕ → ℤ) → sum n (λ u. sum m (λ i. where-true (t i) (f u i))) ≡ sum m (λ i. where-true (t i) (sum n (λ u. f u i)))
+pub sum-true-swap : (n m : ℕ) (t : ℕ → Bool) (f : ℕ → ℕ → ℤ) → sumTo n (λ u. sumTo m (λ i. where-true (t i) (f u i))) ≡ sumTo m (λ i. where-true (t i) (sumTo n (λ u. f u i)))
 sum-true-swap n m t f = sum-swap n m (λ u i. where-true (t i) (f u i)) ∙ sum-same m _ _ (λ i hi. sum-true n (t i) (λ u. f u i))
 
 -- the first term apart
-pub sum-front : (k : ℕ) (f : ℕ → ℤ) → sum (suc k) f ≡ f 0 +ℤ sum k (λ i. f (suc i))
-unfolding sum
+pub sum-front : (k : ℕ) (f : ℕ → ℤ) → sumTo (suc k) f ≡ f 0 +ℤ sumTo k (λ i. f (suc i))
+unfolding sumTo
 sum-front zero f = +ℤ-comm (pos 0) (f 0)
-sum-front (suc k) f = ap (λ (z : ℤ). z +ℤ f (suc k)) (sum-front k f) ∙ +ℤ-assoc (f 0) (sum k (λ i. f (suc i))) (f (suc k))
+sum-front (suc k) f = ap (λ (z : ℤ). z +ℤ f (suc k)) (sum-front k f) ∙ +ℤ-assoc (f 0) (sumTo k (λ i. f (suc i))) (f (suc k))
 
 -- ---- differences
 
@@ -199,14 +199,14 @@ pub sub-times : (a b c : ℤ) → (a -ℤ b) *ℤ c ≡ a *ℤ c -ℤ b *ℤ c
 sub-times a b c = distrib-right a (negℤ b) c ∙ ap (λ (x : ℤ). a *ℤ c +ℤ x) (neg-times b c)
 
 -- a minus goes out of a sum
-pub sum-neg : (n : ℕ) (f : ℕ → ℤ) → sum n (λ i. negℤ (f i)) ≡ negℤ (sum n f)
-unfolding sum
+pub sum-neg : (n : ℕ) (f : ℕ → ℤ) → sumTo n (λ i. negℤ (f i)) ≡ negℤ (sumTo n f)
+unfolding sumTo
 sum-neg zero f = refl
-sum-neg (suc k) f = ap (λ (x : ℤ). x +ℤ negℤ (f k)) (sum-neg k f) ∙ sym (negℤ-+ℤ (sum k f) (f k))
+sum-neg (suc k) f = ap (λ (x : ℤ). x +ℤ negℤ (f k)) (sum-neg k f) ∙ sym (negℤ-+ℤ (sumTo k f) (f k))
 
 -- a sum of differences, term by term
-pub sum-sub : (n : ℕ) (f g : ℕ → ℤ) → sum n (λ i. f i -ℤ g i) ≡ sum n f -ℤ sum n g
-sum-sub n f g = sum-add n f (λ i. negℤ (g i)) ∙ ap (λ (x : ℤ). sum n f +ℤ x) (sum-neg n g)
+pub sum-sub : (n : ℕ) (f g : ℕ → ℤ) → sumTo n (λ i. f i -ℤ g i) ≡ sumTo n f -ℤ sumTo n g
+sum-sub n f g = sum-add n f (λ i. negℤ (g i)) ∙ ap (λ (x : ℤ). sumTo n f +ℤ x) (sum-neg n g)
 
 -- ---- numbers that are not below 0
 
@@ -224,10 +224,10 @@ pub add-nonneg : (x y : ℤ) → NonNeg x → NonNeg y → NonNeg (x +ℤ y)
 add-nonneg x y a b = record { value = a .value + b .value; is = ap₂ _+ℤ_ (a .is) (b .is) ∙ pos-+ℤ-pos (a .value) (b .value) }
 
 -- nor a sum of any number of them
-pub sum-nonneg : (n : ℕ) (f : ℕ → ℤ) → ((i : ℕ) → i < n → NonNeg (f i)) → NonNeg (sum n f)
-unfolding sum
+pub sum-nonneg : (n : ℕ) (f : ℕ → ℤ) → ((i : ℕ) → i < n → NonNeg (f i)) → NonNeg (sumTo n f)
+unfolding sumTo
 sum-nonneg zero f h = zero-nonneg
-sum-nonneg (suc k) f h = add-nonneg (sum k f) (f k) (sum-nonneg k f (λ i hi. h i (omega arith))) (h k (le-refl _))
+sum-nonneg (suc k) f h = add-nonneg (sumTo k f) (f k) (sum-nonneg k f (λ i hi. h i (omega arith))) (h k (le-refl _))
 
 -- a number is not below 0 where a positive multiple of it is not
 pub nonneg-divide : (l : ℕ) → 0 < l → (z : ℤ) → NonNeg (pos l *ℤ z) → NonNeg z

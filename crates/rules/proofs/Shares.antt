@@ -23,22 +23,22 @@ use Rattle.rules.proofs.ClassCount.{equality-finer, classes-equality}
 use Rattle.rules.proofs.StrictOrder.{coarser-irreflexive, finer-places, coarser-below}
 use Rattle.rules.proofs.Degrees.{sum-yes, sum-no, remainders-equation}
 use Rattle.rules.proofs.DegreesLaws.{Place, place-of, length-after}
-use Rattle.rules.proofs.Ring.{sum, sum-same, sum-add, sum-one, sum-front, where-true, true-same, cancel, zero-nonneg}
+use Rattle.rules.proofs.Ring.{sumTo, sum-same, sum-add, sum-one, sum-front, where-true, true-same, cancel, zero-nonneg}
 
 -- the numbers of the strictly coarser members, added up place by place
-coarser-sum : (n : ℕ) (F : Column) (S : Family) (ds : List ℤ) → length ds ≡ length S → coarserSum n F S ds ≡ sum (length S) (λ x. where-true (coarser n F (getD S x [])) (getD ds x (pos 0)))
-unfolding coarserSum sum
+coarser-sum : (n : ℕ) (F : Column) (S : Family) (ds : List ℤ) → length ds ≡ length S → coarserSum n F S ds ≡ sumTo (length S) (λ x. where-true (coarser n F (getD S x [])) (getD ds x (pos 0)))
+unfolding coarserSum sumTo
 coarser-sum n F [] ds l = refl
 coarser-sum n F (G ∷ S) [] l = absurd (suc-ne-zero _ (sym l))
 coarser-sum n F (G ∷ S) (d ∷ ds) l =
     by-cases (coarser n F G)
     (λ e. sum-yes n F G S d ds e ∙ ap₂ _+ℤ_ (ap (λ (b : Bool). where-true b d) (sym e)) (coarser-sum n F S ds (suc-inj l)) ∙ sym (sum-front (length S) (λ x. where-true (coarser n F (getD (G ∷ S) x [])) (getD (d ∷ ds) x (pos 0)))))
-    (λ e. sum-no n F G S d ds e ∙ coarser-sum n F S ds (suc-inj l) ∙ sym (+ℤ-idl _) ∙ ap (λ (z : ℤ). z +ℤ sum (length S) (λ x. where-true (coarser n F (getD S x [])) (getD ds x (pos 0)))) (ap (λ (b : Bool). where-true b d) (sym e))
+    (λ e. sum-no n F G S d ds e ∙ coarser-sum n F S ds (suc-inj l) ∙ sym (+ℤ-idl _) ∙ ap (λ (z : ℤ). z +ℤ sumTo (length S) (λ x. where-true (coarser n F (getD S x [])) (getD ds x (pos 0)))) (ap (λ (b : Bool). where-true b d) (sym e))
     ∙ sym (sum-front (length S) (λ x. where-true (coarser n F (getD (G ∷ S) x [])) (getD (d ∷ ds) x (pos 0)))))
 
 -- all numbers of a list, added up place by place
-pub addUp-sum : (ds : List ℤ) → addUp ds ≡ sum (length ds) (λ i. getD ds i (pos 0))
-unfolding addUp sum
+pub addUp-sum : (ds : List ℤ) → addUp ds ≡ sumTo (length ds) (λ i. getD ds i (pos 0))
+unfolding addUp sumTo
 addUp-sum [] = refl
 addUp-sum (d ∷ ds) = ap (λ (z : ℤ). d +ℤ z) (addUp-sum ds) ∙ sym (sum-front (length ds) (λ i. getD (d ∷ ds) i (pos 0)))
 
@@ -63,14 +63,14 @@ module _ (n : ℕ) (S : Family) (is : Accepted S) (on : (F : Column) → F ∈ S
 
   -- what belongs to member i: its own part and those of the strictly coarser members
   abbrev pub upward : ℕ → (ℕ → ℤ) → ℤ
-  upward i f = sum (length S) (λ x. where-true (finer n (memberAt S i) (memberAt S x)) (f x))
+  upward i f = sumTo (length S) (λ x. where-true (finer n (memberAt S i) (memberAt S x)) (f x))
 
-  upward-split : (i : ℕ) → i < length S → (f : ℕ → ℤ) → upward i f ≡ f i +ℤ sum (length S) (λ x. where-true (coarserAt n S i x) (f x))
+  upward-split : (i : ℕ) → i < length S → (f : ℕ → ℤ) → upward i f ≡ f i +ℤ sumTo (length S) (λ x. where-true (coarserAt n S i x) (f x))
   unfolding coarserAt
   upward-split i h f =
       sum-same (length S) _ _ (λ x hx. part x hx)
       ∙ sum-add (length S) (λ x. where-true (eqb x i) (f x)) (λ x. where-true (coarserAt n S i x) (f x))
-      ∙ ap (λ (z : ℤ). z +ℤ sum (length S) (λ x. where-true (coarserAt n S i x) (f x))) (sum-one (length S) i f h)
+      ∙ ap (λ (z : ℤ). z +ℤ sumTo (length S) (λ x. where-true (coarserAt n S i x) (f x))) (sum-one (length S) i f h)
     where
       part : (x : ℕ) → x < length S → where-true (finer n (memberAt S i) (memberAt S x)) (f x) ≡ where-true (eqb x i) (f x) +ℤ where-true (coarserAt n S i x) (f x)
       part x hx =
@@ -93,7 +93,7 @@ module _ (n : ℕ) (S : Family) (is : Accepted S) (on : (F : Column) → F ∈ S
   unique-below : (f g : ℕ → ℤ) → ((i : ℕ) → i < length S → upward i f ≡ upward i g) → (k i : ℕ) → i < k → i < length S → f i ≡ g i
   unique-below f g e zero i hk h = absurd (not-suc-le-zero hk)
   unique-below f g e (suc k) i hk h =
-      cancel (f i) (g i) (sum (length S) (λ x. where-true (coarserAt n S i x) (g x)))
+      cancel (f i) (g i) (sumTo (length S) (λ x. where-true (coarserAt n S i x) (g x)))
       (ap (λ (z : ℤ). f i +ℤ z) (sym (sum-same (length S) _ _ (λ x hx. true-same (coarserAt n S i x) (f x) (g x) (λ c. unique-below f g e k x (lower x hx c) hx))))
       ∙ sym (upward-split i h f) ∙ e i h ∙ upward-split i h g)
     where
@@ -107,7 +107,7 @@ module _ (n : ℕ) (S : Family) (is : Accepted S) (on : (F : Column) → F ∈ S
   -- where E is a member, the remainders add up to its own number
   pub equality-total : (own : Column → ℤ) → equality n ∈ S → addUp (remainders own n S) ≡ own (equality n)
   equality-total own m =
-      addUp-sum (remainders own n S) ∙ ap (λ (k : ℕ). sum k (λ x. getD (remainders own n S) x (pos 0))) (length-remainders own n S)
+      addUp-sum (remainders own n S) ∙ ap (λ (k : ℕ). sumTo k (λ x. getD (remainders own n S) x (pos 0))) (length-remainders own n S)
       ∙ sum-same (length S) _ _ (λ x hx. sym (ap (λ (b : Bool). where-true b (getD (remainders own n S) x (pos 0))) (all x)))
       ∙ sym (remainders-sum own (e .place) (e .less)) ∙ ap own (e .is)
     where

@@ -1,15 +1,15 @@
 -- A number that every class size divides: the product of 1 to n. So every factor on n plots has averaging weights, whatever the sizes of its classes.
 -- Assumes nothing.
 use mathlib.Core.Path.{_≡_, ap, _∙_}
-use mathlib.Core.Bool.{Bool, true, false}
+use mathlib.Core.Bool.{true, false}
 use Prim.Native.Nat.{ℕ, zero, suc, _*_, _≤_, _<_, zero-le, suc-le-suc}
 use native.Mathlib.Nat.{mul-comm, mul-assoc, mul-pos}
 use native.Mathlib.Omega.{arith}
 use lib.Dec.{eqb}
 use borrow.Author.Tests.{eqb-true, eqb-false}
-use Rattle.rules.specs.Factor.{Column, same, count, classSize}
+use Rattle.rules.specs.Factor.{Column, same, classSize}
 use Rattle.rules.proofs.Numbering.{by-cases}
-use Rattle.rules.proofs.Tests.{count-yes, count-no}
+use Rattle.rules.proofs.Walks.{count-le}
 use Rattle.rules.proofs.Averages.{size-some, Weighs}
 
 -- the product of the numbers 1 to n
@@ -39,11 +39,6 @@ without-times (suc n) k h l =
     (λ e. let ne : k ≡ suc n → ⊥ = eqb-false k (suc n) e in
     rw (e, without) (mul-assoc (suc n) (without n k) k ∙ ap (λ (x : ℕ). suc n * x) (without-times n k h (omega (arith, ne)))))
 
-count-most : (n : ℕ) (p : ℕ → Bool) → count n p ≤ n
-unfolding count
-count-most zero p = zero-le
-count-most (suc k) p = by-cases (p k) (λ e. rw (count-yes k p e) (suc-le-suc (count-most k p))) (λ e. rw (count-no k p e) (omega (arith, count-most k p)))
-
 -- the weight of a plot, whatever the size of its class
 unfoldable pub anySize : ℕ → Column → ℕ → ℕ
 unfolding without classSize
@@ -52,4 +47,4 @@ anySize n F u = without n (classSize n F u)
 -- weight times class size is the product, at every plot
 pub any-weighs : (n : ℕ) (F : Column) → Weighs n (upTo n) (anySize n) F
 unfolding anySize classSize
-any-weighs n F u hu = without-times n (classSize n F u) (size-some n F u hu) (count-most n (λ v. same F u v))
+any-weighs n F u hu = without-times n (classSize n F u) (size-some n F u hu) (count-le n (λ v. same F u v))
