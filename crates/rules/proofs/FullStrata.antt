@@ -1,12 +1,12 @@
 -- C-13 for full designs: no treatment member and no residual of an accepted full design is below 0. It follows from what demand 2 says of an accepted design.
 -- Assumes nothing.
-use mathlib.Core.Path.{_≡_, refl, sym, ap, _∙_, subst}
+use mathlib.Core.Path.{_≡_, refl, sym, ap, ap₂, _∙_, subst}
 use mathlib.Core.Logic.{inl}
 use mathlib.Core.List.{List, map}
 use Prim.Native.Nat.{ℕ, _<_}
 use native.Mathlib.Omega.{arith}
 use lib.IntN.{pos}
-use lib.ListN.{length}
+use lib.ListN.{length, replicate, length-replicate}
 use Rattle.rules.specs.Factor.{Column, number, supremum, equality, Orthogonal}
 use Rattle.rules.specs.Family.{Family, _∈_, Lists}
 use Rattle.rules.specs.Lists.{forPlaces}
@@ -215,15 +215,22 @@ module _ (n c d k : ℕ) (levels plots treatments : List ℕ) (a : Answer) (met 
       together-trusted n (a .plot) (a .treatment) (accepted-splits (upTo n) (anySize n) (up-to-some n) (λ F m. any-weighs n F) (λ F m. any-weighs n F))
       (met .plot-family (inl e) .all (equality n) by-equality)
 
--- ---- the full design, and what the entries answer of the families that it left in the buffers
+-- ---- the full design
+
+-- no stratum, no treatment member and no residual of an accepted full design is below 0, and the strata sum to N
+pub full-trusted : (n c d k : ℕ) (levels : List ℕ) (p r : ℕ) → fullDesign n c d k levels p r .refusal ≡ 0 → Trusted n (fullDesign n c d k levels p r .plot) (fullDesign n c d k levels p r .treatment)
+full-trusted n c d k levels p r =
+    subst (λ (a : Answer). a .refusal ≡ 0 → Trusted n (a .plot) (a .treatment)) (ap₂ (fullDesign n c d k levels) (length-replicate p 0) (length-replicate r 0))
+    (demand-trusted n c d k levels (replicate p 0) (replicate r 0) _ (full-demanded n c d k levels (replicate p 0) (replicate r 0)))
+
+-- ---- what the entries answer of the families that it left in the buffers
 
 module _ (n c d k : ℕ) (levels plots treatments : List ℕ) (e : fullDesign n c d k levels (length plots) (length treatments) .refusal ≡ 0) where
   abbrev b : Answer
   b = fullDesign n c d k levels (length plots) (length treatments)
 
-  -- no stratum, no treatment member and no residual of an accepted full design is below 0, and the strata sum to N
-  pub full-trusted : Trusted n (b .plot) (b .treatment)
-  full-trusted = demand-trusted n c d k levels plots treatments b (full-demanded n c d k levels plots treatments) e
+  trusted : Trusted n (b .plot) (b .treatment)
+  trusted = full-trusted n c d k levels (length plots) (length treatments) e
 
   limits : Within n c d k levels plots treatments
   unfolding AllHold
@@ -247,7 +254,7 @@ module _ (n c d k : ℕ) (levels plots treatments : List ℕ) (e : fullDesign n 
 
   -- so none of the numbers answered is below 0
   pub treatment-answered : NoneBelow0 (degreesOfFreedom n (treatmentBuffer treatments b) (treatmentSize b) .degrees)
-  treatment-answered i = rw treatment-answered-is (places-nonneg (degrees n (b .treatment)) (full-trusted .no-treatment) i)
+  treatment-answered i = rw treatment-answered-is (places-nonneg (degrees n (b .treatment)) (trusted .no-treatment) i)
 
   pub residuals-answered : NoneBelow0 (strata n (plotBuffer plots b) (plotSize b) (treatmentBuffer treatments b) (treatmentSize b) .residuals)
-  residuals-answered i = rw residuals-answered-is (places-nonneg (residuals n (b .plot) (b .treatment)) (full-trusted .no-residual) i)
+  residuals-answered i = rw residuals-answered-is (places-nonneg (residuals n (b .plot) (b .treatment)) (trusted .no-residual) i)

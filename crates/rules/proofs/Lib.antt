@@ -68,3 +68,4 @@ pub mod Readings
 pub mod PlotStrata
 pub mod Residuals
 pub mod FullStrata
+pub mod CountedRows
