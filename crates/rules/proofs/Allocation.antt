@@ -22,8 +22,9 @@ use Rattle.rules.proofs.Classes.{finer-test}
 use Rattle.rules.proofs.Tests.{or-not, not-or}
 use Rattle.rules.proofs.Sheet.{and-left, and-right}
 use Rattle.rules.proofs.First.{atPlace, member-suc, failing-zero, failing-first}
-use Rattle.rules.proofs.WellFormed.{accepted, member-at, numbered-at, ascending-at}
+use Rattle.rules.proofs.WellFormed.{accepted, member-at, ascending-at}
 use Rattle.rules.proofs.WorkList.{place-of}
+use Rattle.rules.proofs.DegreesLaws.{accepted-numbered}
 
 passes : (p : Column → Bool) (S : Family) → all p S ≡ true → (F : Column) → F ∈ S → p F ≡ true
 unfolding all
@@ -100,7 +101,7 @@ module _ (n : ℕ) (P : Family) (formed : wellFormed P ≡ true) (on : (F : Colu
   stratum-one F G f g = by-cases (alike F G) (λ a. alike-sound F G a) (λ a. equal (λ q. clash (subst (λ (H : Column). alike F H ≡ true) q (alike-self F)) a))
     where
       numbered : (H : Column) → H ∈ P → number H ≡ H
-      numbered H h = let k = place-of P H h in subst (λ (K : Column). number K ≡ K) (k .is) (numbered-at P (accepted P formed .numbered) (k .place) (k .less))
+      numbered = accepted-numbered P (accepted P formed)
 
       equal : (F ≡ G → ⊥) → F ≡ G
       equal d =

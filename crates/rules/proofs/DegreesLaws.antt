@@ -1,9 +1,8 @@
 -- Laws of the degrees of freedom: how large they can be, and what they add up to.
 -- Assumes nothing.
-use mathlib.Core.Path.{_≡_, refl, sym, ap, _∙_}
+use mathlib.Core.Path.{_≡_, refl, ap, _∙_, subst}
 use mathlib.Core.Bool.{true}
-use mathlib.Core.List.{List, [], _∷_, _++_, List·Memᴰ·head, List·Memᴰ·tail, List·Memᴰ·cases-cons, List·Memᴰ·not-nil}
-use mathlib.Core.Logic.{_⊎_, inl, inr}
+use mathlib.Core.List.{List, [], _∷_, _++_, List·Memᴰ·head, List·Memᴰ·tail}
 use Prim.Native.Nat.{ℕ, zero, suc, _+_, _*_, _^_, _≤_, _<_}
 use native.Mathlib.Nat.{not-suc-le-zero, le-of-suc-le-suc, pow-suc}
 use native.Mathlib.Omega.{arith}
@@ -16,7 +15,8 @@ use Rattle.rules.proofs.Numbering.{by-cases}
 use Rattle.rules.proofs.Members.{alike-self}
 use Rattle.rules.proofs.ClassCount.{classes-most}
 use Rattle.rules.proofs.Degrees.{sum-yes, sum-no}
-use Rattle.rules.proofs.WellFormed.{Accepted}
+use Rattle.rules.proofs.WorkList.{place-of}
+use Rattle.rules.proofs.WellFormed.{Accepted, numbered-at}
 use Rattle.rules.proofs.Signed.{abs-add, abs-sub}
 
 -- ---- how many there are
@@ -75,28 +75,16 @@ degrees-bound n S h on i l =
     let e : 0 + i ≡ i = omega arith in
     rw e at (after-bound classNumber n S [] [] 0 (λ F m. omega (arith, classes-most F, on F m)) (omega arith) i l)
 
--- ---- numbered families, and the place of a member
+-- ---- numbered families
 
 pub numbered-all : (S : Family) → ((F : Column) → F ∈ S → number F ≡ F) → allNumbered S ≡ true
 unfolding allNumbered
 numbered-all [] h = refl
 numbered-all (F ∷ S) h = rw (ap (λ (G : Column). alike G F) (h F (List·Memᴰ·head refl)) ∙ alike-self F, allNumbered) (numbered-all S (λ G m. h G (List·Memᴰ·tail m)))
 
-pub record Place (S : Family) (F : Column) : Type 0 where
-  pub place : ℕ
-  pub less : place < length S
-  pub is : getD S place [] ≡ F
-
-pub place-of : (S : Family) (F : Column) → F ∈ S → Place S F
-place-of [] F m = absurd (List·Memᴰ·not-nil m)
-place-of (G ∷ S) F m = go (λ k. place-of S F k) (List·Memᴰ·cases-cons m)
-  where
-    later : Place S F → Place (G ∷ S) F
-    later p = record { place = suc (p .place); less = omega (arith, p .less); is = p .is }
-
-    go : (F ∈ S → Place S F) → (F ≡ G) ⊎ (F ∈ S) → Place (G ∷ S) F
-    go below (inl e) = record { place = 0; less = omega arith; is = sym e }
-    go below (inr k) = later (below k)
+-- the members of a family that question 15 accepts are numbered by first appearance
+pub accepted-numbered : (S : Family) → Accepted S → (F : Column) → F ∈ S → number F ≡ F
+accepted-numbered S is F m = let p = place-of S F m in subst (λ (G : Column). number G ≡ G) (p .is) (numbered-at S (is .numbered) (p .place) (p .less))
 
 -- a family that lists numbered columns, at least one, is such that question 15 accepts it
 pub lists-accepted : {Q : Column → Type 0} {S : Family} → Lists Q S → ((F : Column) → Q F → number F ≡ F) → {F : Column} → Q F → Accepted S

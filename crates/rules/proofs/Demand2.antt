@@ -11,7 +11,7 @@ use lib.Dec.{eqb, ltb, leb, lit≤}
 use lib.ListN.{length, getD, take, drop, length-drop}
 use lib.Seq.{length-take-le, getD-take, getD-drop}
 use borrow.Author.Tests.{ltb-true, leb-true, lt-ltb, le-leb, lt-leb, leb-false, eqb-true, eqb-false, ltb-false, eq-eqb, ne-eqb}
-use Rattle.rules.specs.Factor.{Column, equality, uniform, Orthogonal, orthogonal}
+use Rattle.rules.specs.Factor.{Column, equality, uniform, orthogonal}
 use Rattle.rules.specs.Family.{Family, _∈_, AtMost, Lists, columnsFrom, membersOf}
 use Rattle.rules.specs.Closing.{Closing, tooMany, family, plotFamily, firstTreatmentFamily, finalTreatmentFamily, InPlotFamily, InFirstTreatmentFamily, SupremumOfEach, by-equality}
 use Rattle.rules.specs.Design.{Answer, Places, firstFailing, pairAt, firstPair, firstCross, nonzero, allNonzero, plotsWithin, withinLimits, fullWithinLimits, plotDesign, fullDesign, plotBuffer, treatmentBuffer}
@@ -22,10 +22,10 @@ use Rattle.rules.specs.Limits.{PlotLimits}
 use Rattle.rules.specs.Demand2.{readBack, Condition, condition, FirstBroken, AllHold, Within, NoneMissing, condition6, condition7, condition8, condition9, condition10, condition11, condition12, condition13, condition14, fullConditions, plotConditions, FirstUneven, FirstApart, FirstApartAcross, Carries, Demand2}
 use Rattle.rules.proofs.Numbering.{by-cases}
 use Rattle.rules.proofs.Members.{clash}
-use Rattle.rules.proofs.Tests.{uniform-test, orthogonal-test, orthogonal-sym, orthogonal-self}
+use Rattle.rules.proofs.Tests.{uniform-test, orthogonal-test}
 use Rattle.rules.proofs.Closing.{pigeonhole, ascending-distinct}
 use Rattle.rules.proofs.Families.{plot-family-lists, plot-too-many, first-family-lists, first-too-many, final-ascending, final-only, final-all}
-use Rattle.rules.proofs.Verdict.{failing-none, failing-pass, pairs-none, pairs-pass, pairwise-cases}
+use Rattle.rules.proofs.Verdict.{failing-none, failing-pass, pairs-orthogonal}
 use Rattle.rules.proofs.First.{failing-first, pair-first, cross-first}
 use Rattle.rules.proofs.Demand3.{Fits, column-length, nonzero-all}
 use Rattle.rules.proofs.WellMade.{WellMade, plot-made, first-made, final-made}
@@ -214,18 +214,6 @@ module _ (Q : Column → Type 0) (x : Closing) (lists : (R : Family) → x ≡ f
       go (family R) e = ap fewEnough e
 
 -- ---- pairs
-
--- every two members of a family on n plots are orthogonal exactly where no pair fails
-pairs-orthogonal : (n : ℕ) (R : Family) → ((F : Column) → F ∈ R → length F ≡ n) → firstPair (orthogonal n) 1 R .first ≡ 0 ↔ ((F G : Column) → F ∈ R → G ∈ R → Orthogonal n F G)
-pairs-orthogonal n R on = (
-  λ e F G m k. two F G m k (pairwise-cases (orthogonal n) (pairs-none (orthogonal n) 0 R e) F G m k),
-  λ h. ap (λ (p : Places). p .first) (pairs-pass (orthogonal n) 1 R (λ F G m k. orthogonal-test n F G .1 (h F G m k))),
-)
-  where
-    two : (F G : Column) → F ∈ R → G ∈ R → (F ≡ G) ⊎ ((orthogonal n F G ≡ true) ⊎ (orthogonal n G F ≡ true)) → Orthogonal n F G
-    two F G m k (inl q) = rw q (orthogonal-self n G (on G k))
-    two F G m k (inr (inl q)) = orthogonal-test n F G .0 q
-    two F G m k (inr (inr q)) = orthogonal-sym n G F (on G k) (on F m) (orthogonal-test n G F .0 q)
 
 module _ (p : Column → Column → Bool) (S : Family) where
   pair-found : (i j : ℕ) (rest : Places) → pairAt (suc i) j rest .first ≡ 0 → (j ≡ 0) × (rest .first ≡ 0)

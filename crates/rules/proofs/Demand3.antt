@@ -10,7 +10,7 @@ use native.Mathlib.Omega.{arith}
 use lib.ListN.{length, getD, take, drop, length-drop}
 use lib.Seq.{length-take-le, getD-take, getD-drop}
 use borrow.Author.Tests.{ne-eqb, le-leb}
-use Rattle.rules.specs.Factor.{Column, Equivalent, number, infimum, supremum, universal, equality, uniform, Orthogonal, orthogonal}
+use Rattle.rules.specs.Factor.{Column, Equivalent, number, infimum, supremum, universal, equality, uniform, orthogonal}
 use Rattle.rules.specs.Family.{Family, _∈_, before, Ascending, empty, cons, AtMost, Lists, columnsFrom}
 use Rattle.rules.specs.Closing.{InPlotFamily, by-column, by-universal, by-equality, by-infimum, by-supremum, both, plotGenerators, Closing, family, plotFamily}
 use Rattle.rules.specs.Design.{firstFailing, firstPair, none, question8, nonzero, allNonzero, withinLimits, question7, plotDesign, returned}
@@ -19,14 +19,14 @@ use Rattle.rules.proofs.Numbering.{length-number, number-number, number
 use Rattle.rules.proofs.Supremum.{length-supremum, number-supremum, equivalent-sym, equivalent-trans, equivalent-refl, number-equivalent, supremum-equivalent, infimum-equivalent}
 use Rattle.rules.proofs.Members.{clash, before-self}
 use Rattle.rules.proofs.Closing.{Smallest, Closed, listed, too-many, close-right}
-use Rattle.rules.proofs.Tests.{uniform-test, orthogonal-test, uniform-equivalent, orthogonal-equivalent, orthogonal-sym, orthogonal-self}
+use Rattle.rules.proofs.Tests.{uniform-test, orthogonal-test, uniform-equivalent, orthogonal-equivalent}
 use Rattle.rules.proofs.Buffer.{written-members}
 use Rattle.rules.proofs.Extremes.{length-universal, number-universal, length-equality, number-equality}
 use Rattle.rules.proofs.Families.{made-in-family, in-family-made}
 use Rattle.rules.proofs.WellFormed.{Accepted}
 use Rattle.rules.proofs.DegreesLaws.{lists-accepted}
 use Rattle.rules.proofs.Structures.{structure-degrees, structure-total}
-use Rattle.rules.proofs.Verdict.{failing-none, failing-pass, pairs-none, pairs-pass, pairwise-cases, verdict-members, verdict-accepts, verdict-passes, verdict-number}
+use Rattle.rules.proofs.Verdict.{failing-none, failing-pass, pairs-pass, pairs-orthogonal, verdict-members, verdict-accepts, verdict-passes, verdict-number}
 
 -- ---- the members of the plot family
 
@@ -104,16 +104,11 @@ module _ (n : ℕ) (Fs : List Column) where
         hasInfima = λ F G m k. itself (infimum F G) (by-infimum (in-R F m) (in-R G k));
         hasSuprema = λ F G m k. itself (supremum F G) (by-supremum (in-R F m) (in-R G k));
         uniform = λ F m. uniform-test n F .0 (failing-none (uniform n) 0 R (passed .0) F m);
-        orthogonal = λ F G m k. two F G m k (pairwise-cases (orthogonal n) (pairs-none (orthogonal n) 0 R (passed .1)) F G m k);
+        orthogonal = pairs-orthogonal n R (λ F m. member-length F (in-R F m)) .0 (passed .1);
       }
         where
           passed : (firstFailing (uniform n) 1 R ≡ 0) × (firstPair (orthogonal n) 1 R .first ≡ 0)
           passed = verdict-accepts n R e
-
-          two : (F G : Column) → F ∈ R → G ∈ R → (F ≡ G) ⊎ ((orthogonal n F G ≡ true) ⊎ (orthogonal n G F ≡ true)) → Orthogonal n F G
-          two F G m k (inl q) = rw q (orthogonal-self n G (member-length G (in-R G k)))
-          two F G m k (inr (inl q)) = orthogonal-test n F G .0 q
-          two F G m k (inr (inr q)) = orthogonal-sym n G F (member-length G (in-R G k)) (member-length F (in-R F m)) (orthogonal-test n G F .0 q)
 
       listed-R : Lists (InPlotFamily n Fs) R
       listed-R = record { ascending = s .ascending; few = s .few; only = in-R; all = to-R }

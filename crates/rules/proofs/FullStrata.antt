@@ -19,7 +19,7 @@ use Rattle.rules.specs.Demand2.{AllHold, fullConditions, Within, Demand2
 use Rattle.rules.proofs.Supremum.{number-supremum}
 use Rattle.rules.proofs.Bounds.{supremum-comm}
 use Rattle.rules.proofs.WellFormed.{Accepted}
-use Rattle.rules.proofs.Treatments.{each-second, each-length, each-with-first, each-closed}
+use Rattle.rules.proofs.Treatments.{each-treatment, each-length, each-with-plot, each-closed}
 use Rattle.rules.proofs.DegreesLaws.{length-degrees, lists-accepted}
 use Rattle.rules.proofs.Demand3.{member-length, member-numbered, column-length}
 use Rattle.rules.proofs.WellMade.{first-length, first-numbered}
@@ -61,7 +61,7 @@ module _ (n : ℕ) (P S : Column → Type 0) (o : Passed n P S) (L : ℕ) (weigh
   in-final F G f g = record { plot = F; treatment = G; in-plot = f; in-treatment = g; is = refl }
 
   first-in-final : (G : Column) → S G → R G
-  first-in-final = each-second n P S (o .onP) (o .onS) (o .hasE) (o .numberedS)
+  first-in-final = each-treatment n P S (o .onP) (o .onS) (o .hasE) (o .numberedS)
 
   weighsS : (G : Column) → S G → Weighs n L weight G
   weighsS G g = weighsR G (first-in-final G g)
@@ -135,7 +135,7 @@ module _ (n : ℕ) (P S : Column → Type 0) (o : Passed n P S) (L : ℕ) (weigh
   passed-splits A B a b {G} g = record {
     plots = listed-splits a (lists-accepted a (o .numberedP) (o .hasE)) (o .onP) weighsP (o .closedP) plot-plot;
     treatments = listed-splits b (lists-accepted b numberedR (first-in-final G g)) onR weighsR closedR final-final;
-    stays = λ F T f t. b .all (supremum F T) (each-with-first n P S (o .onP) (o .onS) (o .closedP) F T (a .only F f) (b .only T t));
+    stays = λ F T f t. b .all (supremum F T) (each-with-plot n P S (o .onP) (o .onS) (o .closedP) F T (a .only F f) (b .only T t));
     multiplies = λ F T f t. plot-final F T (a .only F f) (b .only T t);
   }
 
@@ -253,6 +253,9 @@ module _ (n c d k : ℕ) (levels plots treatments : List ℕ) (e : fullDesign n 
   residuals-answered-is = design-strata n (limits .plots-least) (limits .plots-most) b tells e plots treatments (limits .plot-family) (limits .treatment-family)
 
   -- so none of the numbers answered is below 0
+  pub plot-answered : NoneBelow0 (degreesOfFreedom n (plotBuffer plots b) (plotSize b) .degrees)
+  plot-answered i = rw plot-answered-is (places-nonneg (degrees n (b .plot)) (trusted .plot-strata .no-stratum) i)
+
   pub treatment-answered : NoneBelow0 (degreesOfFreedom n (treatmentBuffer treatments b) (treatmentSize b) .degrees)
   treatment-answered i = rw treatment-answered-is (places-nonneg (degrees n (b .treatment)) (trusted .no-treatment) i)
 

@@ -14,7 +14,7 @@ use Rattle.rules.proofs.Numbering.{eqb-self}
 use Rattle.rules.proofs.Classes.{finer-test}
 use Rattle.rules.proofs.Bounds.{finer-trans, supremum-left, supremum-right, supremum-least, supremum-comm, supremum-assoc}
 use Rattle.rules.proofs.WellFormed.{Accepted, member-at}
-use Rattle.rules.proofs.DegreesLaws.{Place, place-of}
+use Rattle.rules.proofs.WorkList.{PlaceOf, place-of}
 use Rattle.rules.proofs.Ring.{sum-same, sum-one, where-true, true-true, true-swap, sum-times-true, times-cancel, nonneg-divide}
 use Rattle.rules.proofs.Shares.{upward, remainders-sum, shares-unique}
 use Rattle.rules.proofs.Matrices.{Matrix, product, SameOn, Symmetric, scaled, gathered, product-same, product-turn, product-assoc, product-scaled-left, product-scaled-right, product-gathered-left, product-gathered-right, Projects, Form}
@@ -123,7 +123,7 @@ module _ (n L : ℕ) (weight : Column → ℕ → ℕ) (S : Family) (o : Splits 
             ∙ sym (sum-times-true (length S) (pos L) (λ x. finer n (M (k .place)) (M x)) (λ x. part n weight S x u v))
             ∙ sum-same (length S) _ _ (λ x hx. ap (λ (b : Bool). where-true b (pos L *ℤ part n weight S x u v)) (joint x) ∙ sym (true-true (finer n (M i) (M x)) (finer n G (M x)) (pos L *ℤ part n weight S x u v)))
           where
-            k : Place S (supremum G (M i))
+            k : PlaceOf S (supremum G (M i))
             k = place-of S (supremum G (M i)) (stays (M i) (member-at S i hi))
 
             and-swap : (a b : Bool) → a && b ≡ b && a

@@ -22,7 +22,8 @@ use Rattle.rules.proofs.Classes.{finer-test}
 use Rattle.rules.proofs.ClassCount.{equality-finer, classes-equality}
 use Rattle.rules.proofs.StrictOrder.{coarser-irreflexive, finer-places, coarser-below}
 use Rattle.rules.proofs.Degrees.{sum-yes, sum-no, remainders-equation}
-use Rattle.rules.proofs.DegreesLaws.{Place, place-of, length-after}
+use Rattle.rules.proofs.DegreesLaws.{length-after}
+use Rattle.rules.proofs.WorkList.{PlaceOf, place-of}
 use Rattle.rules.proofs.Ring.{sumTo, sum-same, sum-add, sum-one, sum-front, where-true, true-same, cancel, zero-nonneg}
 
 -- the numbers of the strictly coarser members, added up place by place
@@ -111,7 +112,7 @@ module _ (n : ℕ) (S : Family) (is : Accepted S) (on : (F : Column) → F ∈ S
       ∙ sum-same (length S) _ _ (λ x hx. sym (ap (λ (b : Bool). where-true b (getD (remainders own n S) x (pos 0))) (all x)))
       ∙ sym (remainders-sum own (e .place) (e .less)) ∙ ap own (e .is)
     where
-      e : Place S (equality n)
+      e : PlaceOf S (equality n)
       e = place-of S (equality n) m
 
       all : (x : ℕ) → finer n (memberAt S (e .place)) (memberAt S x) ≡ true

@@ -14,8 +14,8 @@ use Rattle.rules.proofs.Supremum.{number-supremum}
 use Rattle.rules.proofs.Extremes.{number-equality, length-equality}
 use Rattle.rules.proofs.Bounds.{numbered-equal, length-supremum′}
 use Rattle.rules.proofs.Orthogonality.{classes-size}
-use Rattle.rules.proofs.WellFormed.{Accepted, numbered-at}
-use Rattle.rules.proofs.DegreesLaws.{Place, place-of, length-degrees}
+use Rattle.rules.proofs.WellFormed.{Accepted}
+use Rattle.rules.proofs.DegreesLaws.{length-degrees, accepted-numbered}
 use Rattle.rules.proofs.Shares.{nonneg-everywhere, degrees-total}
 use Rattle.rules.proofs.Matrices.{trace, trace-form}
 use Rattle.rules.proofs.Averages.{average, Weighs, average-multiply, average-trace}
@@ -41,14 +41,10 @@ orthogonal-multiply n L weight F G lF lG hF hG hK o = record { multiply = averag
 -- ---- orthogonal block structures that question 15 accepts
 
 module _ (n : ℕ) (S : Family) (is : Accepted S) (o : OrthogonalBlockStructure n S) where
-  -- each member is numbered by first appearance
-  pub numbered : (F : Column) → F ∈ S → number F ≡ F
-  numbered F m = let p : Place S F = place-of S F m in subst (λ (G : Column). number G ≡ G) (p .is) (numbered-at S (is .numbered) (p .place) (p .less))
-
   -- a numbered factor that is equivalent to a member is that member
   itself : (F : Column) → length F ≡ n → number F ≡ F → Contains n S F → F ∈ S
   itself F l e c =
-      subst (λ (G : Column). G ∈ S) (sym (numbered (c .member) (c .isMember)) ∙ numbered-equal n (c .member) F (o .onPlots (c .member) (c .isMember)) l (c .equivalent) ∙ e) (c .isMember)
+      subst (λ (G : Column). G ∈ S) (sym (accepted-numbered S is (c .member) (c .isMember)) ∙ numbered-equal n (c .member) F (o .onPlots (c .member) (c .isMember)) l (c .equivalent) ∙ e) (c .isMember)
 
   -- it has the supremum of every two members
   pub structure-supremum : (F G : Column) → F ∈ S → G ∈ S → supremum F G ∈ S

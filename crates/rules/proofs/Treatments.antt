@@ -25,12 +25,12 @@ use Rattle.rules.proofs.Families.{final-only, final-all, final-ascendin
 use Rattle.rules.proofs.Tests.{or-not}
 use Rattle.rules.proofs.Verdict.{failing-none}
 
--- ---- the suprema of one of P and one of S
+-- ---- the suprema of a plot member, one of P, and a treatment member, one of S
 
 module _ (n : ℕ) (P S : Column → Type 0) (onP : (F : Column) → P F → length F ≡ n) (onS : (F : Column) → S F → length F ≡ n) where
-  -- all of S are among them, where P has E
-  pub each-second : P (equality n) → ((F : Column) → S F → number F ≡ F) → (G : Column) → S G → SupremumOfEach P S G
-  each-second e numbered G m = record {
+  -- the treatment members are among them, where E is a plot member
+  pub each-treatment : P (equality n) → ((F : Column) → S F → number F ≡ F) → (G : Column) → S G → SupremumOfEach P S G
+  each-treatment e numbered G m = record {
     plot = equality n;
     treatment = G;
     in-plot = e;
@@ -43,9 +43,9 @@ module _ (n : ℕ) (P S : Column → Type 0) (onP : (F : Column) → P F → len
   each-length H p = ap length (p .is) ∙ length-supremum′ n (p .plot) (p .treatment) (onP (p .plot) (p .in-plot)) (onS (p .treatment) (p .in-treatment))
 
   module _ (closedP : (F G : Column) → P F → P G → P (supremum F G)) where
-    -- they are closed under supremum with those of P
-    pub each-with-first : (F H : Column) → P F → SupremumOfEach P S H → SupremumOfEach P S (supremum F H)
-    each-with-first F H m p = record {
+    -- they are closed under supremum with plot members
+    pub each-with-plot : (F H : Column) → P F → SupremumOfEach P S H → SupremumOfEach P S (supremum F H)
+    each-with-plot F H m p = record {
       plot = supremum F (p .plot);
       treatment = p .treatment;
       in-plot = closedP F (p .plot) m (p .in-plot);
@@ -55,7 +55,7 @@ module _ (n : ℕ) (P S : Column → Type 0) (onP : (F : Column) → P F → len
 
     -- they are closed under supremum
     pub each-closed : ((F G : Column) → S F → S G → S (supremum F G)) → (G H : Column) → SupremumOfEach P S G → SupremumOfEach P S H → SupremumOfEach P S (supremum G H)
-    each-closed closedS G H p q = subst (SupremumOfEach P S) (sym turned) (each-with-first (p .plot) (supremum (p .treatment) H) (p .in-plot) inner)
+    each-closed closedS G H p q = subst (SupremumOfEach P S) (sym turned) (each-with-plot (p .plot) (supremum (p .treatment) H) (p .in-plot) inner)
       where
         lp : length (p .plot) ≡ n
         lp = onP (p .plot) (p .in-plot)
@@ -92,7 +92,7 @@ module _ (n : ℕ) (P S : Column → Type 0) (onP : (F : Column) → P F → len
 module _ (n : ℕ) (P S : Family) (onP : (F : Column) → F ∈ P → length F ≡ n) (onS : (F : Column) → F ∈ S → length F ≡ n) where
   -- it contains the first treatment family, where the plot family has E
   pub final-contains : equality n ∈ P → ((F : Column) → F ∈ S → number F ≡ F) → (G : Column) → G ∈ S → G ∈ finalTreatmentFamily P S
-  final-contains e numbered G m = final-all P S G (each-second n (λ F. F ∈ P) (λ F. F ∈ S) onP onS e numbered G m)
+  final-contains e numbered G m = final-all P S G (each-treatment n (λ F. F ∈ P) (λ F. F ∈ S) onP onS e numbered G m)
 
   -- its members are on the n plots
   pub final-length : (H : Column) → H ∈ finalTreatmentFamily P S → length H ≡ n

@@ -1,16 +1,18 @@
 -- Laws of questions 8 to 10 of a plot family: what the first failing places tell.
 -- Assumes nothing.
 use mathlib.Core.Path.{_≡_, refl, sym, ap, _∙_}
-use mathlib.Core.Logic.{_⊎_, inl, inr}
+use mathlib.Core.Logic.{_↔_, _⊎_, inl, inr}
 use mathlib.Core.Bool.{Bool, true, false}
 use mathlib.Core.List.{[], _∷_, List·Memᴰ·head, List·Memᴰ·tail, List·Memᴰ·cases-cons, List·Memᴰ·not-nil}
 use Prim.Native.Nat.{ℕ, zero, suc}
 use native.Mathlib.Nat.{suc-ne-zero}
-use Rattle.rules.specs.Factor.{Column, uniform, orthogonal}
+use lib.ListN.{length}
+use Rattle.rules.specs.Factor.{Column, Orthogonal, uniform, orthogonal}
 use Rattle.rules.specs.Family.{Family, _∈_}
 use Rattle.rules.specs.Design.{firstFailing, firstPair, pairAt, Places, none, question10, question9, question8}
 use Rattle.rules.specs.Closing.{family}
 use Rattle.rules.proofs.Numbering.{by-cases}
+use Rattle.rules.proofs.Tests.{orthogonal-test, orthogonal-sym, orthogonal-self}
 
 module _ (p : Column → Bool) where
   failing-yes : (i : ℕ) (F : Column) (S : Family) → p F ≡ true → firstFailing p i (F ∷ S) ≡ firstFailing p (suc i) S
@@ -119,3 +121,17 @@ verdict-number n S = nine (firstFailing (uniform n) 1 S)
     nine : (i : ℕ) → (question9 n S i .refusal ≡ 0) ⊎ ((question9 n S i .refusal ≡ 9) ⊎ (question9 n S i .refusal ≡ 10))
     nine zero = ten (firstPair (orthogonal n) 1 S) _ refl
     nine (suc i) = inr (inl refl)
+
+-- ---- orthogonality
+
+-- every two members of a family on n plots are orthogonal exactly where no pair fails
+pub pairs-orthogonal : (n : ℕ) (R : Family) → ((F : Column) → F ∈ R → length F ≡ n) → firstPair (orthogonal n) 1 R .first ≡ 0 ↔ ((F G : Column) → F ∈ R → G ∈ R → Orthogonal n F G)
+pairs-orthogonal n R on = (
+  λ e F G m k. two F G m k (pairwise-cases (orthogonal n) (pairs-none (orthogonal n) 0 R e) F G m k),
+  λ h. ap (λ (p : Places). p .first) (pairs-pass (orthogonal n) 1 R (λ F G m k. orthogonal-test n F G .1 (h F G m k))),
+)
+  where
+    two : (F G : Column) → F ∈ R → G ∈ R → (F ≡ G) ⊎ ((orthogonal n F G ≡ true) ⊎ (orthogonal n G F ≡ true)) → Orthogonal n F G
+    two F G m k (inl q) = rw q (orthogonal-self n G (on G k))
+    two F G m k (inr (inl q)) = orthogonal-test n F G .0 q
+    two F G m k (inr (inr q)) = orthogonal-sym n G F (on G k) (on F m) (orthogonal-test n G F .0 q)

@@ -83,6 +83,14 @@ pairsOfEight = 1 ∷ 1 ∷ 2 ∷ 2 ∷ 3 ∷ 3 ∷ 4 ∷ 4 ∷ []
 abbrev alternate : Column
 alternate = 1 ∷ 2 ∷ 1 ∷ 2 ∷ 1 ∷ 2 ∷ 1 ∷ 2 ∷ []
 
+-- U, pairs, E; and all infima of one or two of three crossed columns: each column and infimum has supremum U with the pairs and is not orthogonal to them
+abbrev pairsAcross : Family
+pairsAcross = (1 ∷ 1 ∷ 1 ∷ 1 ∷ 1 ∷ 1 ∷ 1 ∷ 1 ∷ []) ∷ (1 ∷ 2 ∷ 3 ∷ 1 ∷ 2 ∷ 4 ∷ 4 ∷ 3 ∷ []) ∷ (1 ∷ 2 ∷ 3 ∷ 4 ∷ 5 ∷ 6 ∷ 7 ∷ 8 ∷ []) ∷ []
+
+abbrev threeCrossed : Family
+threeCrossed =
+    (1 ∷ 1 ∷ 1 ∷ 1 ∷ 1 ∷ 1 ∷ 1 ∷ 1 ∷ []) ∷ fours ∷ twos ∷ alternate ∷ pairsOfEight ∷ (1 ∷ 2 ∷ 1 ∷ 2 ∷ 3 ∷ 4 ∷ 3 ∷ 4 ∷ []) ∷ (1 ∷ 2 ∷ 3 ∷ 4 ∷ 1 ∷ 2 ∷ 3 ∷ 4 ∷ []) ∷ []
+
 abbrev oneOfEight : Column
 oneOfEight = 1 ∷ 1 ∷ 1 ∷ 1 ∷ 1 ∷ 1 ∷ 1 ∷ 1 ∷ []
 
@@ -242,6 +250,8 @@ furtherTrials =
     ∷ subtracts 4 square 0 (record { refusal = 15; degrees = filledSigned [] })
     -- strata: beside U and E both treatment columns are in E; beside U alone a column has none
     ∷ allots 4 (one ∷ each ∷ []) (one ∷ halves ∷ turns ∷ []) (record { refusal = 0; places = filled (1 ∷ 2 ∷ 2 ∷ []); residuals = filledSigned (pos 0 ∷ pos 1 ∷ []) })
+    -- treatment members that are not orthogonal to the plot members: six with 1 each in E, which has 8 less 1 and 3
+    ∷ allots 8 pairsAcross threeCrossed (record { refusal = 0; places = filled (1 ∷ 3 ∷ 3 ∷ 3 ∷ 3 ∷ 3 ∷ 3 ∷ []); residuals = filledSigned (pos 0 ∷ pos 3 ∷ negsuc 1 ∷ []) })
     ∷ allots 0 square square (record { refusal = 6; places = filled []; residuals = filledSigned [] })
     ∷ allots 4 square (halves ∷ one ∷ []) (record { refusal = 15; places = filled []; residuals = filledSigned [] })
     ∷ allots 4 (halves ∷ one ∷ []) square (record { refusal = 15; places = filled []; residuals = filledSigned [] })

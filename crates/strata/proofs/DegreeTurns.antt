@@ -19,7 +19,8 @@ use Rattle.rules.proofs.Numbering.{by-cases}
 use Rattle.rules.proofs.Buffer.{member-is}
 use Rattle.rules.proofs.ClassCount.{classes-most}
 use Rattle.rules.proofs.Degrees.{degrees-equation}
-use Rattle.rules.proofs.DegreesLaws.{Place, place-of, length-degrees, degrees-bound}
+use Rattle.rules.proofs.DegreesLaws.{length-degrees, degrees-bound}
+use Rattle.rules.proofs.WorkList.{PlaceOf, place-of}
 use Rattle.rules.proofs.Places.{at-places}
 use Rattle.rules.proofs.StrictOrder.{later-not-coarser}
 use Rattle.families.specs.Lent.{columnAt}
@@ -34,7 +35,7 @@ module _ {n : ℕ} {b : List ℕ} {size : ℕ} (is : Formed n b size) where
   pub on-members : (F : Column) → F ∈ membersOf n b size → length F ≡ n
   on-members F m = go (place-of (membersOf n b size) F m)
     where
-      go : Place (membersOf n b size) F → length F ≡ n
+      go : PlaceOf (membersOf n b size) F → length F ≡ n
       go p = sym (ap length (p .is)) ∙ on-plots is (p .place) (p .less)
 
   -- all degrees of freedom are small
