@@ -3,23 +3,18 @@
 use mathlib.Core.Path.{_≡_, refl, sym, ap, _∙_, subst}
 use mathlib.Core.Logic.{_⊎_, inl, inr}
 use mathlib.Core.List.{List, [], _∷_, _++_, map, map-append, List·Memᴰ·head, List·Memᴰ·not-nil, List·Memᴰ·append-cases, List·Memᴰ·eq-of-singleton, Memᴰ·cast, Memᴰ·append-left, Memᴰ·append-right}
-use Prim.Native.Nat.{ℕ, zero, suc, _+_, _*_, _-_, _≤_, _<_}
+use Prim.Native.Nat.{ℕ, zero, suc, _+_, _-_, _≤_, _<_}
 use native.Mathlib.Nat.{not-suc-le-zero, le-of-suc-le-suc, add-zero, zero-add}
 use native.Mathlib.Numerals.{add-one}
 use native.Mathlib.Omega.{arith}
-use lib.ListN.{length, take, drop, replicate, length-append, length-map}
-use lib.Seq.{take-all, take-at}
-use Rattle.rules.specs.Factor.{Column, number, classes, universal, upFrom, equality}
+use lib.ListN.{length, take, replicate, length-append, length-map}
+use Rattle.rules.specs.Factor.{Column, number, universal, upFrom, equality}
 use Rattle.rules.specs.Family.{Family, _∈_, Distinct, none-left, columnsFrom, membersOf}
 use Rattle.rules.specs.Closing.{plotGenerators}
 use Rattle.rules.proofs.WorkList.{member-in, distinct-more}
 use Rattle.rules.proofs.Buffer.{length-columns, columns-snoc, length-members}
-use Rattle.rules.proofs.Numbering.{length-number}
-use Rattle.rules.proofs.ClassCount.{classes-number, classes-most}
-use Rattle.factor.specs.Lent.{plotsOf, overlay}
 use Rattle.design.specs.State.{columnAt, Held, PlacedMember, full, old, new, grownTo, Begun}
 use Rattle.design.proofs.Placing.{grown-new, grown-old}
-use Rattle.factor.proofs.Lent.{part-of, length-part}
 
 -- ---- E
 
@@ -170,43 +165,6 @@ take-ones n h = go n 240 h
     go zero m h = refl
     go (suc n) zero h = absurd (not-suc-le-zero h)
     go (suc n) (suc m) h = ap (λ (l : Column). 1 ∷ l) (go n m (le-of-suc-le-suc h))
-
--- ---- a column of the level table, numbered into an array
-
-module _ (n c : ℕ) (levels : List ℕ) (small : n ≤ 240) (fits : 240 * c + 240 ≤ length levels) where
-  abbrev pub lentColumn : Column
-  lentColumn = take (240 * c + n - 240 * c) (drop (240 * c) levels)
-
-  abbrev G : Column
-  G = columnAt n levels c
-
-  length-column : length G ≡ n
-  length-column = length-part n c levels (omega arith)
-
-  lent-plots : plotsOf lentColumn ≡ G
-  lent-plots = ap plotsOf (part-of n c levels) ∙ take-all 240 G (rw length-column small)
-
-  -- it is on n plots
-  pub length-numbered : length (number G) ≡ n
-  length-numbered = length-number G ∙ length-column
-
-  -- its number of classes, and that this is small
-  pub classes-numbered : (k : ℕ) → k ≡ classes (plotsOf lentColumn) → (k ≡ classes (number G)) × (k ≤ 240)
-  classes-numbered k e =
-      let q : k ≡ classes G = e ∙ ap classes lent-plots in
-      (q ∙ sym (classes-number G), omega (arith, classes-most G, length-column))
-
-  module _ (out after : List ℕ) (e : after ≡ overlay out (number (plotsOf lentColumn))) where
-    written : after ≡ overlay out (number G)
-    written = e ∙ ap (λ (X : Column). overlay out (number X)) lent-plots
-
-    -- the array starts with its numbers
-    pub take-numbered : take n after ≡ number G
-    take-numbered = ap (λ (l : List ℕ). take n l) written ∙ take-at (number G) _ n length-numbered
-
-    -- the array is long enough
-    pub long-numbered : n ≤ length after
-    long-numbered = rw (written, length-append) (omega (arith, length-numbered))
 
 -- ---- U, E and the plot columns
 

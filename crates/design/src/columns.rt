@@ -51,10 +51,8 @@ fn place_column(
     ensures kept { λ r. ⌜ Held n (now (store .exit)) (now (counts .exit)) r × (r ≤ size + 1) ⌝ }
     ensures begun { λ r. ⌜ ((As : List Column) → Begun n As (now (store .entry)) (now (counts .entry)) size → Begun n (As ++ number (columnAt n (now (levels .entry)) c) ∷ []) (now (store .exit)) (now (counts .exit)) r) ⌝ }
 {
-    let at = PLOTS * c;
-    let end = at + n;
     let mut column = [0u8; PLOTS];
-    let k = numbering::number_levels(&levels[at..end], &mut column);
+    let k = levels::column_numbers(levels, c, n, &mut column);
     let p = place(store, counts, size, &column[..n], k as u8);
     grown(size, p)
 }

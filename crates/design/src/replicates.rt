@@ -35,10 +35,8 @@ const SOME_COLUMNS: usize = 4;
 fn column_classes(levels: &[Level], c: usize, n: usize) -> u8
     requires { ⌜ (n ≤ mostPlots) × (mostPlots * c + mostPlots ≤ length (now levels)) ⌝ }
 {
-    let a = PLOTS * c;
-    let e = a + n;
     let mut column = [0u8; PLOTS];
-    numbering::number_levels(&levels[a..e], &mut column) as u8
+    levels::column_numbers(levels, c, n, &mut column) as u8
 }
 
 // Whether four treatment columns or more have few combinations of classes, half as many as there are plots, at most: then there are few
@@ -68,10 +66,8 @@ fn meet_level(levels: &[Level], c: usize, n: usize, points: &mut [u8; PLOTS]) ->
     ensures answer { λ r. ⌜ r ≡ classes (infimum (columnAt n (now (levels .entry)) c) (take n (now (points .entry)))) ⌝ }
     ensures met { λ _. ⌜ take n (now (points .exit)) ≡ infimum (columnAt n (now (levels .entry)) c) (take n (now (points .entry))) ⌝ }
 {
-    let a = PLOTS * c;
-    let e = a + n;
     let mut column = [0u8; PLOTS];
-    numbering::number_levels(&levels[a..e], &mut column);
+    levels::column_numbers(levels, c, n, &mut column);
     let mut next = [0u8; PLOTS];
     let m = standing::infimum(&column[..n], points, &mut next);
     *points = next;

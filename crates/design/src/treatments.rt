@@ -106,10 +106,8 @@ fn extend_by(
     ensures kept { λ r. ⌜ Room n (now (lengths .exit)) × (r ≤ 2 * total) ⌝ }
     ensures extends { λ r. ⌜ ((Cs : List (List Column)) → Infima n (now (infima .entry)) (now (lengths .entry)) total Cs → Infima n (now (infima .exit)) (now (lengths .exit)) r (extended k (columnAt n (now (levels .entry)) c) Cs)) ⌝ }
 {
-    let at = PLOTS * c;
-    let end = at + n;
     let mut column = [0u8; PLOTS];
-    numbering::number_levels(&levels[at..end], &mut column);
+    levels::column_numbers(levels, c, n, &mut column);
     extend(infima, lengths, total, &column[..n], k)
 }
 

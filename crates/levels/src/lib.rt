@@ -1,8 +1,9 @@
-// The level table in lent memory: its columns, and question 7.
+// The level table in lent memory: its columns, these numbered, and question 7.
 ghost use mathlib.Core.Path.{_≡_};
+ghost use Rattle.rules.specs.Factor.{number, classes};
 ghost use Rattle.rules.specs.Family.{columnsFrom};
 ghost use Rattle.rules.specs.Design.{nonzero, allNonzero};
-ghost use Rattle.factor.specs.Lent.{columnAt};
+ghost use Rattle.factor.specs.Lent.{columnAt, plotsOf, overlay};
 use limits::Level;
 use limits::PLOTS;
 
@@ -19,6 +20,14 @@ pub fn column(levels: &[Level], c: usize, n: usize) -> &[Level]
     }
     let end = start + n;
     &levels[start..end]
+}
+
+// Numbers column `c`, from 0, of a level table on `n` plots by first appearance; answers how many classes it has.
+pub fn column_numbers(levels: &[Level], c: usize, n: usize, out: &mut [u8; PLOTS]) -> usize
+    ensures answer { λ r. ⌜ r ≡ classes (plotsOf (columnAt n (now (levels .entry)) c)) ⌝ }
+    ensures numbers { λ _. ⌜ now (out .exit) ≡ overlay (now (out .entry)) (number (plotsOf (columnAt n (now (levels .entry)) c))) ⌝ }
+{
+    numbering::number_levels(column(levels, c, n), n, out)
 }
 
 // Whether no level of a column is 0.

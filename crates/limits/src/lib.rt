@@ -21,9 +21,7 @@ pub const TEXT: usize = 32768;
 pub const FIELDS: usize = 12;
 // a level of a sheet: only a label
 pub type Level = u16;
-// the highest level, and as a number that is read digit by digit
-pub const HIGHEST: Level = 65535;
-
+// the highest level, as a number that is read digit by digit
 pub const LEVEL: u32 = 65535;
 
 // a code for two labels of a byte each, which is numbered like a level

@@ -8,8 +8,8 @@ use native.Mathlib.Nat.{add-zero, zero-add, not-suc-le-zero, le-of-suc-le-suc, l
 use native.Mathlib.Numerals.{add-one}
 use native.Mathlib.Omega.{arith}
 use lib.Dec.{ltb}
-use lib.ListN.{length, getD, take, drop, replicate, drop-of-length-le, length-drop}
-use lib.Seq.{drop-cons, take-all, take-at, take-length, length-take-le}
+use lib.ListN.{length, getD, take, drop, replicate, drop-of-length-le}
+use lib.Seq.{drop-cons, take-all, take-length}
 use Rattle.rules.specs.Factor.{Column, every, finer, number, infimum, universal}
 use Rattle.rules.specs.Family.{alike, columnsFrom, membersOf, allNumbered}
 use Rattle.rules.specs.Names.{equivalentColumn, infimumAbove, columnAbove, hides, listed}
@@ -20,7 +20,7 @@ use Rattle.rules.proofs.Buffer.{put, members-add, columns-snoc, length-columns,
 use Rattle.rules.proofs.Members.{alike-self, clash}
 use Rattle.rules.proofs.Numbering.{by-cases, length-number, number-number}
 use Rattle.rules.proofs.Tests.{every-at}
-use Rattle.factor.specs.Lent.{columnAt, common, onCommon, overlay, plotsOf}
+use Rattle.factor.specs.Lent.{columnAt, common, onCommon, overlay}
 use Rattle.factor.proofs.Lent.{length-part, take-overlay}
 use Rattle.decimal.proofs.Writing.{written-all}
 use Rattle.decimal.specs.Writing.{fits, written}
@@ -28,13 +28,6 @@ use Rattle.naming.specs.Columns.{outdone, listedBy, infimumBy, numberedF
 use Rattle.naming.proofs.Numbered.{On, passing-same}
 
 -- ---- lent parts and output arrays
-
--- the numbers of a column of the level table
-pub numbered-part : (n i : ℕ) (out l : List ℕ) → n ≤ 240 → 240 * i + n ≤ length l → (X : Column) → X ≡ columnAt n l i → take n (overlay out (number (plotsOf X))) ≡ number (columnAt n l i)
-numbered-part n i out l s h X is =
-    let C = columnAt n l i in
-    let len = length-part n i l h in
-    ap (λ (F : Column). take n (overlay out (number F))) (ap (take 240) is ∙ take-all 240 C (omega arith)) ∙ take-overlay out (number C) n (length-number C ∙ len)
 
 -- the infimum of a column on n plots and the first n numbers of an array
 module _ (n : ℕ) (out : List ℕ) (F M : Column) (s : n ≤ 240) (lF : length F ≡ n) (lM : length M ≡ 240) (l : length (infimum F (take n M)) ≡ n) where

@@ -29,7 +29,7 @@ pub fn number_columns(levels: &[Level], n: usize, first: usize, count: usize, ou
 {
     for c in 0..count {
         let mut column = [0u8; PLOTS];
-        numbering::number_levels(levels::column(levels, first + c, n), &mut column);
+        levels::column_numbers(levels, first + c, n, &mut column);
         decimal::write_bytes(&column[..n], out, PLOTS * c);
     }
 }

@@ -1,3 +1,2 @@
-mod Lowered
 mod Chain
 mod Written

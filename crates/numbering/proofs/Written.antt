@@ -1,20 +1,30 @@
--- The numbers of a column, written at the start of an array.
+-- The numbers of the first plots of a column, written at the start of an array.
 -- Assumes nothing.
 use mathlib.Core.Path.{_≡_, sym, ap, _∙_}
 use mathlib.Core.List.{List}
 use Prim.Native.Nat.{ℕ, min}
 use native.Mathlib.Omega.{arith}
-use lib.ListN.{length, take}
-use lib.Seq.{length-take-le}
+use lib.ListN.{length, take, length-take}
+use lib.Seq.{take-take, length-take-le}
 use Rattle.rules.specs.Factor.{Column, number}
 use Rattle.rules.proofs.Numbering.{length-number, number-take}
 use Rattle.factor.specs.Lent.{plotsOf, overlay}
 use Rattle.factor.proofs.Fill.{filled, take-min}
 
--- the numbers of all plots of a column are written
-pub filled-number : (b : List ℕ) (F : Column) → filled b (number F) (min 240 (length F)) ≡ overlay b (number (plotsOf F))
-filled-number b F =
-    let n = min 240 (length F) in
-    let e : number (take 240 F) ≡ take n (number F) = ap number (sym (take-min 240 F)) ∙ number-take n F in
-    let l : length (take n (number F)) ≡ n = length-take-le n (number F) (rw length-number (omega arith)) in
-    sym (rw (e, l))
+module _ (F : Column) (stop : ℕ) where
+  -- how many plots are walked
+  abbrev pub walked : ℕ
+  walked = min 240 (min (length F) stop)
+
+  -- they are the first `stop` of at most 240
+  pub walked-plots : take walked F ≡ take stop (plotsOf F)
+  walked-plots =
+      let e : min stop (length (take 240 F)) ≡ walked = rw length-take (omega arith) in
+      sym (take-take walked 240 F (omega arith)) ∙ sym (ap (λ (k : ℕ). take k (take 240 F)) e) ∙ take-min stop (take 240 F)
+
+  -- their numbers are written
+  pub filled-number : (b : List ℕ) → filled b (number F) walked ≡ overlay b (number (take stop (plotsOf F)))
+  filled-number b =
+      let e : number (take stop (plotsOf F)) ≡ take walked (number F) = ap number (sym walked-plots) ∙ number-take walked F in
+      let l : length (take walked (number F)) ≡ walked = length-take-le walked (number F) (rw length-number (omega arith)) in
+      sym (rw (e, l))

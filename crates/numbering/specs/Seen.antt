@@ -3,13 +3,13 @@
 use mathlib.Core.Path.{_≡_}
 use mathlib.Core.Bool.{true, false}
 use mathlib.Core.List.{List}
-use Prim.Native.Nat.{ℕ, zero, suc, _+_, _*_, _/_, _%_, _<_, _≤_}
+use Prim.Native.Nat.{ℕ, zero, suc, _*_, _/_, _%_, _<_, _≤_}
 use lib.Dec.{eqb}
-use lib.ListN.{length, getD, set}
+use lib.ListN.{length, getD}
 
 -- the bucket of a label
 unfoldable pub bucketOf : ℕ → ℕ
-bucketOf x = (x / 256 * 749 + x % 256) % 1024
+bucketOf x = x * 2654435769 % 4294967296 / 4194304
 
 -- the class labelled x among c and at most m − 1 classes chained from it, or 0
 unfoldable pub lookUp : List ℕ → List ℕ → ℕ → ℕ → ℕ → ℕ
@@ -35,15 +35,3 @@ pub record Chained (labels chain last : List ℕ) (k : ℕ) : Type 0 where
 -- the class labelled x, looked up in its bucket
 abbrev pub look : List ℕ → List ℕ → List ℕ → ℕ → ℕ
 look labels chain last x = lookUp labels chain x 241 (getD last (bucketOf x) 0)
-
--- one where no class was found, the other where one was
-abbrev pub unlessFound : {A : Type 0} → ℕ → A → A → A
-unlessFound zero new old = new
-unlessFound (suc c) new old = old
-
--- the class labelled x among k classes is c, the next where there was none: then it is put in front of its bucket
-pub record Entered (labels chain last : List ℕ) (k x : ℕ) (labels′ chain′ last′ : List ℕ) (c : ℕ) : Type 0 where
-  pub class : c ≡ unlessFound (look labels chain last x) (k + 1) (look labels chain last x)
-  pub label : labels′ ≡ unlessFound (look labels chain last x) (set labels (k + 1) x) labels
-  pub link : chain′ ≡ unlessFound (look labels chain last x) (set chain (k + 1) (getD last (bucketOf x) 0)) chain
-  pub front : last′ ≡ unlessFound (look labels chain last x) (set last (bucketOf x) (k + 1)) last

@@ -12,7 +12,7 @@ use lib.Seq.{drop-cons, ext-getD}
 use borrow.Author.Tests.{eqb-true, eqb-false, eq-eqb, ne-eqb, ltb-true, ltb-false}
 use Rattle.rules.specs.Factor.{Column, at, Equivalent, number, classes}
 use Rattle.rules.specs.Family.{alike, smaller, before}
-use Rattle.rules.proofs.Numbering.{by-cases, eqb-self, numbering-at, number-same, length-number}
+use Rattle.rules.proofs.Numbering.{by-cases, eqb-self, numbering-at, number-same, number-take, length-number}
 use Rattle.rules.proofs.Walk.{next}
 use Rattle.rules.proofs.Classes.{classes-le}
 use Rattle.rules.proofs.Members.{alike-sound, alike-self}
@@ -81,6 +81,11 @@ classes-equivalent n F G lF lG h = le-antisymm (classes-le n G F lG lF (h .from)
 -- numbering keeps the number of classes
 pub classes-number : (F : Column) → classes (number F) ≡ classes F
 classes-number F = classes-equivalent (length F) (number F) F (length-number F) refl record { to = λ u v hu hv. number-same F u v hu hv .0; from = λ u v hu hv. number-same F u v hu hv .1 }
+
+-- "this walk, stopped after any number of plots, holds exactly the numbers of those plots and their class count": after i plots these are
+-- the first i numbers of the column, and as many classes as these have
+pub stopped : (i : ℕ) (F : Column) → (number (take i F) ≡ take i (number F)) × (classes (take i F) ≡ classes (take i (number F)))
+stopped i F = (number-take i F, sym (classes-number (take i F)) ∙ ap classes (number-take i F))
 
 -- ---- two columns, plot by plot
 

@@ -4,13 +4,15 @@ use mathlib.Core.Path.{_≡_, refl, sym, ap, _∙_}
 use mathlib.Core.Logic.{_⊎_, inl, inr}
 use mathlib.Core.Bool.{Bool, true, false}
 use mathlib.Core.List.{List, [], _∷_}
-use Prim.Native.Nat.{ℕ, zero, suc, _-_, _<_, zero-le, suc-le-suc}
+use Prim.Native.Nat.{ℕ, zero, suc, _-_, _<_, max, zero-le, suc-le-suc}
 use native.Mathlib.Nat.{not-suc-le-zero, le-of-suc-le-suc}
 use native.Mathlib.Omega.{arith}
+use lib.Dec.{eqb}
 use lib.ListN.{length, getD, take}
 use lib.Seq.{getD-take, length-take-le}
-use Rattle.rules.specs.Factor.{at, indexOf, addNew, numbering, labels}
-use Rattle.rules.proofs.Numbering.{by-cases, numbering-same, has-or-new, add-has, length-add-new, place-new, has-all}
+use borrow.Author.Tests.{eqb-true}
+use Rattle.rules.specs.Factor.{Column, at, indexOf, addNew, numbering, labels, number, classes}
+use Rattle.rules.proofs.Numbering.{by-cases, eqb-self, numbering-same, has-or-new, add-has, length-add-new, place-new, has-all}
 
 -- ---- one walk over the plots
 
@@ -67,3 +69,18 @@ module _ {A : Type 0} (same : A → A → Bool) (sound : (a b : A) → same a b 
 
       fresh : ((j : ℕ) → j < u → getD xs j d ≡ getD xs u d → ⊥) → indexOf same (labels same [] (take u xs)) (getD xs u d) ≡ length (labels same [] (take u xs))
       fresh ne = labels-new (take u xs) [] (getD xs u d) refl (λ j hj e. let hu : j < u = rw len at hj in ne j hu (sym (getD-take u xs j d hu) ∙ e))
+
+-- one plot more: the number of classes so far is the largest number so far
+pub classes-more : (F : Column) (u : ℕ) → u < length F → classes (take (suc u) F) ≡ max (classes (take u F)) (at (number F) u)
+unfolding number classes
+classes-more F u h =
+    ap length (labels-next eqb eqb-true eqb-self 0 u F [] h)
+    ∙ go (has-or-new eqb eqb-true eqb-self seen (at F u))
+    ∙ sym (ap (max (length seen)) (number-by-place eqb eqb-true eqb-self 0 u F [] h))
+  where
+    seen : Column
+    seen = labels eqb [] (take u F)
+
+    go : (indexOf eqb seen (at F u) < length seen) ⊎ (indexOf eqb seen (at F u) ≡ length seen) → length (addNew eqb seen (at F u)) ≡ max (length seen) (suc (indexOf eqb seen (at F u)))
+    go (inl l) = ap length (add-has eqb eqb-true eqb-self seen (at F u) l) ∙ omega arith
+    go (inr e) = length-add-new eqb eqb-true eqb-self seen (at F u) e ∙ omega arith

@@ -30,7 +30,7 @@ pub(crate) fn infimum_many(f: &[u8], g: &[u8], w: usize, out: &mut [u8; PLOTS]) 
     ensures numbers { λ _. ⌜ now (out .exit) ≡ overlay (now (out .entry)) (infimum (now (f .entry)) (now (g .entry))) ⌝ }
 {
     let codes = coded(f, g, w);
-    numbering::number_levels(&codes[..f.len()], out)
+    numbering::number_levels(&codes, f.len(), out)
 }
 
 // Lists the labels of the cells by the numbers of the infimum: a cell is met first where the number is new. Answers how many there are.

@@ -9,12 +9,9 @@ use Rattle.numbering.proofs.bucket.Tie as tie
 mul-result : tie.Need-mul-result
 mul-result c = search needs
 
-add-result : tie.Need-add-result
-add-result c = search needs
-
 returns : tie.Need-returns
 unfolding bucketOf
 returns c = refl
 
 pub bucket-spec : {M : Type 1} → statement M
-bucket-spec = tie.close (tie.spec mul-result add-result returns)
+bucket-spec = tie.close (tie.spec mul-result returns)

@@ -8,82 +8,54 @@ use borrow.Author.Needs.{needs}
 use denote.Ref.{now}
 use lib.ListN.{length, take, replicate}
 use Rattle.rules.specs.Factor.{Column, number, classes}
-use Rattle.rules.proofs.Numbering.{number-number}
+use Rattle.rules.proofs.Numbering.{length-number, number-number}
+use Rattle.levels.proofs.Numbered.{Numbered, column-numbered}
 use Rattle.design.specs.State.{columnAt, Held, Begun}
-use Rattle.design.proofs.Start.{after-placed, begun-more, placed-on, held-on, length-numbered, classes-numbered, take-numbered, long-numbered}
+use Rattle.design.proofs.Start.{after-placed, begun-more, placed-on, held-on}
 use Rattle.design.proofs.columns.place_column.Statement.{statement}
 use Rattle.design.proofs.columns.place_column.Tie as tie
 
 -- where the function starts, seen from the place at which the column is numbered
-abbrev start : tie.After-number-levels → tie.Start
-start w = w .before .before .before .before .before
+abbrev start : tie.After-column-numbers → tie.Start
+start w = w .before .before .before .before
 
--- the column of the table, numbered
-abbrev column : tie.After-number-levels → Column
-column w = number (columnAt (start w .args .n) (now (start w .args .levels)) (start w .args .c))
+-- the column of the table
+abbrev entered : tie.After-column-numbers → Column
+entered w = columnAt (start w .args .n) (now (start w .args .levels)) (start w .args .c)
 
--- what is placed is that column
-taken : (w : tie.After-number-levels) → take (start w .args .n) (w .number-levels .last .1 .0) ≡ column w
-taken w =
+-- the same, numbered: it is what is placed
+abbrev column : tie.After-column-numbers → Column
+column w = number (entered w)
+
+made : (w : tie.After-column-numbers) → Numbered (start w .args .n) (entered w) (w .column-numbers .last .1 .1 .1 .0) (w .column-numbers .result)
+made w =
     let s = start w in
     let zeros : List ℕ = replicate 240 0 in
-    take-numbered (s .args .n) (s .args .c) (now (s .args .levels)) (s .pre .0 .most) (s .pre .2) zeros (w .number-levels .last .1 .0) (w .number-levels .ensures .1)
+    column-numbered (s .args .n) (s .args .c) (now (s .args .levels)) zeros (w .column-numbers .last .1 .1 .1 .0) (w .column-numbers .result)
+    (s .pre .0 .most) (omega (arith, s .pre .0 .most, s .pre .2)) (w .column-numbers .ensures .0) (w .column-numbers .ensures .1)
 
--- the array is long enough
-long : (w : tie.After-number-levels) → start w .args .n ≤ length (w .number-levels .last .1 .0)
-long w =
-    let s = start w in
-    let zeros : List ℕ = replicate 240 0 in
-    long-numbered (s .args .n) (s .args .c) (now (s .args .levels)) (s .pre .0 .most) (s .pre .2) zeros (w .number-levels .last .1 .0) (w .number-levels .ensures .1)
+-- it is on n plots
+length-is : (w : tie.After-column-numbers) → length (column w) ≡ start w .args .n
+length-is w = length-number (entered w) ∙ made w .plots
 
--- the column is on n plots
-length-is : (w : tie.After-number-levels) → length (column w) ≡ start w .args .n
-length-is w =
-    let s = start w in
-    length-numbered (s .args .n) (s .args .c) (now (s .args .levels)) (s .pre .0 .most) (s .pre .2)
-
--- the answer is its number of classes
-counted : (w : tie.After-number-levels) → (w .number-levels .result ≡ classes (column w)) × (w .number-levels .result ≤ 240)
-counted w =
-    let s = start w in
-    classes-numbered (s .args .n) (s .args .c) (now (s .args .levels)) (s .pre .0 .most) (s .pre .2) (w .number-levels .result) (w .number-levels .ensures .0)
-
-mul-at : tie.Need-mul-at
-mul-at c = search needs
-
-add-end : tie.Need-add-end
-add-end c = search needs
-
-mul-number-levels : tie.Need-mul-number-levels
-mul-number-levels c = search needs
-
-sub-number-levels : tie.Need-sub-number-levels
-sub-number-levels c = search needs
-
-part-number-levels-start : tie.Need-part-number-levels-start
-part-number-levels-start c = search needs
-
-part-number-levels-end : tie.Need-part-number-levels-end
-part-number-levels-end c = search needs
-
-number-levels-requires : tie.Need-number-levels-requires
-number-levels-requires c κs = search needs
+column-numbers-requires : tie.Need-column-numbers-requires
+column-numbers-requires c κs = search needs
 
 array-share-prefix-column : tie.Need-array-share-prefix-column
-array-share-prefix-column c = long (c .before .before)
+array-share-prefix-column c = made (c .before .before) .room
 
 slice-aggregate-place : tie.Need-slice-aggregate-place
-slice-aggregate-place c = sym (ap length (taken (c .before .before .before)) ∙ length-is (c .before .before .before))
+slice-aggregate-place c = sym (ap length (made (c .before .before .before) .numbers) ∙ length-is (c .before .before .before))
 
 cast-place : tie.Need-cast-place
-cast-place c = omega (arith, counted (c .before .before .before) .1)
+cast-place c = omega (arith, made (c .before .before .before) .few)
 
 place-requires : tie.Need-place-requires
 place-requires c κs =
     let w = c .before .before .before in
     let s = start w in (
-      held-on (s .args .n) (now (s .args .store)) (now (s .args .counts)) (s .args .size) (take (s .args .n) (w .number-levels .last .1 .0)) (column w) (taken w) (length-is w) (s .pre .0),
-      counted w .0 ∙ ap classes (sym (taken w)),
+      held-on (s .args .n) (now (s .args .store)) (now (s .args .counts)) (s .args .size) (take (s .args .n) (w .column-numbers .last .1 .1 .1 .0)) (column w) (made w .numbers) (length-is w) (s .pre .0),
+      made w .count ∙ ap classes (sym (made w .numbers)),
     )
 
 grown-requires : tie.Need-grown-requires
@@ -97,25 +69,19 @@ returns c =
     let q = c .before .before .before in
     let w = q .before .before .before .before in
     let s = start w in
-    let p = placed-on (s .args .n) (now (s .args .store)) (s .args .size) (take (s .args .n) (w .number-levels .last .1 .0)) (column w) (q .place .result) (q .place .last .0) (q .place .last .1 .0) (taken w) (length-is w) (q .place .ensures) in
+    let p = placed-on (s .args .n) (now (s .args .store)) (s .args .size) (take (s .args .n) (w .column-numbers .last .1 .1 .1 .0)) (column w) (q .place .result) (q .place .last .0) (q .place .last .1 .0) (made w .numbers) (length-is w) (q .place .ensures) in
     let a = after-placed (s .args .n) (now (s .args .store)) (now (s .args .counts)) (s .args .size) (s .pre .0) (s .pre .1) (column w) (q .place .result) (q .place .last .0) (q .place .last .1 .0) p in
     let e = c .grown .ensures in (
       (subst (λ (k : ℕ). Held (s .args .n) (q .place .last .0) (q .place .last .1 .0) k) (sym e) (a .held), subst (λ (k : ℕ). k ≤ s .args .size + 1) (sym e) (a .most)),
       λ As b. subst (λ (k : ℕ). Begun (s .args .n) (As ++ column w ∷ []) (q .place .last .0) (q .place .last .1 .0) k) (sym e)
-          (begun-more (s .args .n) As (now (s .args .store)) (now (s .args .counts)) (s .args .size) b (s .pre .1) (column w) (number-number (columnAt (s .args .n) (now (s .args .levels)) (s .args .c))) (q .place .result) (q .place .last .0) (q .place .last .1 .0) p),
+          (begun-more (s .args .n) As (now (s .args .store)) (now (s .args .counts)) (s .args .size) b (s .pre .1) (column w) (number-number (entered w)) (q .place .result) (q .place .last .0) (q .place .last .1 .0) p),
     )
 
 pub place-column-spec : {M : Type 1} → statement M
 place-column-spec =
     tie.close
     (tie.spec
-    mul-at
-    add-end
-    mul-number-levels
-    sub-number-levels
-    part-number-levels-start
-    part-number-levels-end
-    number-levels-requires
+    column-numbers-requires
     array-share-prefix-column
     slice-aggregate-place
     cast-place

@@ -1,37 +1,25 @@
 -- `column_classes` meets its contract: a column has at most 240 classes.
 -- Assumes nothing.
+use mathlib.Core.List.{List}
+use Prim.Native.Nat.{ℕ}
 use native.Mathlib.Omega.{arith}
 use borrow.Author.Needs.{needs}
 use denote.Ref.{now}
-use Rattle.design.proofs.Start.{classes-numbered}
+use lib.ListN.{replicate}
+use Rattle.levels.proofs.Numbered.{column-numbered}
 use Rattle.design.proofs.replicates.column_classes.Statement.{statement}
 use Rattle.design.proofs.replicates.column_classes.Tie as tie
 
-mul-a : tie.Need-mul-a
-mul-a c = search needs
-
-add-e : tie.Need-add-e
-add-e c = search needs
-
-mul-number-levels : tie.Need-mul-number-levels
-mul-number-levels c = search needs
-
-sub-number-levels : tie.Need-sub-number-levels
-sub-number-levels c = search needs
-
-part-number-levels-start : tie.Need-part-number-levels-start
-part-number-levels-start c = search needs
-
-part-number-levels-end : tie.Need-part-number-levels-end
-part-number-levels-end c = search needs
-
-number-levels-requires : tie.Need-number-levels-requires
-number-levels-requires c κs = search needs
+column-numbers-requires : tie.Need-column-numbers-requires
+column-numbers-requires c κs = search needs
 
 cast-result : tie.Need-cast-result
 cast-result c =
-    let s = c .before .before .before .before in
-    omega (arith, classes-numbered (s .args .n) (s .args .c) (now (s .args .levels)) (s .pre .0) (s .pre .1) (c .number-levels .result) (c .number-levels .ensures .0) .1)
+    let s = c .before .before .before in
+    let zeros : List ℕ = replicate 240 0 in
+    let m = column-numbered (s .args .n) (s .args .c) (now (s .args .levels)) zeros (c .column-numbers .last .1 .1 .1 .0) (c .column-numbers .result)
+    (s .pre .0) (omega (arith, s .pre .0, s .pre .1)) (c .column-numbers .ensures .0) (c .column-numbers .ensures .1) in
+    omega (arith, m .few)
 
 returns : tie.Need-returns
 returns c = search needs
@@ -40,12 +28,6 @@ pub column-classes-spec : {M : Type 1} → statement M
 column-classes-spec =
     tie.close
     (tie.spec
-    mul-a
-    add-e
-    mul-number-levels
-    sub-number-levels
-    part-number-levels-start
-    part-number-levels-end
-    number-levels-requires
+    column-numbers-requires
     cast-result
     returns)

@@ -5,17 +5,17 @@ use mathlib.Core.List.{List}
 use Prim.Native.Nat.{ℕ, _+_, _-_, _*_, _≤_}
 use native.Mathlib.Omega.{arith}
 use denote.Ref.{now}
-use lib.ListN.{length, take, replicate, length-take}
+use lib.ListN.{length, take, replicate}
 use borrow.Author.Needs.{needs}
 use Rattle.rules.specs.Factor.{Column, number}
 use Rattle.rules.specs.Family.{membersOf}
 use Rattle.rules.proofs.Numbering.{length-number}
 use Rattle.factor.specs.Lent.{columnAt}
-use Rattle.factor.proofs.Lent.{length-part}
+use Rattle.levels.proofs.Numbered.{Numbered, column-numbered}
 use Rattle.decimal.specs.Writing.{written}
 use Rattle.decimal.proofs.Writing.{length-written}
 use Rattle.naming.specs.Columns.{numberedFrom}
-use Rattle.naming.proofs.Tables.{numbered-part, none-yet, table-turn}
+use Rattle.naming.proofs.Tables.{none-yet, table-turn}
 use Rattle.naming.proofs.columns.number_columns.Statement.{statement}
 use Rattle.naming.proofs.columns.number_columns.Tie as tie
 
@@ -30,48 +30,46 @@ loop-holds c =
     let a = c .before .before .args in
     (omega arith, refl, none-yet (a .n) (now (a .out)) (now (a .levels)) (a .first))
 
-add-column : tie.Need-add-column Inv-loop μ-loop
-add-column c = omega arith
+add-column-numbers : tie.Need-add-column-numbers Inv-loop μ-loop
+add-column-numbers c = omega arith
 
-column-requires : tie.Need-column-requires Inv-loop μ-loop
-column-requires c κs = search needs
+column-numbers-requires : tie.Need-column-numbers-requires Inv-loop μ-loop
+column-numbers-requires c κs = search needs
 
-number-levels-requires : tie.Need-number-levels-requires Inv-loop μ-loop
-number-levels-requires c κs = search needs
-
--- the numbers of the column at hand
-module _ (c : tie.After-number-levels Inv-loop μ-loop) where
+-- the column at hand, numbered
+module _ (c : tie.After-column-numbers Inv-loop μ-loop) where
   abbrev n : ℕ
-  n = c .before .before .before .before .before .before .before .args .n
+  n = c .before .before .before .before .before .before .args .n
 
   abbrev place : ℕ
-  place = c .before .before .before .before .before .before .before .args .first + c .before .before .before .before .loop .c
+  place = c .before .before .before .before .before .before .args .first + c .before .before .before .loop .c
 
   abbrev levels : List ℕ
-  levels = now (c .before .before .before .before .before .before .before .args .levels)
+  levels = now (c .before .before .before .before .before .before .args .levels)
 
   abbrev column : Column
-  column = c .number-levels .last .1 .0
+  column = c .column-numbers .last .1 .1 .1 .0
 
   inside : 240 * place + n ≤ length levels
-  inside = omega (arith, c .before .before .before .before .before .before .before .pre .0 .few-plots)
+  inside = omega (arith, c .before .before .before .before .before .before .pre .0 .few-plots)
 
-  column-is : take n column ≡ number (columnAt n levels place)
-  column-is =
-      ap (take n) (c .number-levels .ensures .1)
-      ∙ numbered-part n place (replicate 240 0) levels (c .before .before .before .before .before .before .before .pre .0 .few-plots) inside _ (c .before .before .column .ensures)
+  made : Numbered n (columnAt n levels place) column (c .column-numbers .result)
+  made =
+      let zeros : List ℕ = replicate 240 0 in
+      column-numbered n place levels zeros column (c .column-numbers .result) (c .before .before .before .before .before .before .pre .0 .few-plots) inside
+      (c .column-numbers .ensures .0) (c .column-numbers .ensures .1)
 
   column-length : length (take n column) ≡ n
-  column-length = ap length column-is ∙ length-number (columnAt n levels place) ∙ length-part n place levels inside
+  column-length = ap length (made .numbers) ∙ length-number (columnAt n levels place) ∙ made .plots
 
 array-share-prefix-column : tie.Need-array-share-prefix-column Inv-loop μ-loop
-array-share-prefix-column c = omega (arith, column-length c, length-take (n c) (column c))
+array-share-prefix-column c = made c .room
 
 slice-aggregate-write-bytes : tie.Need-slice-aggregate-write-bytes Inv-loop μ-loop
 slice-aggregate-write-bytes c = sym (column-length (c .before))
 
 mul-write-bytes : tie.Need-mul-write-bytes Inv-loop μ-loop
-mul-write-bytes c = omega (arith, c .before .before .before .before .before .before .before .before .before .pre .0 .few)
+mul-write-bytes c = omega (arith, c .before .before .before .before .before .before .before .before .pre .0 .few)
 
 write-bytes-requires : tie.Need-write-bytes-requires Inv-loop μ-loop
 write-bytes-requires c κs = search needs
@@ -85,14 +83,14 @@ loop-less c = omega arith
 loop-again : tie.Need-loop-again Inv-loop μ-loop
 loop-again c =
     let k = c .before .before .before .before .before in
-    let b = k .before .before .before .before in
+    let b = k .before .before .before in
     let s = b .before .before .before in
     let a = s .args in
     let out = b .loop .out in
     let few = s .pre .0 .few in
     let long = s .pre .0 .long in
     let w : c .before .before .write-bytes .last .1 .0 ≡ written out (240 * b .loop .c) (number (columnAt (a .n) (levels k) (place k))) =
-    c .before .before .write-bytes .ensures .1 ∙ ap (written out (240 * b .loop .c)) (column-is k) in (
+    c .before .before .write-bytes .ensures .1 ∙ ap (written out (240 * b .loop .c)) (made k .numbers) in (
       omega arith,
       ap length w ∙ length-written out (240 * b .loop .c) (number (columnAt (a .n) (levels k) (place k))) ∙ b .loop .inv .1,
       ap (λ (o : List ℕ). membersOf (a .n) o (b .loop .c + 1)) w ∙ table-turn (a .n) (s .pre .0 .few-plots) out (levels k) (a .first) (b .loop .c) (omega arith) (inside k) (b .loop .inv .2),
@@ -115,9 +113,8 @@ number-columns-spec =
     Inv-loop
     μ-loop
     loop-holds
-    add-column
-    column-requires
-    number-levels-requires
+    add-column-numbers
+    column-numbers-requires
     array-share-prefix-column
     slice-aggregate-write-bytes
     mul-write-bytes
