@@ -164,10 +164,19 @@ pub fn stops(call: &Call) -> Vec<Step> {
     (0..=call.levels.len() + 1).map(earlier).collect()
 }
 
-/// Plots of a column, some that follow each other, and the stop as many earlier as stood before it; levels numbered by first appearance.
+/// Plots of a column that follow each other: without them, the stop as many earlier as stood before it, or with one level for all of
+/// them. Then levels numbered by first appearance.
 pub fn cells(call: &Call) -> Vec<Step> {
-    let part = |(from, count): (usize, usize)| step(move |call| drop_cells(call, from, count));
-    let mut found: Vec<Step> = pieces(call.levels.len()).into_iter().map(part).collect();
+    let parts = pieces(call.levels.len());
+    let dropped = |&(from, count): &(usize, usize)| step(move |call| drop_cells(call, from, count));
+    let alike = |&(from, count): &(usize, usize)| {
+        step(move |call| {
+            let cells = call.levels.get_mut(from..from + count)?;
+            cells.fill(cells[0]);
+            Some(())
+        })
+    };
+    let mut found: Vec<Step> = parts.iter().map(dropped).chain(parts.iter().map(alike)).collect();
     found.push(step(|call| {
         renumber(&mut call.levels);
         Some(())
