@@ -5,7 +5,7 @@ use crate::sheets::Sheet;
 use crate::{timing, PAIR};
 use std::time::Duration;
 
-/// The plots of sheets that grow with these.
+/// Numbers of plots, for sheets that grow by plots.
 pub const BY_PLOTS: [usize; 5] = [15, 30, 60, 120, 240];
 
 /// Sheets of rising size, and the entry that is timed on them.

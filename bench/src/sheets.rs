@@ -73,7 +73,7 @@ fn widest() -> Sheet {
 fn crowded() -> Sheet {
     let labels = one_bucket(60);
     let headings = "p:Aa p:Bb p:Cc p:Dd p:Ee p:Ff t:Gg t:Hh t:Ii t:Jj t:Kk t:Ll";
-    sheet("labels that share a bucket", headings, 240, |u, _| labels[u % 60] as usize - 1)
+    sheet("labels that share a bucket", headings, 240, |u, _| labels[u % labels.len()] as usize - 1)
 }
 
 /// Sheets of many members that are accepted.

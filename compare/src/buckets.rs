@@ -1,5 +1,5 @@
-//! Labels that are hard to number for the library: it sorts labels that lie far apart into 1,024 buckets, and searches a bucket one
-//! label after the other.
+//! Labels that are hard to number for the library: it sorts labels into 1,024 buckets and searches a bucket label by label, so those
+//! of one bucket take longest.
 
 use reference::Level;
 

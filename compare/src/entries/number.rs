@@ -1,5 +1,5 @@
-//! Numbering alone: a column, the plot to stop after, 240 numbers; the number of classes. Its function is not in the library's header
-//! but in the archive of the crate `numbering`.
+//! Numbering alone: a column, how many of its plots to number, 240 numbers; the number of classes. The library's header does not have
+//! it: its function is in the archive of the crate `numbering`.
 
 use super::Entry;
 use crate::buckets::sharing;
