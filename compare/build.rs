@@ -1,5 +1,5 @@
-//! Links the archive of the proved planner: from the folder RACHDOUM_LIB (a relative path begins at the repository's root), or from
-//! where `rt staticlib rachdoum` leaves it.
+//! Links the archive of the proved planner and that of its numbering alone: from the folder RACHDOUM_LIB (a relative path begins at the
+//! repository's root), or from where `rt staticlib rachdoum` and `rt staticlib numbering` leave them.
 
 use std::path::PathBuf;
 
@@ -11,8 +11,9 @@ fn main() {
     let package = PathBuf::from(std::env::var_os("CARGO_MANIFEST_DIR").expect("cargo names the package's folder"));
     let given = std::env::var_os("RACHDOUM_LIB").unwrap_or("target/staticlib".into());
     let folder = package.join("..").join(given);
-    let archive = folder.join("librachdoum.a");
-    println!("cargo:rerun-if-changed={}", archive.display());
     println!("cargo:rustc-link-search=native={}", folder.display());
-    println!("cargo:rustc-link-lib=static=rachdoum");
+    for name in ["rachdoum", "numbering"] {
+        println!("cargo:rerun-if-changed={}", folder.join(format!("lib{name}.a")).display());
+        println!("cargo:rustc-link-lib=static={name}");
+    }
 }

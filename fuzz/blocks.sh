@@ -1,13 +1,14 @@
 #!/usr/bin/env bash
 # The beginnings of the basic blocks of some functions of a linked program, or their conditional jumps, as addresses.
-# Usage: blocks.sh PROGRAM FILE SYMBOL [jumps]. The functions are those that FILE, an archive or a program, defines; the first line is
-# the address of SYMBOL. A block begins where a function does, where a jump leads, and behind each jump or return.
+# Usage: blocks.sh blocks|jumps PROGRAM SYMBOL FILE... The functions are those that the files, archives or programs, define; the first
+# line is the address of SYMBOL. A block begins where a function does, where a jump leads, and behind each jump or return.
 set -eu
 set -o pipefail
-program=$1 file=$2 symbol=$3 wish=${4:-blocks}
+wish=$1 program=$2 symbol=$3
+shift 3
 names=$(mktemp)
 trap 'rm -f "$names"' EXIT
-nm "$file" 2>/dev/null | awk '$2 ~ /^[tT]$/ { print $3 }' >"$names"
+nm "$@" 2>/dev/null | awk '$2 ~ /^[tT]$/ { print $3 }' >"$names"
 nm "$program" | awk -v symbol="$symbol" '$3 == symbol { sub(/^0+/, "", $1); print $1; found = 1 } END { exit !found }'
 objdump -d --no-show-raw-insn "$program" | awk -v names="$names" -v wish="$wish" '
   BEGIN { while ((getline name <names) > 0) wanted[name] = 1 }

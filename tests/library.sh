@@ -1,6 +1,7 @@
 #!/usr/bin/env bash
 # The library for other languages: the archive against the second implementation, its header, and the examples in C, Rust and Python.
-# RACHDOUM_LIB may name the folder of an archive (a path from the root); without it the archive is proved and made first.
+# Numbering alone, which the header does not have, is compared from an archive of its own. RACHDOUM_LIB may name the folder of both
+# archives (a path from the root); without it they are proved and made first.
 set -u
 cd "$(dirname "$0")/.." || exit 1
 work=$(mktemp -d) || exit 1
@@ -103,9 +104,9 @@ same_constants() {
   done
 }
 
-# no_state: the archive has no memory of its own that a call could write to
+# no_state: neither archive has memory of its own that a call could write to
 no_state() {
-  nm "$archive" >"$work/symbols" && ! grep -E ' [bBcCdDgGsSuvV] ' "$work/symbols"
+  nm "$archive" "$RACHDOUM_LIB/libnumbering.a" >"$work/symbols" && ! grep -E ' [bBcCdDgGsSuvV] ' "$work/symbols"
 }
 
 # quiet_import: the example in Python does nothing when it is imported
@@ -115,6 +116,7 @@ quiet_import() {
 
 if [[ -z ${RACHDOUM_LIB:-} ]]; then
   step 'archive' rt staticlib rachdoum
+  step 'archive of numbering alone' rt staticlib numbering
   RACHDOUM_LIB=$PWD/target/staticlib
 fi
 export RACHDOUM_LIB

@@ -2,7 +2,7 @@
 //! A new entry is a function here and its line in the list.
 
 use crate::sheets::Sheet;
-use reference::{Entries, Level, FAMILY, FAST, INTERACTIONS, LEVELS, NAME, TABLE};
+use reference::{Entries, Level, COLUMNS, FAMILY, FAST, INTERACTIONS, LEVELS, NAME, PLOTS, TABLE};
 use std::fmt::Debug;
 
 /// A call that can be made again and again, of either implementation; its answer and its memory are handed to `keep`.
@@ -25,7 +25,11 @@ pub static ALL: &[Entry] = &[
     Entry { title: "degrees", call: degrees },
     Entry { title: "strata", call: strata },
     Entry { title: "name", call: name },
+    NUMBER,
 ];
+
+/// Numbering alone, of a sheet's first column.
+pub const NUMBER: Entry = Entry { title: "number", call: number };
 
 /// A sheet's text, its level table and its families.
 #[derive(Clone)]
@@ -46,6 +50,18 @@ impl Trial {
         let (mut first, mut second) = (vec![0; FAMILY], vec![0; FAMILY]);
         let (_, [_, _, sizes @ ..]) = (FAST.full_design)(&levels, plots, p, t, INTERACTIONS, &mut first, &mut second);
         Trial { text, plots, levels, columns: [p, t], families: [first, second], sizes: sizes.map(|size| size as usize) }
+    }
+
+    /// The levels of the first column that the sheet has.
+    fn first_column(&self) -> &[Level] {
+        let first = if self.columns[0] > 0 { 0 } else { PLOTS * COLUMNS };
+        &self.levels[first..first + self.plots]
+    }
+
+    /// How many classes the first column has.
+    pub fn classes(&self) -> String {
+        let (_, [classes]) = (FAST.number)(self.first_column(), self.plots, &mut [0; PLOTS]);
+        classes.to_string()
     }
 
     /// The sizes of both families, or the number of the refusal.
@@ -106,4 +122,9 @@ fn name(trial: &Trial) -> Call {
         let answer = (entries.name)(&text, &levels, &family, plots, size, 0, size.div_ceil(2), &mut name);
         keep(&(answer, &text, &levels, &family, &name));
     })
+}
+
+fn number(trial: &Trial) -> Call {
+    let (column, mut numbers) = (trial.first_column().to_vec(), [0; PLOTS]);
+    Box::new(move |entries, keep| keep(&((entries.number)(&column, column.len(), &mut numbers), &column, &numbers)))
 }

@@ -1,8 +1,8 @@
 //! How the time of the whole table grows with plots and with members.
 
 use crate::entries::{self, Trial};
+use crate::series::{Series, BY_PLOTS};
 use crate::sheets::{crossed, sheet, Sheet};
-use crate::{timing, PAIR};
 use std::{fs, io, path::Path, time::Duration};
 
 /// Crossed columns on 240 plots whose infima are 2, 4, 8, 16 and 32 members.
@@ -11,12 +11,6 @@ const LETTERS: [&str; 5] = ["Aa", "Bb", "Cc", "Dd", "Ee"];
 
 /// The data file's first line. A series of sheets is a block; two empty lines separate blocks.
 const HEADING: &str = "# The time of the printed table in microseconds: written by `bench --growth`, drawn by bench/growth.gp";
-
-/// Sheets of rising size.
-pub struct Series {
-    title: String,
-    pub sheets: Vec<(usize, Sheet)>,
-}
 
 /// Three rows crossed with five columns, over and over: filters by row, gains by column.
 fn by_plots(plots: usize) -> Sheet {
@@ -32,39 +26,34 @@ fn by_members(sizes: &[usize], kinds: &str, name: &str) -> Sheet {
     sheet(&title, &headings.join(" "), 240, |u, f| crossed(sizes, u, f % sizes.len()))
 }
 
+/// The whole table on these sheets.
+fn growing(title: String, sheets: Vec<(usize, Sheet)>) -> Series {
+    Series { title, entry: &entries::ALL[0], said: ("members", Trial::members), digits: 2, sheets }
+}
+
 /// Plots at one kind of design, then members of the three kinds at 240 plots.
 pub fn series() -> [Series; 4] {
-    let members = |kinds: &str, name: &str| Series {
-        title: format!("{name}: crossed columns on 240 plots"),
-        sheets: SIZES.iter().map(|sizes| (1 << sizes.len(), by_members(sizes, kinds, name))).collect(),
+    let members = |kinds: &str, name: &str| {
+        let sheets = SIZES.iter().map(|sizes| (1 << sizes.len(), by_members(sizes, kinds, name))).collect();
+        growing(format!("{name}: crossed columns on 240 plots"), sheets)
     };
-    let plots = Series {
-        title: "plots: 3 rows crossed with 5 columns, filters by row, gains by column".to_string(),
-        sheets: [15, 30, 60, 120, 240].into_iter().map(|plots| (plots, by_plots(plots))).collect(),
-    };
+    let plots = growing(
+        "plots: 3 rows crossed with 5 columns, filters by row, gains by column".to_string(),
+        BY_PLOTS.into_iter().map(|plots| (plots, by_plots(plots))).collect(),
+    );
     [plots, members("p", "plot members"), members("t", "treatment members"), members("pt", "plot and treatment members")]
 }
 
 /// The lines of a series for the data file: size, microseconds of the library and of the reference. Nothing where the two differ.
-fn measure(series: &Series, limit: Duration) -> Option<String> {
-    println!("\n{}\n{:>8}  {:<10}{:>10}{:>10}{:>8}", series.title, "", "members", "library", "reference", "ratio");
-    let mut lines = format!("# {}\n# size\tlibrary\treference\n", series.title);
-    for (size, sheet) in &series.sheets {
-        let (trial, entry) = (Trial::new(sheet), &entries::ALL[0]);
-        if !timing::same(PAIR, entry, &trial) {
-            println!("{size:>8}  THE TWO DIFFER");
-            return None;
-        }
-        let [library, reference] = timing::alternate(PAIR, entry, &trial, limit).map(|spent| spent.least);
-        println!("{size:>8}  {:<10}{library:>10.2}{reference:>10.2}{:>8.2}", trial.members(), library / reference);
-        lines += &format!("{size}\t{library:.2}\t{reference:.2}\n");
-    }
-    Some(lines)
+fn lines(series: &Series, limit: Duration) -> Option<String> {
+    let line = |(size, [library, reference]): (usize, [f64; 2])| format!("{size}\t{library:.2}\t{reference:.2}\n");
+    let measured: String = series.measure(limit)?.into_iter().map(line).collect();
+    Some(format!("# {}\n# size\tlibrary\treference\n{measured}", series.title))
 }
 
 /// Prints the tables and writes the data file, from which growth.gp makes the picture; whether both agreed on every sheet.
 pub fn tables(limit: Duration, file: &Path) -> io::Result<bool> {
-    let measured: Option<Vec<String>> = series().iter().map(|series| measure(series, limit)).collect();
+    let measured: Option<Vec<String>> = series().iter().map(|series| lines(series, limit)).collect();
     let Some(blocks) = measured else { return Ok(false) };
     fs::write(file, format!("{HEADING}\n{}", blocks.join("\n\n")))?;
     Ok(true)

@@ -2,6 +2,8 @@
 
 mod entries;
 mod growth;
+mod numbering;
+mod series;
 mod sheets;
 mod timing;
 
@@ -15,6 +17,7 @@ const USAGE: &str = "usage: bench [--seconds S] [--only WORD] [--entries]   the 
        bench .. --literal ..                          the reference's literal version instead of the library
        bench [--seconds S] --folder FOLDER            the same of the files of a folder
        bench [--seconds S] --growth [FILE]            how time grows with plots and members
+       bench [--seconds S] --numbering                how the time of numbering one column grows with plots
        bench --once SHEET library|reference [CALLS [ENTRY]]   one entry on one sheet, a title or a file, so many times
        bench --instructions                           each sheet once by each, for bench/instructions.sh
        bench --write FOLDER                           the sheets as files";
@@ -152,6 +155,7 @@ fn perform(wish: &Wish) -> io::Result<bool> {
         ["--folder", folder] => tables(wish, sheets::folder(Path::new(folder), "")?),
         ["--growth"] => growth::tables(wish.limit, Path::new(concat!(env!("CARGO_MANIFEST_DIR"), "/growth.tsv"))),
         ["--growth", file] => growth::tables(wish.limit, Path::new(file)),
+        ["--numbering"] => Ok(numbering::tables(wish.limit)),
         ["--once", name, who] => once(name, who, "1", entries::ALL[0].title),
         ["--once", name, who, calls] => once(name, who, calls, entries::ALL[0].title),
         ["--once", name, who, calls, entry] => once(name, who, calls, entry),

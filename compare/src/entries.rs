@@ -9,7 +9,7 @@ use std::fmt;
 
 /// What the comparison knows of an entry.
 pub struct Entry {
-    /// Its name, in the header after `rachdoum_`.
+    /// Its name, that of its module. The header has it after `rachdoum_`, unless the entry comes from another archive.
     pub title: &'static str,
     /// The refusals that it can answer: a run has to see each.
     pub refusals: &'static [u32],
@@ -71,6 +71,7 @@ entries! {
     strata,
     name,
     skeleton,
+    number,
 }
 
 /// The entry of this name.

@@ -1,6 +1,7 @@
 //! The library of the proved planner as seen from Rust, in the shape of the second implementation's entries, and what is needed to
-//! compare the two call by call. Without the feature `library` there is no archive, only the calls and how they are run.
+//! compare the two call by call. Without the feature `library` no archive is linked: there are only the calls and how they are run.
 
+pub mod buckets;
 pub mod call;
 pub mod case;
 pub mod cells;

@@ -23,6 +23,8 @@ pub const TEXT: &[Steps] = &[counts, lines, lent, bytes];
 pub const LEVELS_OF_PLOTS: &[Steps] = &[counts, columns, plots, lent, tables];
 /// For entries that take families.
 pub const FAMILIES: &[Steps] = &[counts, members, plots, lent, tables];
+/// For entries that take one column and the number of plots to stop after.
+pub const COLUMN: &[Steps] = &[stops, cells];
 
 /// The smallest call found for which `differs` still holds.
 pub fn shrink(call: &Call, differs: &dyn Fn(&Call) -> bool) -> Call {
@@ -151,6 +153,37 @@ pub fn plots(call: &Call) -> Vec<Step> {
     found
 }
 
+/// An earlier stop in a column, at most one plot past its end.
+pub fn stops(call: &Call) -> Vec<Step> {
+    let earlier = |stop: usize| {
+        step(move |call| {
+            call.plots = stop;
+            Some(())
+        })
+    };
+    (0..=call.levels.len() + 1).map(earlier).collect()
+}
+
+/// Plots of a column that follow each other: without them, the stop as many earlier as stood before it, or with one level for all of
+/// them. Then levels numbered by first appearance.
+pub fn cells(call: &Call) -> Vec<Step> {
+    let parts = pieces(call.levels.len());
+    let dropped = |&(from, count): &(usize, usize)| step(move |call| drop_cells(call, from, count));
+    let alike = |&(from, count): &(usize, usize)| {
+        step(move |call| {
+            let cells = call.levels.get_mut(from..from + count)?;
+            cells.fill(cells[0]);
+            Some(())
+        })
+    };
+    let mut found: Vec<Step> = parts.iter().map(dropped).chain(parts.iter().map(alike)).collect();
+    found.push(step(|call| {
+        renumber(&mut call.levels);
+        Some(())
+    }));
+    found
+}
+
 /// Another length of what is lent for writing.
 pub fn lent(_: &Call) -> Vec<Step> {
     let shorter = |which: usize, length: usize| {
@@ -195,6 +228,13 @@ fn drop_plots(call: &mut Call, from: usize, count: usize) -> Option<()> {
     }
     let kept: Vec<usize> = (0..call.plots).filter(|&u| u < from || u >= from + count).collect();
     choose_plots(call, &kept);
+    Some(())
+}
+
+fn drop_cells(call: &mut Call, from: usize, count: usize) -> Option<()> {
+    call.levels.get(from..from + count)?;
+    call.levels.drain(from..from + count);
+    call.plots -= call.plots.clamp(from, from + count) - from;
     Some(())
 }
 

@@ -26,6 +26,7 @@ entries! {
     relation,
     degrees,
     name,
+    number,
 }
 
 /// Longest text and longest buffer for a table that are lent.
@@ -100,9 +101,15 @@ pub fn outcome(entries: &Entries, lent: &mut Lent, text: &[u8]) -> (Said, Vec<Ve
     (run.said, run.left)
 }
 
+/// One of the columns used, or one behind them: its place in the level table.
+fn column([p, t]: [usize; 2], chosen: usize) -> usize {
+    let c = chosen % (p + t + 1);
+    if c < p { c } else { COLUMNS + (c - p) % COLUMNS }
+}
+
 /// Plots, columns and k; in one of four runs one of them, or a level, is what no sheet gives.
 fn disturb_counts(run: &mut Run) {
-    let (levels, [p, t], n) = (run.lent.levels.levels(), run.columns, run.plots);
+    let (levels, n) = (run.lent.levels.levels(), run.plots);
     let at = run.chosen >> 16;
     match run.chosen >> 4 & 31 {
         0 => run.plots = 0,
@@ -111,10 +118,8 @@ fn disturb_counts(run: &mut Run) {
         3 => run.columns[1] = COLUMNS + 1,
         4 => run.k = at % 2 * (INTERACTIONS + 1),
         5..=7 => {
-            // A level is missing in one of the columns used, or in the one behind them.
-            let c = at % (p + t + 1);
-            let column = if c < p { c } else { COLUMNS + (c - p) % COLUMNS };
-            levels[PLOTS * column + at / 13 % n.max(1)] = 0;
+            // A level is missing.
+            levels[PLOTS * column(run.columns, at) + at / 13 % n.max(1)] = 0;
         }
         _ => (),
     }

@@ -56,6 +56,9 @@ macro_rules! entries {
             name: fn(&[u8], &[Level], &[u8], usize, usize, u32, usize, &mut [u8]) -> (u32, [u64; 1]),
             /// Text, buffer for the table; 6 if that buffer is too short, else 0, and the printed text's length.
             skeleton: fn(&[u8], &mut [u8]) -> (u32, u64),
+            /// A column of levels, 0 being one like any other, a stop, numbers; never a refusal, and the number of classes of the
+            /// plots before the stop. The library's header does not have it.
+            number: fn(&[Level], usize, &mut [u8; PLOTS]) -> (u32, [u64; 1]),
         }
     };
 }

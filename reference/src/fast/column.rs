@@ -27,7 +27,7 @@ impl Columns {
     }
 }
 
-/// Numbers levels by first appearance; answers the number of classes.
+/// Numbers at most 240 levels of any value by first appearance; answers the number of classes.
 pub fn number(levels: &[Level], column: &mut Column) -> u8 {
     if levels.iter().fold(0, |most, &level| most.max(level)) < 256 {
         number_small(levels, column)
@@ -55,17 +55,17 @@ fn number_small(levels: &[Level], column: &mut Column) -> u8 {
 const SLOTS: usize = 512;
 const SCATTER: Level = (0x9E37_79B9_7F4A_7C15_u64 >> (u64::BITS - Level::BITS)) as Level;
 
-/// Any levels but 0: a table of slots, at most 240 of them taken.
+/// Any levels, 0 too: a table of slots, at most 240 of them taken. A slot is taken when it has a class.
 fn number_any(levels: &[Level], column: &mut Column) -> u8 {
     let mut label: [Level; SLOTS] = [0; SLOTS];
     let mut class = [0u8; SLOTS];
     let mut count = 0;
     for (&level, number) in levels.iter().zip(column) {
         let mut slot = (level.wrapping_mul(SCATTER) >> (Level::BITS - SLOTS.ilog2())) as usize;
-        while label[slot] != level && label[slot] != 0 {
+        while class[slot] != 0 && label[slot] != level {
             slot = (slot + 1) % SLOTS;
         }
-        if label[slot] == 0 {
+        if class[slot] == 0 {
             count += 1;
             label[slot] = level;
             class[slot] = count;
