@@ -6,9 +6,6 @@ use crate::sheets::{one_bucket, sheet, Sheet};
 use reference::Level;
 use std::time::Duration;
 
-/// Most different labels of a column: about 64 of 65,536 share a bucket of the library.
-const MOST: usize = 60;
-
 /// So many different labels, none of them 0.
 type Labels = fn(usize) -> Vec<Level>;
 
@@ -23,9 +20,9 @@ fn far_apart(count: usize) -> Vec<Level> {
     (0..count as Level).map(|i| 1 + (Level::MAX - 1) / count as Level * i).collect()
 }
 
-/// One column, whose labels come over and over: half as many as plots, but at most 60.
+/// One column, whose labels come twice: about 128 of 65,536 share a bucket of the library.
 fn column(labels: Labels, plots: usize) -> Sheet {
-    let labels = labels((plots / 2).min(MOST));
+    let labels = labels(plots / 2);
     sheet(&format!("{plots} plots"), "p:Plot", plots, |u, _| labels[u % labels.len()] as usize - 1)
 }
 

@@ -69,9 +69,9 @@ fn widest() -> Sheet {
     })
 }
 
-/// Twelve columns alike whose labels, 60 of them with four plots each, share a bucket: the worst for numbering a whole table.
+/// Twelve columns alike whose labels, 120 of them with two plots each, share a bucket: the worst for numbering a whole table.
 fn crowded() -> Sheet {
-    let labels = one_bucket(60);
+    let labels = one_bucket(120);
     let headings = "p:Aa p:Bb p:Cc p:Dd p:Ee p:Ff t:Gg t:Hh t:Ii t:Jj t:Kk t:Ll";
     sheet("labels that share a bucket", headings, 240, |u, _| labels[u % labels.len()] as usize - 1)
 }

@@ -58,7 +58,7 @@ module _ (labels chain : List ℕ) (x : ℕ) where
       let r = look-le k d m (getD chain (suc c) 0) (omega arith) in
       rw (look-miss m (suc c) (λ z. omega arith) (eqb-false _ _ e)) (omega arith))
 
-pub bucket-less : (x : ℕ) → bucketOf x < 1024
+pub bucket-less : (x : ℕ) → bucketOf x < 512
 unfolding bucketOf
 bucket-less x = omega arith
 
@@ -154,17 +154,17 @@ pub seen-is : (F : Column) (u : ℕ) {labels chain last labels′ chain′ last�
     → Seen F u labels chain last k → Seen F u labels′ chain′ last′ k′
 seen-is F u a b c d s = rw (a, b, c, d) s
 
-pub seen-none : (F : Column) → Seen F 0 (replicate 241 0) (replicate 241 0) (replicate 1024 0) 0
+pub seen-none : (F : Column) → Seen F 0 (replicate 241 0) (replicate 241 0) (replicate 512 0) 0
 seen-none F = record {
   chained = record {
     labels-room = length-replicate {A = ℕ} 241 0;
     chain-room = length-replicate {A = ℕ} 241 0;
-    last-room = length-replicate {A = ℕ} 1024 0;
+    last-room = length-replicate {A = ℕ} 512 0;
     descends = λ c p h. rw (getD-zeros 241 c) p;
-    heads = λ b. rw (getD-zeros 1024 b) zero-le;
+    heads = λ b. rw (getD-zeros 512 b) zero-le;
   };
   count = classes-none;
-  tells = tells-none F (look labels chain last) (λ y. ap (lookUp labels chain y 241) (getD-zeros 1024 (bucketOf y)) ∙ look-end labels chain y 241);
+  tells = tells-none F (look labels chain last) (λ y. ap (lookUp labels chain y 241) (getD-zeros 512 (bucketOf y)) ∙ look-end labels chain y 241);
 }
   where
     labels : List ℕ
@@ -174,7 +174,7 @@ seen-none F = record {
     chain = replicate 241 0
 
     last : List ℕ
-    last = replicate 1024 0
+    last = replicate 512 0
 
 module _ (F : Column) (u : ℕ) (labels chain last : List ℕ) (k : ℕ) (seen : Seen F u labels chain last k) (h : u < length F) where
   -- a label seen before

@@ -9,7 +9,7 @@ use lib.ListN.{length, getD}
 
 -- the bucket of a label
 unfoldable pub bucketOf : ℕ → ℕ
-bucketOf x = x * 2654435769 % 4294967296 / 4194304
+bucketOf x = x * 2654435769 % 4294967296 / 8388608
 
 -- the class labelled x among c and at most m − 1 classes chained from it, or 0
 unfoldable pub lookUp : List ℕ → List ℕ → ℕ → ℕ → ℕ → ℕ
@@ -28,7 +28,7 @@ Descends chain k = (c : ℕ) → 0 < c → c ≤ k → getD chain c 0 < c
 pub record Chained (labels chain last : List ℕ) (k : ℕ) : Type 0 where
   pub labels-room : length labels ≡ 241
   pub chain-room : length chain ≡ 241
-  pub last-room : length last ≡ 1024
+  pub last-room : length last ≡ 512
   pub descends : Descends chain k
   pub heads : (b : ℕ) → getD last b 0 ≤ k
 

@@ -14,15 +14,22 @@ use limits::PLOTS;
 // Class numbers: 1 to 240, and 0 for none.
 const NUMBERS: usize = PLOTS + 1;
 
-// Buckets that labels are sorted into.
-const BUCKETS: usize = 1024;
+// Buckets that labels are sorted into: equal parts of the numbers below 2^32.
+const BUCKETS: usize = 512;
 
-// The bucket of a label: the first ten binary digits of the fraction of label × 2654435769 / 2^32, where 2654435769 / 2^32 is nearly the
-// golden ratio less 1. Its multiples lie well apart, so labels in even steps, short or long, hardly share a bucket.
+const RANGE: usize = 4294967296;
+
+const BUCKET_SIZE: usize = RANGE / BUCKETS;
+
+// 2^32 divided by the golden ratio. Its multiples, taken modulo 2^32, lie well apart: labels in even steps, short or long, hardly share a
+// bucket.
+const SPREAD: usize = 2654435769;
+
+// The bucket of a label.
 fn bucket(x: Level) -> usize
     ensures { λ r. ⌜ r ≡ bucketOf x ⌝ }
 {
-    x as usize * 2654435769 % 4294967296 / 4194304
+    x as usize * SPREAD % RANGE / BUCKET_SIZE
 }
 
 // The class labelled `x` among those chained from `start`, or 0.
