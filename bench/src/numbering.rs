@@ -1,10 +1,14 @@
 //! How the time of numbering one column grows with plots, for labels that are easy to find again and for hard ones.
 
-use crate::entries::{Trial, NUMBER};
+use crate::entries::{Trial, ALL, NUMBER};
 use crate::series::{Series, BY_PLOTS};
-use crate::sheets::{one_bucket, sheet, Sheet};
-use reference::Level;
+use crate::sheets::{sheet, Sheet};
+use compare::buckets::sharing;
+use reference::{Level, PLOTS};
 use std::time::Duration;
+
+/// Six plot columns and six treatment columns.
+const TWELVE: &str = "p:Aa p:Bb p:Cc p:Dd p:Ee p:Ff t:Gg t:Hh t:Ii t:Jj t:Kk t:Ll";
 
 /// So many different labels, none of them 0.
 type Labels = fn(usize) -> Vec<Level>;
@@ -20,20 +24,32 @@ fn far_apart(count: usize) -> Vec<Level> {
     (0..count as Level).map(|i| 1 + (Level::MAX - 1) / count as Level * i).collect()
 }
 
-/// One column, whose labels come twice: about 128 of 65,536 share a bucket of the library.
-fn column(labels: Labels, plots: usize) -> Sheet {
-    let labels = labels(plots / 2);
-    sheet(&format!("{plots} plots"), "p:Plot", plots, |u, _| labels[u % labels.len()] as usize - 1)
+/// So many labels that share a bucket of the library, none of them 0.
+fn one_bucket(count: usize) -> Vec<Level> {
+    sharing(1).filter(|&label| label != 0).take(count).collect()
 }
 
-/// Prints a table for each kind of labels; whether both agreed on every column.
+/// Columns alike, whose labels come twice: about 128 of 65,536 share a bucket of the library.
+fn alike(labels: Labels, headings: &str, plots: usize) -> Sheet {
+    let labels = labels(plots / 2);
+    sheet(&format!("{plots} plots"), headings, plots, |u, _| labels[u % labels.len()] as usize - 1)
+}
+
+/// One column numbered, on more and more plots.
+fn by_plots(kind: &str, labels: Labels) -> Series {
+    let sheets = BY_PLOTS.into_iter().map(|plots| (plots, alike(labels, "p:Plot", plots))).collect();
+    Series { title: format!("numbering: labels {kind}"), entry: &NUMBER, said: ("classes", Trial::classes), digits: 3, sheets }
+}
+
+/// The printed table of the sheet that takes numbering longest.
+fn whole_table(kind: &str, labels: Labels) -> Series {
+    let title = format!("the printed table of twelve columns alike: labels {kind}");
+    let sheets = vec![(PLOTS, alike(labels, TWELVE, PLOTS))];
+    Series { title, entry: &ALL[0], said: ("members", Trial::members), digits: 2, sheets }
+}
+
+/// Prints tables for each kind of labels; whether both agreed on every column.
 pub fn tables(limit: Duration) -> bool {
-    let series = KINDS.map(|(kind, labels)| Series {
-        title: format!("numbering: labels {kind}"),
-        entry: &NUMBER,
-        said: ("classes", Trial::classes),
-        digits: 3,
-        sheets: BY_PLOTS.into_iter().map(|plots| (plots, column(labels, plots))).collect(),
-    });
-    series.iter().all(|series| series.measure(limit).is_some())
+    let mut series = KINDS.iter().flat_map(|&(kind, labels)| [by_plots(kind, labels), whole_table(kind, labels)]);
+    series.all(|series| series.measure(limit).is_some())
 }

@@ -1,6 +1,5 @@
 //! The sheets that are timed: those of examples/, those of bench/sheets/, and hard shapes that are made here.
 
-use compare::buckets::sharing;
 use reference::Level;
 use std::{fs, io, path::Path};
 
@@ -30,11 +29,6 @@ pub fn sheet(title: &str, headings: &str, plots: usize, level: impl Fn(usize, us
 pub fn crossed(sizes: &[usize], u: usize, f: usize) -> usize {
     let step: usize = sizes[..f].iter().product();
     u / step % sizes[f]
-}
-
-/// So many labels that share a bucket of the library, none of them 0.
-pub fn one_bucket(count: usize) -> Vec<Level> {
-    sharing(1).filter(|&label| label != 0).take(count).collect()
 }
 
 /// Every file of a folder whose name ends so, in the order of the names.
@@ -67,13 +61,6 @@ fn widest() -> Sheet {
             _ => u / treated[f - 6].0 % treated[f - 6].1,
         }
     })
-}
-
-/// Twelve columns alike whose labels, 120 of them with two plots each, share a bucket: the worst for numbering a whole table.
-fn crowded() -> Sheet {
-    let labels = one_bucket(120);
-    let headings = "p:Aa p:Bb p:Cc p:Dd p:Ee p:Ff t:Gg t:Hh t:Ii t:Jj t:Kk t:Ll";
-    sheet("labels that share a bucket", headings, 240, |u, _| labels[u % labels.len()] as usize - 1)
 }
 
 /// Sheets of many members that are accepted.
@@ -113,7 +100,6 @@ fn accepted() -> Vec<Sheet> {
         sheet("squares with parts", "p:Row p:Column p:Cell t:Root t:Soil t:Gain", 240, square),
         sheet("confounded halves", "p:Block p:Half t:Aa t:Bb t:Cc t:Dd", 240, halves),
         sheet("240 single plots", "p:Plot t:Treat", 240, |u, f| if f == 0 { u } else { 239 - u }),
-        crowded(),
     ]
 }
 
