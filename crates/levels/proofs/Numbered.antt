@@ -6,6 +6,7 @@ use Prim.Native.Nat.{ℕ, _+_, _*_, _≤_}
 use native.Mathlib.Omega.{arith}
 use lib.ListN.{length, take, length-append}
 use lib.Seq.{take-all}
+use Rattle.rules.specs.Limits.{mostPlots}
 use Rattle.rules.specs.Factor.{Column, number, classes}
 use Rattle.rules.proofs.Numbering.{length-number}
 use Rattle.rules.proofs.ClassCount.{classes-most}
@@ -19,10 +20,10 @@ pub record Numbered (n : ℕ) (F : Column) (bytes : List ℕ) (k : ℕ) : Type 0
   pub room : n ≤ length bytes
   pub numbers : take n bytes ≡ number F
   pub count : k ≡ classes (number F)
-  pub few : k ≤ 240
+  pub few : k ≤ mostPlots
 
 -- of a column that lies in the table whole
-pub column-numbered : (n c : ℕ) (levels out bytes : List ℕ) (k : ℕ) → n ≤ 240 → 240 * c + n ≤ length levels
+pub column-numbered : (n c : ℕ) (levels out bytes : List ℕ) (k : ℕ) → n ≤ mostPlots → mostPlots * c + n ≤ length levels
     → k ≡ classes (plotsOf (columnAt n levels c)) → bytes ≡ overlay out (number (plotsOf (columnAt n levels c))) → Numbered n (columnAt n levels c) bytes k
 column-numbered n c levels out bytes k small fits counted written = record {
   plots = plots;
@@ -42,7 +43,7 @@ column-numbered n c levels out bytes k small fits counted written = record {
     on = length-number F ∙ plots
 
     whole : plotsOf F ≡ F
-    whole = take-all 240 F (omega (arith, plots, small))
+    whole = take-all mostPlots F (omega (arith, plots, small))
 
     is : bytes ≡ overlay out (number F)
     is = written ∙ ap (λ (X : Column). overlay out (number X)) whole

@@ -9,10 +9,11 @@ use lib.Dec.{eqb}
 use lib.ListN.{length, getD, take, set, replicate, length-set, length-replicate}
 use lib.Seq.{getD-set-same, getD-set-other}
 use borrow.Author.Tests.{eqb-true, eqb-false, eq-eqb, ne-eqb}
+use Rattle.rules.specs.Limits.{mostPlots}
 use Rattle.rules.specs.Factor.{Column, at, number, classes}
 use Rattle.rules.proofs.Numbering.{by-cases}
 use Rattle.rules.proofs.Columns.{Tells, tells-none}
-use Rattle.numbering.specs.Seen.{bucketOf, lookUp, Descends, Chained, look}
+use Rattle.numbering.specs.Seen.{classNumbers, buckets, bucketOf, lookUp, Descends, Chained, look}
 use Rattle.factor.proofs.Table.{stepped-old, stepped-new, getD-zeros, classes-none}
 
 module _ (labels chain : List ℕ) (x : ℕ) where
@@ -58,12 +59,12 @@ module _ (labels chain : List ℕ) (x : ℕ) where
       let r = look-le k d m (getD chain (suc c) 0) (omega arith) in
       rw (look-miss m (suc c) (λ z. omega arith) (eqb-false _ _ e)) (omega arith))
 
-pub bucket-less : (x : ℕ) → bucketOf x < 512
+pub bucket-less : (x : ℕ) → bucketOf x < buckets
 unfolding bucketOf
 bucket-less x = omega arith
 
 -- class k + 1 with the label x is put in front of its bucket
-module _ (labels chain last : List ℕ) (k x : ℕ) (held : Chained labels chain last k) (room : k < 240) where
+module _ (labels chain last : List ℕ) (k x : ℕ) (held : Chained labels chain last k) (room : k < mostPlots) where
   abbrev labels′ : List ℕ
   labels′ = set labels (k + 1) x
 
@@ -104,23 +105,23 @@ module _ (labels chain last : List ℕ) (k x : ℕ) (held : Chained labels chain
 
   pub look-new : look labels′ chain′ last′ x ≡ k + 1
   look-new =
-      ap (lookUp labels′ chain′ x 241) front-here
-      ∙ look-hit labels′ chain′ x 240 (k + 1) (λ z. omega arith) label-here
+      ap (lookUp labels′ chain′ x classNumbers) front-here
+      ∙ look-hit labels′ chain′ x mostPlots (k + 1) (λ z. omega arith) label-here
 
   pub look-other : (y : ℕ) → (y ≡ x → ⊥) → look labels′ chain′ last′ y ≡ look labels chain last y
   look-other y ne =
       by-cases (eqb (bucketOf y) (bucketOf x))
       (λ e. let q : bucketOf y ≡ bucketOf x = eqb-true _ _ e in
       let l : getD last (bucketOf x) 0 ≤ k = held .heads (bucketOf x) in
-      ap (λ (b : ℕ). lookUp labels′ chain′ y 241 (getD last′ b 0)) q
-      ∙ ap (lookUp labels′ chain′ y 241) front-here
-      ∙ look-miss labels′ chain′ y 240 (k + 1) (λ z. omega arith) (λ p. ne (sym p ∙ label-here))
-      ∙ ap (lookUp labels′ chain′ y 240) chain-here
-      ∙ look-stays y 240 (getD last (bucketOf x) 0) l
-      ∙ look-enough labels chain y k (held .descends) 240 241 (getD last (bucketOf x) 0) l (omega arith) (omega arith)
-      ∙ ap (λ (b : ℕ). lookUp labels chain y 241 (getD last b 0)) (sym q))
-      (λ e. ap (lookUp labels′ chain′ y 241) (getD-set-other last (bucketOf x) (bucketOf y) (k + 1) 0 (eqb-false _ _ e))
-      ∙ look-stays y 241 (getD last (bucketOf y) 0) (held .heads (bucketOf y)))
+      ap (λ (b : ℕ). lookUp labels′ chain′ y classNumbers (getD last′ b 0)) q
+      ∙ ap (lookUp labels′ chain′ y classNumbers) front-here
+      ∙ look-miss labels′ chain′ y mostPlots (k + 1) (λ z. omega arith) (λ p. ne (sym p ∙ label-here))
+      ∙ ap (lookUp labels′ chain′ y mostPlots) chain-here
+      ∙ look-stays y mostPlots (getD last (bucketOf x) 0) l
+      ∙ look-enough labels chain y k (held .descends) mostPlots classNumbers (getD last (bucketOf x) 0) l (omega arith) (omega arith)
+      ∙ ap (λ (b : ℕ). lookUp labels chain y classNumbers (getD last b 0)) (sym q))
+      (λ e. ap (lookUp labels′ chain′ y classNumbers) (getD-set-other last (bucketOf x) (bucketOf y) (k + 1) 0 (eqb-false _ _ e))
+      ∙ look-stays y classNumbers (getD last (bucketOf y) 0) (held .heads (bucketOf y)))
 
   descends-new : Descends chain′ (k + 1)
   descends-new c p h =
@@ -154,27 +155,27 @@ pub seen-is : (F : Column) (u : ℕ) {labels chain last labels′ chain′ last�
     → Seen F u labels chain last k → Seen F u labels′ chain′ last′ k′
 seen-is F u a b c d s = rw (a, b, c, d) s
 
-pub seen-none : (F : Column) → Seen F 0 (replicate 241 0) (replicate 241 0) (replicate 512 0) 0
+pub seen-none : (F : Column) → Seen F 0 (replicate classNumbers 0) (replicate classNumbers 0) (replicate buckets 0) 0
 seen-none F = record {
   chained = record {
-    labels-room = length-replicate {A = ℕ} 241 0;
-    chain-room = length-replicate {A = ℕ} 241 0;
-    last-room = length-replicate {A = ℕ} 512 0;
-    descends = λ c p h. rw (getD-zeros 241 c) p;
-    heads = λ b. rw (getD-zeros 512 b) zero-le;
+    labels-room = length-replicate {A = ℕ} classNumbers 0;
+    chain-room = length-replicate {A = ℕ} classNumbers 0;
+    last-room = length-replicate {A = ℕ} buckets 0;
+    descends = λ c p h. rw (getD-zeros classNumbers c) p;
+    heads = λ b. rw (getD-zeros buckets b) zero-le;
   };
   count = classes-none;
-  tells = tells-none F (look labels chain last) (λ y. ap (lookUp labels chain y 241) (getD-zeros 512 (bucketOf y)) ∙ look-end labels chain y 241);
+  tells = tells-none F (look labels chain last) (λ y. ap (lookUp labels chain y classNumbers) (getD-zeros buckets (bucketOf y)) ∙ look-end labels chain y classNumbers);
 }
   where
     labels : List ℕ
-    labels = replicate 241 0
+    labels = replicate classNumbers 0
 
     chain : List ℕ
-    chain = replicate 241 0
+    chain = replicate classNumbers 0
 
     last : List ℕ
-    last = replicate 512 0
+    last = replicate buckets 0
 
 module _ (F : Column) (u : ℕ) (labels chain last : List ℕ) (k : ℕ) (seen : Seen F u labels chain last k) (h : u < length F) where
   -- a label seen before
@@ -183,10 +184,10 @@ module _ (F : Column) (u : ℕ) (labels chain last : List ℕ) (k : ℕ) (seen :
       let t = stepped-old F u h (look labels chain last) (seen .tells) k (seen .count) ne in
       let held = seen .chained in
       let l = held .heads (bucketOf (at F u)) in
-      (record { chained = held; count = t .count; tells = t .tells }, t .here, le-trans (look-le labels chain (at F u) k (held .descends) 241 (getD last (bucketOf (at F u)) 0) l) l)
+      (record { chained = held; count = t .count; tells = t .tells }, t .here, le-trans (look-le labels chain (at F u) k (held .descends) classNumbers (getD last (bucketOf (at F u)) 0) l) l)
 
   -- a new label
-  pub seen-new : k < 240 → look labels chain last (at F u) ≡ 0
+  pub seen-new : k < mostPlots → look labels chain last (at F u) ≡ 0
       → Seen F (u + 1) (set labels (k + 1) (at F u)) (set chain (k + 1) (getD last (bucketOf (at F u)) 0)) (set last (bucketOf (at F u)) (k + 1)) (k + 1) × (k + 1 ≡ at (number F) u)
   seen-new room z =
       let held = seen .chained in

@@ -3,9 +3,18 @@
 use mathlib.Core.Path.{_≡_}
 use mathlib.Core.Bool.{true, false}
 use mathlib.Core.List.{List}
-use Prim.Native.Nat.{ℕ, zero, suc, _*_, _/_, _%_, _<_, _≤_}
+use Prim.Native.Nat.{ℕ, zero, suc, _+_, _*_, _/_, _%_, _<_, _≤_}
 use lib.Dec.{eqb}
 use lib.ListN.{length, getD}
+use Rattle.rules.specs.Limits.{mostPlots}
+
+-- class numbers: 1 to 240, and 0 for none
+abbrev pub classNumbers : ℕ
+classNumbers = mostPlots + 1
+
+-- buckets that labels are sorted into
+abbrev pub buckets : ℕ
+buckets = 512
 
 -- the bucket of a label
 unfoldable pub bucketOf : ℕ → ℕ
@@ -26,12 +35,12 @@ Descends chain k = (c : ℕ) → 0 < c → c ≤ k → getD chain c 0 < c
 
 -- room for 240 classes, of which k are chained; each bucket starts at one of them, or is empty
 pub record Chained (labels chain last : List ℕ) (k : ℕ) : Type 0 where
-  pub labels-room : length labels ≡ 241
-  pub chain-room : length chain ≡ 241
-  pub last-room : length last ≡ 512
+  pub labels-room : length labels ≡ classNumbers
+  pub chain-room : length chain ≡ classNumbers
+  pub last-room : length last ≡ buckets
   pub descends : Descends chain k
   pub heads : (b : ℕ) → getD last b 0 ≤ k
 
 -- the class labelled x, looked up in its bucket
 abbrev pub look : List ℕ → List ℕ → List ℕ → ℕ → ℕ
-look labels chain last x = lookUp labels chain x 241 (getD last (bucketOf x) 0)
+look labels chain last x = lookUp labels chain x classNumbers (getD last (bucketOf x) 0)

@@ -6,7 +6,7 @@ ghost use lib.ListN.{take};
 ghost use Rattle.rules.specs.Limits.{mostPlots};
 ghost use Rattle.rules.specs.Factor.{number, classes};
 ghost use Rattle.factor.specs.Lent.{plotsOf, overlay};
-ghost use Rattle.numbering.specs.Seen.{bucketOf, lookUp, Descends};
+ghost use Rattle.numbering.specs.Seen.{classNumbers, bucketOf, lookUp, Descends};
 use factor::common_plots;
 use limits::Level;
 use limits::PLOTS;
@@ -35,7 +35,7 @@ fn bucket(x: Level) -> usize
 // The class labelled `x` among those chained from `start`, or 0.
 fn look_up(labels: &[Level; NUMBERS], chain: &[u8; NUMBERS], start: usize, x: Level) -> usize
     requires { ⌜ (start ≤ mostPlots) × Descends (now chain) start ⌝ }
-    ensures { λ r. ⌜ r ≡ lookUp (now (labels .entry)) (now (chain .entry)) x 241 start ⌝ }
+    ensures { λ r. ⌜ r ≡ lookUp (now (labels .entry)) (now (chain .entry)) x classNumbers start ⌝ }
 {
     let mut c = start;
     while c != 0 {
@@ -48,7 +48,8 @@ fn look_up(labels: &[Level; NUMBERS], chain: &[u8; NUMBERS], start: usize, x: Le
 }
 
 // Numbers the first `stop` plots of a column of levels by first appearance, in one walk that also counts their classes; answers how many
-// there are. Class c has its label and the class before it in its bucket; `last` has the latest class of each bucket.
+// there are. Class c has its label and the class before it in its bucket; `last` has the latest class of each bucket. C can call it too, so
+// that numbering is compared and timed alone.
 #[no_mangle]
 pub extern "C" fn number_levels(levels: &[Level], stop: usize, out: &mut [u8; PLOTS]) -> usize
     ensures answer { λ r. ⌜ r ≡ classes (take stop (plotsOf (now (levels .entry)))) ⌝ }

@@ -8,7 +8,7 @@ pub fn call(run: &mut Run) {
     let (at, plots) = (run.chosen >> 20, run.plots);
     let Lent { levels, own, .. } = &mut *run.lent;
     let cells = &levels.levels()[PLOTS * column(run.columns, run.chosen >> 32)..];
-    let cells = if at.is_multiple_of(3) { cells } else { &cells[..plots.min(PLOTS)] };
+    let cells = if at % 3 == 0 { cells } else { &cells[..plots.min(PLOTS)] };
     let stop = match at / 3 % 8 {
         0 => 0,
         1 => plots + 1,

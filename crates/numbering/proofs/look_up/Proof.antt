@@ -5,14 +5,14 @@ use Prim.Native.Nat.{suc, _≤_, _<_}
 use native.Mathlib.Omega.{arith}
 use denote.Ref.{now}
 use lib.ListN.{getD}
-use Rattle.numbering.specs.Seen.{lookUp}
+use Rattle.numbering.specs.Seen.{classNumbers, lookUp}
 use Rattle.numbering.proofs.Chain.{look-hit, look-miss, look-end, look-enough}
 use Rattle.numbering.proofs.look_up.Statement.{statement}
 use Rattle.numbering.proofs.look_up.Tie as tie
 
 abbrev Inv-loop : tie.InvT-loop
 Inv-loop labels chain start x c₀ c =
-    (c ≤ start) × (lookUp labels chain x (suc c) c ≡ lookUp labels chain x 241 start)
+    (c ≤ start) × (lookUp labels chain x (suc c) c ≡ lookUp labels chain x classNumbers start)
 
 abbrev μ-loop : tie.MeasureT-loop
 μ-loop labels chain start x c₀ c = c
@@ -20,7 +20,7 @@ abbrev μ-loop : tie.MeasureT-loop
 loop-holds : tie.Need-loop-holds Inv-loop μ-loop
 loop-holds c =
     let s = c .args in
-    (omega arith, look-enough (now (s .labels)) (now (s .chain)) (s .x) (s .start) (c .pre .1) (suc (s .start)) 241 (s .start) (omega arith) (omega arith) (omega arith))
+    (omega arith, look-enough (now (s .labels)) (now (s .chain)) (s .x) (s .start) (c .pre .1) (suc (s .start)) classNumbers (s .start) (omega arith) (omega arith) (omega arith))
 
 mul-if1 : tie.Need-mul-if1 Inv-loop μ-loop
 mul-if1 c = omega arith

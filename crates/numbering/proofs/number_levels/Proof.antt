@@ -7,10 +7,11 @@ use native.Mathlib.Omega.{arith}
 use borrow.Author.Needs.{needs}
 use denote.Ref.{now}
 use lib.ListN.{length, getD, set, length-set}
+use Rattle.rules.specs.Limits.{mostPlots}
 use Rattle.rules.specs.Factor.{at, number, classes}
 use Rattle.rules.proofs.Numbering.{length-number}
 use Rattle.factor.proofs.Fill.{filled, filled-step}
-use Rattle.numbering.specs.Seen.{look, lookUp}
+use Rattle.numbering.specs.Seen.{classNumbers, look, lookUp}
 use Rattle.numbering.proofs.Written.{walked, walked-plots, filled-number}
 use Rattle.numbering.proofs.Chain.{bucket-less, Seen, seen-is, seen-none, seen-old, seen-new}
 use Rattle.numbering.proofs.number_levels.Statement.{statement}
@@ -18,7 +19,7 @@ use Rattle.numbering.proofs.number_levels.Tie as tie
 
 abbrev Inv-loop : tie.InvT-loop
 Inv-loop levels stop n room₀ labels₀ chain₀ last₀ k₀ u₀ room labels chain last k u =
-    (u ≤ n) × (k ≤ u) × (room ≡ filled room₀ (number levels) u) × (length room ≡ 240) × Seen levels u labels chain last k
+    (u ≤ n) × (k ≤ u) × (room ≡ filled room₀ (number levels) u) × (length room ≡ mostPlots) × Seen levels u labels chain last k
 
 abbrev μ-loop : tie.MeasureT-loop
 μ-loop levels stop n room₀ labels₀ chain₀ last₀ k₀ u₀ room labels chain last k u = n - u
@@ -87,7 +88,7 @@ stepped c =
     let h : u < length levels = omega arith in
     let e = c .before .before .before .before .before .bucket .ensures in
     let found : c .before .before .look-up .result ≡ look labels chain last (at levels u) =
-    c .before .before .look-up .ensures ∙ ap (λ (i : ℕ). lookUp labels chain (at levels u) 241 (getD last i 0)) e in
+    c .before .before .look-up .ensures ∙ ap (λ (i : ℕ). lookUp labels chain (at levels u) classNumbers (getD last i 0)) e in
     ⊎-elim
     (λ w. let t = seen-new levels u labels chain last k (b .loop .inv .4) h (omega arith) (sym found ∙ w .0 .taken) in (
       seen-is levels (u + 1) (w .1) (w .2 ∙ ap (λ (i : ℕ). set chain (k + 1) (getD last i 0)) e) (w .3 ∙ ap (λ (i : ℕ). set last i (k + 1)) e) (w .4) (t .0),
