@@ -16,8 +16,7 @@ use Rattle.rules.specs.Factor.{Column, number, infimum, universal}
 use Rattle.rules.specs.Family.{Family, _∈_, columnsFrom, membersOf, insertAll}
 use Rattle.rules.specs.Closing.{choices, infimumAll, treatmentGenerators, onlySupremum, tooMany, family, close, given, Chosen, none-of, skipping, taking}
 use Rattle.rules.proofs.Numbering.{by-cases, length-number, number-number, length-infimum, number-infimum}
-use Rattle.rules.proofs.Supremum.{infimum-equivalent, number-equivalent, equivalent-refl}
-use Rattle.rules.proofs.Bounds.{numbered-equal}
+use Rattle.rules.proofs.Bounds.{infimum-number}
 use Rattle.rules.proofs.ClassCount.{infimum-universal}
 use Rattle.rules.proofs.Extremes.{length-universal, number-universal}
 use Rattle.rules.proofs.Buffer.{put, length-put, length-members, member-is, members-add}
@@ -195,16 +194,6 @@ doubled-next m (suc c) t s z h l =
 
 -- ---- infima
 
--- the numbering of the column is of no matter
-pub infimum-number : (T X : Column) → length T ≡ length X → infimum (number T) X ≡ infimum T X
-infimum-number T X l =
-    sym (number-infimum (number T) X (length-number T ∙ l))
-    ∙ numbered-equal (length X) (infimum (number T) X) (infimum T X)
-    (length-infimum (number T) X (length-number T ∙ l) ∙ length-number T ∙ l)
-    (length-infimum T X l ∙ l)
-    (infimum-equivalent (length X) (length-number T ∙ l) refl l refl (number-equivalent T l) equivalent-refl)
-    ∙ number-infimum T X l
-
 -- the elements of a list of values
 getD-map : {A : Type 0} {B : Type 0} (f : A → B) (l : List A) (i : ℕ) (d : A) (e : B) → i < length l → getD (map f l) i e ≡ f (getD l i d)
 getD-map f [] i d e h = absurd (not-suc-le-zero h)
@@ -286,7 +275,7 @@ module _ (n : ℕ) (infima lengths : List ℕ) (m : ℕ) (Cs : List (List Column
 
     is : F ≡ infimumAll n (T ∷ C)
     unfolding infimumAll
-    is = infimum-number T (columnAt n infima e) (l ∙ sym on-n) ∙ ap (infimum T) (infimum-at e h)
+    is = infimum-number n T (columnAt n infima e) l on-n ∙ ap (infimum T) (infimum-at e h)
 
     -- one infimum more
     pub infima-more : Infima n (paste infima (240 * m) F n) (set lengths m (getD lengths e 0 + 1)) (m + 1) (Cs ++ (T ∷ C) ∷ [])

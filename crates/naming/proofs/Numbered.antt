@@ -8,12 +8,12 @@ use native.Mathlib.Nat.{zero-add}
 use native.Mathlib.Omega.{arith}
 use lib.Dec.{ltb}
 use lib.ListN.{length, getD}
-use Rattle.rules.specs.Factor.{Column, Equivalent, every, finer, coarser, number, numbering, infimum}
+use Rattle.rules.specs.Factor.{Column, every, finer, coarser, number, numbering, infimum}
 use Rattle.rules.specs.Family.{alike}
 use Rattle.rules.specs.Lists.{passingFrom}
 use Rattle.rules.specs.Names.{name-infimum, equivalentColumn, infimumAbove, columnAbove, hides, listed, nameByInfimum, nameByColumn}
-use Rattle.rules.proofs.Numbering.{by-cases, length-number, number-same, number-number, number-infimum}
-use Rattle.rules.proofs.Bounds.{numbered-equal, length-infimum′, infimum-same′}
+use Rattle.rules.proofs.Numbering.{by-cases, number-same, number-number}
+use Rattle.rules.proofs.Bounds.{infimum-number, length-infimum′}
 use Rattle.rules.proofs.Bits.{every-ext}
 use Rattle.rules.proofs.Classes.{finer-test}
 use Rattle.rules.proofs.Extremes.{length-universal}
@@ -65,25 +65,6 @@ module _ (n : ℕ) (F : Column) where
 
   finer-both : (G : Column) → length F ≡ n → length G ≡ n → finer n (number F) (number G) ≡ finer n F G
   finer-both G lF lG = finer-left (number G) lF ∙ finer-right G lG
-
-  infimum-number : (G : Column) → length F ≡ n → length G ≡ n → infimum (number F) G ≡ infimum F G
-  infimum-number G lF lG =
-      sym (number-infimum (number F) G (lN ∙ sym lG))
-      ∙ numbered-equal n (infimum (number F) G) (infimum F G) (length-infimum′ n (number F) G lN lG) (length-infimum′ n F G lF lG) same
-      ∙ number-infimum F G (lF ∙ sym lG)
-    where
-      lN : length (number F) ≡ n
-      lN = length-number F ∙ lF
-
-      same : Equivalent n (infimum (number F) G) (infimum F G)
-      same = record {
-        to = λ u v hu hv s.
-            let p = infimum-same′ n (number F) G lN lG u v hu hv .0 s in
-            infimum-same′ n F G lF lG u v hu hv .1 (number-same F u v (rw lF hu) (rw lF hv) .0 (p .0), p .1);
-        from = λ u v hu hv s.
-            let p = infimum-same′ n F G lF lG u v hu hv .0 s in
-            infimum-same′ n (number F) G lN lG u v hu hv .1 (number-same F u v (rw lF hu) (rw lF hv) .1 (p .0), p .1);
-      }
 
 -- ---- the rules' steps
 

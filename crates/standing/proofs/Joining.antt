@@ -41,10 +41,6 @@ pub spread-at : (t : List ℕ) (F : Column) (u : ℕ) → u < length F → at (s
 unfolding spread
 spread-at t F u h = at-map (at t) F u h
 
--- where each label is its own entry, the entries are the column
-pub spread-own : (t : List ℕ) (F : Column) → Own F t → spread t F ≡ F
-spread-own t F own = ext-getD 0 (spread t F) F (length-spread t F) (λ u h. spread-at t F u (rw (length-spread t F) at h) ∙ own u (rw (length-spread t F) at h))
-
 -- ---- relabelling a table
 
 -- the label that x gets where a becomes b
@@ -332,10 +328,6 @@ module _ (t : List ℕ) (F : Column) (one : OneClass t F) where
       ∙ classes-universal (length F) h
 
 -- ---- numbers by label
-
--- the labels of a column stand in itself
-pub among-self : (F : Column) → Among F F
-among-self F u h = record { at-place = u; less = h; label = refl }
 
 module _ (t : List ℕ) (X : Column) (i : ℕ) (h : i < length X) where
   -- one listed label more

@@ -42,16 +42,6 @@ pub(crate) fn number_joins(
     k
 }
 
-// Numbers the classes of a column whose labels are below `top`; answers how many there are.
-pub(crate) fn number_column(f: &[u8], top: usize, out: &mut [u8; PLOTS]) -> usize
-    requires { ⌜ (length (now f) ≤ mostPlots) × (top ≤ 256) × Below top (now f) ⌝ }
-    ensures answer { λ r. ⌜ r ≡ classes (now (f .entry)) ⌝ }
-    ensures numbers { λ _. ⌜ now (out .exit) ≡ overlay (now (out .entry)) (number (now (f .entry))) ⌝ }
-{
-    let table = own_labels(least_label(f), top);
-    number_joins(&table, f, f, false, out)
-}
-
 // A table over labels: each label from `low` on and below `top` is its own entry. Label 0 and those from `top` on have the entry `low`,
 // so that all entries of a column numbered from 1 may come to be one.
 fn own_labels(low: u8, top: usize) -> [u8; 256]

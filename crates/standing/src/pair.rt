@@ -13,9 +13,9 @@ use crate::cells::even_cells;
 use crate::cells::product;
 use crate::cells::sum_cells;
 use crate::join::join_labels;
-use crate::join::number_column;
 use crate::join::number_joins;
 use crate::labels::past_labels;
+use crate::many::infimum_many;
 use crate::many::number_many;
 use crate::meet::number_cells;
 use factor::common_plots;
@@ -164,7 +164,8 @@ pub fn crossing_of(f: &[u8], g: &[u8], above: &mut [u8; PLOTS]) -> Crossing
 }
 
 // The same for two columns of one length; the labels of `f` are below `a`, those of `g` below `w`. Of nested factors the one with more
-// labels is the finer, unless labels are left out; that it is finer a walk tells which ends at the first plot that denies it.
+// labels is the finer, unless labels are left out; that it is finer a walk tells which ends at the first plot that denies it. The supremum
+// is then `f`, numbered: its infimum with itself.
 fn crossing_whole(f: &[u8], g: &[u8], a: usize, w: usize, above: &mut [u8; PLOTS]) -> Crossing
     requires { ⌜ InRanges a w (now f) (now g) ⌝ }
     ensures supremum { λ r. ⌜ r .supremum ≡ classes (supremum (now (f .entry)) (now (g .entry))) ⌝ }
@@ -172,7 +173,7 @@ fn crossing_whole(f: &[u8], g: &[u8], a: usize, w: usize, above: &mut [u8; PLOTS
     ensures above { λ _. ⌜ now (above .exit) ≡ overlay (now (above .entry)) (supremum (now (f .entry)) (now (g .entry))) ⌝ }
 {
     if finer(g, f) {
-        let k = number_column(f, a, above);
+        let k = infimum_many(f, f, a, above);
         return Crossing {
             supremum: k,
             orthogonal: true,

@@ -9,14 +9,13 @@ use denote.Ref.{now}
 use lib.ListN.{length, take, replicate}
 use lib.Seq.{length-take-le}
 use Rattle.rules.specs.Factor.{Column, number, classes, infimum}
-use Rattle.rules.proofs.Bounds.{length-infimum′}
+use Rattle.rules.proofs.Bounds.{infimum-number, length-infimum′}
 use Rattle.rules.proofs.Numbering.{length-number}
 use Rattle.factor.specs.Lent.{onCommon, overlay}
 use Rattle.design.specs.State.{columnAt}
 use Rattle.design.proofs.Common.{common-front}
 use Rattle.factor.proofs.Lent.{take-overlay}
 use Rattle.levels.proofs.Numbered.{Numbered, column-numbered}
-use Rattle.design.proofs.Choosing.{infimum-number}
 use Rattle.design.proofs.replicates.meet_level.Statement.{statement}
 use Rattle.design.proofs.replicates.meet_level.Tie as tie
 
@@ -66,7 +65,7 @@ returns c =
     let zeros : List ℕ = replicate 240 0 in
     let same : onCommon infimum (take n (w .column-numbers .last .1 .1 .1 .0)) M ≡ infimum F (take n M) =
     ap (λ (X : Column). onCommon infimum X M) (made w .numbers) ∙ common-front n (number F) M (s .pre .0) (length-is w) lM
-    ∙ infimum-number F (take n M) (lF ∙ sym front) in (
+    ∙ infimum-number n F (take n M) lF front in (
       c .infimum .ensures .0 ∙ ap classes same,
       ap (take n) (c .infimum .ensures .1) ∙ ap (λ (X : Column). take n (overlay zeros X)) same ∙ take-overlay zeros (infimum F (take n M)) n (length-infimum′ n F (take n M) lF front),
     )

@@ -7,7 +7,9 @@ use native.Mathlib.Nat.{mul-le-mul}
 use borrow.Author.Needs.{needs}
 use denote.Ref.{now}
 use lib.ListN.{length}
-use Rattle.rules.specs.Factor.{finer}
+use Rattle.rules.specs.Factor.{finer, classes}
+use Rattle.rules.proofs.Bounds.{infimum-self}
+use Rattle.rules.proofs.Columns.{classes-number}
 use Rattle.factor.specs.Lent.{overlay}
 use Rattle.factor.proofs.Lent.{finer-common}
 use Rattle.standing.proofs.Nesting.{nested-supremum, supremum-classes, nested-true}
@@ -17,8 +19,8 @@ use Rattle.standing.proofs.pair.crossing_whole.Tie as tie
 finer-requires : tie.Need-finer-requires
 finer-requires c κs = search needs
 
-number-column-requires : tie.Need-number-column-requires
-number-column-requires c κs = search needs
+infimum-many-requires : tie.Need-infimum-many-requires
+infimum-many-requires c κs = let s = c .before .before .before .before .before in (s .pre .0, refl, s .pre .2, s .pre .4)
 
 returns : tie.Need-returns
 returns c =
@@ -27,11 +29,12 @@ returns c =
     let s = a .before .before .before in
     let f = now (s .args .f) in
     let g = now (s .args .g) in
+    let self = infimum-self (length f) f refl in
     let nested : finer (length f) g f ≡ true = sym (finer-common (length f) g f (s .pre .0) (s .pre .1) refl) ∙ sym (a .finer .ensures) ∙ t .if1 .taken in (
-      c .number-column .ensures .0 ∙ supremum-classes f g (s .pre .1) nested,
+      c .infimum-many .ensures .0 ∙ ap classes self ∙ classes-number f ∙ supremum-classes f g (s .pre .1) nested,
       (
         nested-true f g (s .pre .1) nested,
-        c .number-column .ensures .1 ∙ ap (overlay (now (s .args .above))) (sym (nested-supremum f g (s .pre .1) nested)),
+        c .infimum-many .ensures .1 ∙ ap (overlay (now (s .args .above))) (self ∙ sym (nested-supremum f g (s .pre .1) nested)),
       ),
     )
 
@@ -71,7 +74,7 @@ crossing-whole-spec =
     tie.close
     (tie.spec
     finer-requires
-    number-column-requires
+    infimum-many-requires
     returns
     mul-cells
     slice-aggregate-crossing-cells
