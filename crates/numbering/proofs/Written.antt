@@ -18,7 +18,7 @@ module _ (F : Column) (stop : ℕ) where
   abbrev pub walked : ℕ
   walked = min mostPlots (min (length F) stop)
 
-  -- they are the first `stop` of at most mostPlots
+  -- they are the first `stop` of at most 240
   pub walked-plots : take walked F ≡ take stop (plotsOf F)
   walked-plots =
       let e : min stop (length (take mostPlots F)) ≡ walked = rw length-take (omega arith) in
