@@ -17,8 +17,10 @@ use Rattle.factor.proofs.Lent.{length-part, take-overlay}
 -- the first n bytes are the numbers of F, which has k classes
 pub record Numbered (n : ℕ) (F : Column) (bytes : List ℕ) (k : ℕ) : Type 0 where
   pub plots : length F ≡ n
+  pub numbered-plots : length (number F) ≡ n
   pub room : n ≤ length bytes
   pub numbers : take n bytes ≡ number F
+  pub lent-plots : length (take n bytes) ≡ n
   pub count : k ≡ classes (number F)
   pub few : k ≤ mostPlots
 
@@ -27,8 +29,10 @@ pub column-numbered : (n c : ℕ) (levels out bytes : List ℕ) (k : ℕ) → n 
     → k ≡ classes (plotsOf (columnAt n levels c)) → bytes ≡ overlay out (number (plotsOf (columnAt n levels c))) → Numbered n (columnAt n levels c) bytes k
 column-numbered n c levels out bytes k small fits counted written = record {
   plots = plots;
+  numbered-plots = on;
   room = rw (is, length-append) (omega (arith, on));
-  numbers = ap (take n) is ∙ take-overlay out (number F) n on;
+  numbers = first;
+  lent-plots = ap length first ∙ on;
   count = counted ∙ ap classes whole ∙ sym (classes-number F);
   few = omega (arith, counted ∙ ap classes whole, classes-most F, plots);
 }
@@ -47,3 +51,6 @@ column-numbered n c levels out bytes k small fits counted written = record {
 
     is : bytes ≡ overlay out (number F)
     is = written ∙ ap (λ (X : Column). overlay out (number X)) whole
+
+    first : take n bytes ≡ number F
+    first = ap (take n) is ∙ take-overlay out (number F) n on

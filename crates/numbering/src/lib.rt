@@ -12,7 +12,7 @@ use limits::Level;
 use limits::PLOTS;
 
 // Class numbers: 1 to 240, and 0 for none.
-const NUMBERS: usize = PLOTS + 1;
+const CLASS_NUMBERS: usize = PLOTS + 1;
 
 // Buckets that labels are sorted into: equal parts of the numbers below 2^32.
 const BUCKETS: usize = 512;
@@ -33,7 +33,12 @@ fn bucket(x: Level) -> usize
 }
 
 // The class labelled `x` among those chained from `start`, or 0.
-fn look_up(labels: &[Level; NUMBERS], chain: &[u8; NUMBERS], start: usize, x: Level) -> usize
+fn look_up(
+    labels: &[Level; CLASS_NUMBERS],
+    chain: &[u8; CLASS_NUMBERS],
+    start: usize,
+    x: Level,
+) -> usize
     requires { ⌜ (start ≤ mostPlots) × Descends (now chain) start ⌝ }
     ensures { λ r. ⌜ r ≡ lookUp (now (labels .entry)) (now (chain .entry)) x classNumbers start ⌝ }
 {
@@ -57,8 +62,8 @@ pub extern "C" fn number_levels(levels: &[Level], stop: usize, out: &mut [u8; PL
 {
     let n = common_plots(levels.len(), stop);
     let room: &mut [u8] = out;
-    let mut labels: [Level; NUMBERS] = [0; NUMBERS];
-    let mut chain = [0u8; NUMBERS];
+    let mut labels: [Level; CLASS_NUMBERS] = [0; CLASS_NUMBERS];
+    let mut chain = [0u8; CLASS_NUMBERS];
     let mut last = [0u8; BUCKETS];
     let mut k: usize = 0;
     for u in 0..n {

@@ -1,14 +1,14 @@
 -- `place_column` meets its contract: the column that is placed is the numbered column of the table.
 -- Assumes nothing.
-use mathlib.Core.Path.{_≡_, sym, ap, _∙_, subst}
+use mathlib.Core.Path.{sym, ap, _∙_, subst}
 use mathlib.Core.List.{List, [], _∷_, _++_}
 use Prim.Native.Nat.{ℕ, _+_, _≤_}
 use native.Mathlib.Omega.{arith}
 use borrow.Author.Needs.{needs}
 use denote.Ref.{now}
-use lib.ListN.{length, take, replicate}
+use lib.ListN.{take, replicate}
 use Rattle.rules.specs.Factor.{Column, number, classes}
-use Rattle.rules.proofs.Numbering.{length-number, number-number}
+use Rattle.rules.proofs.Numbering.{number-number}
 use Rattle.levels.proofs.Numbered.{Numbered, column-numbered}
 use Rattle.design.specs.State.{columnAt, Held, Begun}
 use Rattle.design.proofs.Start.{after-placed, begun-more, placed-on, held-on}
@@ -34,10 +34,6 @@ made w =
     column-numbered (s .args .n) (s .args .c) (now (s .args .levels)) zeros (w .column-numbers .last .1 .1 .1 .0) (w .column-numbers .result)
     (s .pre .0 .most) (omega (arith, s .pre .0 .most, s .pre .2)) (w .column-numbers .ensures .0) (w .column-numbers .ensures .1)
 
--- it is on n plots
-length-is : (w : tie.After-column-numbers) → length (column w) ≡ start w .args .n
-length-is w = length-number (entered w) ∙ made w .plots
-
 column-numbers-requires : tie.Need-column-numbers-requires
 column-numbers-requires c κs = search needs
 
@@ -45,7 +41,7 @@ array-share-prefix-column : tie.Need-array-share-prefix-column
 array-share-prefix-column c = made (c .before .before) .room
 
 slice-aggregate-place : tie.Need-slice-aggregate-place
-slice-aggregate-place c = sym (ap length (made (c .before .before .before) .numbers) ∙ length-is (c .before .before .before))
+slice-aggregate-place c = sym (made (c .before .before .before) .lent-plots)
 
 cast-place : tie.Need-cast-place
 cast-place c = omega (arith, made (c .before .before .before) .few)
@@ -54,7 +50,7 @@ place-requires : tie.Need-place-requires
 place-requires c κs =
     let w = c .before .before .before in
     let s = start w in (
-      held-on (s .args .n) (now (s .args .store)) (now (s .args .counts)) (s .args .size) (take (s .args .n) (w .column-numbers .last .1 .1 .1 .0)) (column w) (made w .numbers) (length-is w) (s .pre .0),
+      held-on (s .args .n) (now (s .args .store)) (now (s .args .counts)) (s .args .size) (take (s .args .n) (w .column-numbers .last .1 .1 .1 .0)) (column w) (made w .numbers) (made w .numbered-plots) (s .pre .0),
       made w .count ∙ ap classes (sym (made w .numbers)),
     )
 
@@ -69,7 +65,7 @@ returns c =
     let q = c .before .before .before in
     let w = q .before .before .before .before in
     let s = start w in
-    let p = placed-on (s .args .n) (now (s .args .store)) (s .args .size) (take (s .args .n) (w .column-numbers .last .1 .1 .1 .0)) (column w) (q .place .result) (q .place .last .0) (q .place .last .1 .0) (made w .numbers) (length-is w) (q .place .ensures) in
+    let p = placed-on (s .args .n) (now (s .args .store)) (s .args .size) (take (s .args .n) (w .column-numbers .last .1 .1 .1 .0)) (column w) (q .place .result) (q .place .last .0) (q .place .last .1 .0) (made w .numbers) (made w .numbered-plots) (q .place .ensures) in
     let a = after-placed (s .args .n) (now (s .args .store)) (now (s .args .counts)) (s .args .size) (s .pre .0) (s .pre .1) (column w) (q .place .result) (q .place .last .0) (q .place .last .1 .0) p in
     let e = c .grown .ensures in (
       (subst (λ (k : ℕ). Held (s .args .n) (q .place .last .0) (q .place .last .1 .0) k) (sym e) (a .held), subst (λ (k : ℕ). k ≤ s .args .size + 1) (sym e) (a .most)),

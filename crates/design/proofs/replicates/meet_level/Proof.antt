@@ -10,7 +10,6 @@ use lib.ListN.{length, take, replicate}
 use lib.Seq.{length-take-le}
 use Rattle.rules.specs.Factor.{Column, number, classes, infimum}
 use Rattle.rules.proofs.Bounds.{infimum-number, length-infimum′}
-use Rattle.rules.proofs.Numbering.{length-number}
 use Rattle.factor.specs.Lent.{onCommon, overlay}
 use Rattle.design.specs.State.{columnAt}
 use Rattle.design.proofs.Common.{common-front}
@@ -35,10 +34,6 @@ made w =
     column-numbered (s .args .n) (s .args .c) (now (s .args .levels)) zeros (w .column-numbers .last .1 .1 .1 .0) (w .column-numbers .result)
     (s .pre .0) (omega (arith, s .pre .0, s .pre .1)) (w .column-numbers .ensures .0) (w .column-numbers .ensures .1)
 
--- it is on n plots
-length-is : (w : tie.After-column-numbers) → length (number (column w)) ≡ start w .args .n
-length-is w = length-number (column w) ∙ made w .plots
-
 column-numbers-requires : tie.Need-column-numbers-requires
 column-numbers-requires c κs = search needs
 
@@ -46,7 +41,7 @@ array-share-prefix-column : tie.Need-array-share-prefix-column
 array-share-prefix-column c = made c .room
 
 slice-aggregate-infimum : tie.Need-slice-aggregate-infimum
-slice-aggregate-infimum c = sym (ap length (made (c .before) .numbers) ∙ length-is (c .before))
+slice-aggregate-infimum c = sym (made (c .before) .lent-plots)
 
 infimum-requires : tie.Need-infimum-requires
 infimum-requires c κs = search needs
@@ -64,7 +59,7 @@ returns c =
     let front = length-take-le n M (omega arith) in
     let zeros : List ℕ = replicate 240 0 in
     let same : onCommon infimum (take n (w .column-numbers .last .1 .1 .1 .0)) M ≡ infimum F (take n M) =
-    ap (λ (X : Column). onCommon infimum X M) (made w .numbers) ∙ common-front n (number F) M (s .pre .0) (length-is w) lM
+    ap (λ (X : Column). onCommon infimum X M) (made w .numbers) ∙ common-front n (number F) M (s .pre .0) (made w .numbered-plots) lM
     ∙ infimum-number n F (take n M) lF front in (
       c .infimum .ensures .0 ∙ ap classes same,
       ap (take n) (c .infimum .ensures .1) ∙ ap (λ (X : Column). take n (overlay zeros X)) same ∙ take-overlay zeros (infimum F (take n M)) n (length-infimum′ n F (take n M) lF front),

@@ -5,11 +5,10 @@ use mathlib.Core.List.{List}
 use Prim.Native.Nat.{ℕ, _+_, _-_, _*_, _≤_}
 use native.Mathlib.Omega.{arith}
 use denote.Ref.{now}
-use lib.ListN.{length, take, replicate}
+use lib.ListN.{length, replicate}
 use borrow.Author.Needs.{needs}
 use Rattle.rules.specs.Factor.{Column, number}
 use Rattle.rules.specs.Family.{membersOf}
-use Rattle.rules.proofs.Numbering.{length-number}
 use Rattle.factor.specs.Lent.{columnAt}
 use Rattle.levels.proofs.Numbered.{Numbered, column-numbered}
 use Rattle.decimal.specs.Writing.{written}
@@ -59,14 +58,11 @@ module _ (c : tie.After-column-numbers Inv-loop μ-loop) where
       column-numbered n place levels zeros column (c .column-numbers .result) (c .before .before .before .before .before .before .pre .0 .few-plots) inside
       (c .column-numbers .ensures .0) (c .column-numbers .ensures .1)
 
-  column-length : length (take n column) ≡ n
-  column-length = ap length (made .numbers) ∙ length-number (columnAt n levels place) ∙ made .plots
-
 array-share-prefix-column : tie.Need-array-share-prefix-column Inv-loop μ-loop
 array-share-prefix-column c = made c .room
 
 slice-aggregate-write-bytes : tie.Need-slice-aggregate-write-bytes Inv-loop μ-loop
-slice-aggregate-write-bytes c = sym (column-length (c .before))
+slice-aggregate-write-bytes c = sym (made (c .before) .lent-plots)
 
 mul-write-bytes : tie.Need-mul-write-bytes Inv-loop μ-loop
 mul-write-bytes c = omega (arith, c .before .before .before .before .before .before .before .before .pre .0 .few)
