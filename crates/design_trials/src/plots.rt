@@ -120,13 +120,13 @@ pub(crate) fn odd() {
     show(&levels, 4, 4);
 }
 
-// The largest levels.
+// The largest level, and that of its lower 16 bits.
 pub(crate) fn large() {
     let mut levels: [Level; LEVELS] = [0; LEVELS];
-    levels[0] = 65535;
-    levels[1] = 65535;
-    levels[2] = 65534;
-    levels[3] = 65534;
+    levels[0] = 4294967295;
+    levels[1] = 4294967295;
+    levels[2] = 65535;
+    levels[3] = 65535;
     show(&levels, 4, 1);
     show(&levels, 1, 1);
 }

@@ -20,9 +20,9 @@ pub const TEXT: usize = 32768;
 // fields of a line
 pub const FIELDS: usize = 12;
 // a level of a sheet: only a label
-pub type Level = u16;
+pub type Level = u32;
 // the highest level, as a number that is read digit by digit
-pub const LEVEL: u32 = 65535;
+pub const LEVEL: u64 = 4294967295;
 
 // a code for two labels of a byte each, which is numbered like a level
 pub type PairCode = Level;

@@ -1,5 +1,6 @@
 // Names members of small families, and runs into each refusal.
 use libc::STDOUT_FILENO;
+use limits::Level;
 use naming::Kind;
 use naming::Named;
 
@@ -26,7 +27,7 @@ fn trial(
     digits: &[u8],
     kind: Kind,
 ) {
-    let mut table = [1u16; 2880];
+    let mut table: [Level; 2880] = [1; 2880];
     let mut family = [1u8; 7680];
     tables::levels(&mut table, plots, levels);
     tables::members(&mut family, plots, digits);
@@ -39,7 +40,7 @@ fn trial(
 // Names the member at one place.
 fn member(
     text: &[u8],
-    table: &[u16; 2880],
+    table: &[Level; 2880],
     family: &[u8; 7680],
     plots: usize,
     size: usize,
@@ -231,14 +232,14 @@ fn sizes() {
 
 // One place of a family whose members have one plot.
 fn placed(size: usize, place: usize) {
-    let table = [1u16; 2880];
+    let table: [Level; 2880] = [1; 2880];
     let family = [1u8; 7680];
     member(b"p:Hut\n", &table, &family, 1, size, Kind::Plot, place);
 }
 
 // A name buffer of 95 bytes.
 fn short_buffer() {
-    let table = [1u16; 2880];
+    let table: [Level; 2880] = [1; 2880];
     let family = [1u8; 7680];
     let mut name = [46u8; 95];
     let answer = naming::member_name(b"p:Hut\n", &table, &family, 1, 1, Kind::Plot, 1, &mut name);

@@ -1,4 +1,5 @@
 // Families and level tables written as digits, one label a plot.
+use limits::Level;
 
 // One label of member `i`, from 0; nothing past the buffer.
 fn put(family: &mut [u8; 7680], i: usize, u: usize, x: usize) {
@@ -12,14 +13,14 @@ fn put(family: &mut [u8; 7680], i: usize, u: usize, x: usize) {
 }
 
 // One level of column `c`, from 0; nothing past the table.
-fn put_level(table: &mut [u16; 2880], c: usize, u: usize, x: usize) {
+fn put_level(table: &mut [Level; 2880], c: usize, u: usize, x: usize) {
     if 12 <= c {
         return;
     }
     if 240 <= u {
         return;
     }
-    table[240 * c + u] = (x % 256) as u16;
+    table[240 * c + u] = (x % 256) as Level;
 }
 
 // Members of `n` plots one after the other. The digits after 9 are `:`, `;` and on.
@@ -33,7 +34,7 @@ pub fn members(family: &mut [u8; 7680], n: usize, digits: &[u8]) {
 }
 
 // Columns of `n` plots one after the other.
-pub fn levels(table: &mut [u16; 2880], n: usize, digits: &[u8]) {
+pub fn levels(table: &mut [Level; 2880], n: usize, digits: &[u8]) {
     if n < 1 {
         return;
     }

@@ -42,6 +42,8 @@ pub mod Above
 pub mod Subtracted
 pub mod TableMeant
 pub mod ReaderLimits
+pub mod Labels
+pub mod OlderSheets
 pub mod NamesMeant
 pub mod Bits
 pub mod Signed

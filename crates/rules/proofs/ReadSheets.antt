@@ -13,7 +13,7 @@ use Rattle.rules.specs.Factor.{Column, uniform, orthogonal}
 use Rattle.rules.specs.Family.{Family, columnsFrom}
 use Rattle.rules.specs.Closing.{plotFamily, firstTreatmentFamily, finalTreatmentFamily, Closing, tooMany, family}
 use Rattle.rules.specs.Design.{Answer, nonzero, allNonzero, withinLimits, fullWithinLimits, fullQuestion7, fullDesign, Places, firstFailing, firstPair, firstCross, question8, question9, question10, question11, question12, question13, question14, withTreatments}
-use Rattle.rules.specs.Sheet.{Outcome, read, refused, question1, question2, question3, readingFrom3, reading, levelsAfter}
+use Rattle.rules.specs.Sheet.{Outcome, read, refused, question1, question2, question3, readingFrom3, readingTo, reading, levelsAfter}
 use Rattle.rules.proofs.Numbering.{by-cases}
 use Rattle.rules.proofs.Members.{clash}
 use Rattle.rules.proofs.Sheet.{not-read, read-accepts, length-after, read-limits, plot-levels-nonzero, treatment-levels-nonzero}
@@ -58,15 +58,15 @@ late-8 n k Ts (family P) = nine (firstFailing (uniform n) 1 P)
 module _ (text levels : List ℕ) (n p t : ℕ) (e : reading text levels ≡ read n p t) where
   -- questions 2 and 3 hold of a sheet that was read
   pub read-questions : (question2 text ≡ true) × (question3 text ≡ true)
-  unfolding reading readingFrom3
+  unfolding readingTo readingFrom3
   read-questions =
       by-cases (question1 levels)
       (λ q1. by-cases (question2 text)
       (λ q2. by-cases (question3 text)
       (λ q3. (q2, q3))
-      (λ q3. not-read 3 n p t (sym (rw (q1, q2, q3, reading, readingFrom3)) ∙ e)))
-      (λ q2. not-read 2 n p t (sym (rw (q1, q2, reading)) ∙ e)))
-      (λ q1. not-read 1 n p t (sym (rw (q1, reading)) ∙ e))
+      (λ q3. not-read 3 n p t (sym (rw (q1, q2, q3, readingTo, readingFrom3)) ∙ e)))
+      (λ q2. not-read 2 n p t (sym (rw (q1, q2, readingTo)) ∙ e)))
+      (λ q1. not-read 1 n p t (sym (rw (q1, readingTo)) ∙ e))
 
   -- the level table after the reading
   abbrev table : List ℕ

@@ -16,7 +16,7 @@ use borrow.Author.Tests.{eq-eqb, ne-eqb, eqb-true, eqb-false, le-leb, lt-leb, le
 use Rattle.rules.specs.Family.{columnsFrom}
 use Rattle.rules.specs.Design.{nonzero, allNonzero, withinLimits}
 use Rattle.rules.specs.Limits.{tableCells, mostText, mostPlots, mostColumns, mostFields, mostLevel}
-use Rattle.rules.specs.Sheet.{within, all, newline, tab, upTo, past, has, Line, extend, lines, fields, Field, widen, digit, isName, sameBytes, plotMark, treatmentMark, isColumn, isKind, countKind, columnNames, newName, namesDiffer, isHeader, header, decimalFrom, decimal, noLeadingZero, isLevel, isRow, isPlotLine, laterLines, columnsAfter, withPlot, withPlots, levelIn, Used, noLine, free, joined, printed, question1, question2, question3, question4, question5, Outcome, read, refused, counts, readingFrom3, reading, levelsAfter}
+use Rattle.rules.specs.Sheet.{within, all, newline, tab, upTo, past, has, Line, extend, lines, fields, Field, widen, digit, isName, sameBytes, plotMark, treatmentMark, isColumn, isKind, countKind, columnNames, newName, namesDiffer, isHeader, header, decimalFrom, decimal, noLeadingZero, isLevel, isRow, isPlotLine, laterLines, columnsAfter, withPlot, withPlots, fieldIn, Used, noLine, cellField, free, joined, printed, question1, question2, question3, question4, question5, Outcome, read, refused, counts, readingFrom3, readingTo, reading, levelsAfter}
 use Rattle.rules.specs.Lists.{digitsBefore, decimalOf}
 use Rattle.rules.proofs.Numbering.{by-cases}
 use Rattle.rules.proofs.Members.{clash}
@@ -40,6 +40,18 @@ pub not-yes : (a : Bool) → not a ≡ true → a ≡ false
 not-yes true e = sym e
 not-yes false e = refl
 
+module _ {A : Type 0} where
+  pub all-getD : (p : A → Bool) (xs : List A) (i : ℕ) (d : A) → all p xs ≡ true → i < length xs → p (getD xs i d) ≡ true
+  unfolding all
+  all-getD p [] i d a h = absurd (not-suc-le-zero h)
+  all-getD p (x ∷ xs) zero d a h = and-left (p x) (all p xs) a
+  all-getD p (x ∷ xs) (suc i) d a h = all-getD p xs i d (and-right (p x) (all p xs) a) (le-of-suc-le-suc h)
+
+  pub all-weaker : (p q : A → Bool) → ((x : A) → p x ≡ true → q x ≡ true) → (xs : List A) → all p xs ≡ true → all q xs ≡ true
+  unfolding all
+  all-weaker p q h [] a = refl
+  all-weaker p q h (x ∷ xs) a = rw (h x (and-left (p x) (all p xs) a)) (all-weaker p q h xs (and-right (p x) (all p xs) a))
+
 -- ---- levels
 
 pub decimal-grows : (v : ℕ) (xs : List ℕ) → v ≤ decimalFrom v xs
@@ -47,34 +59,41 @@ unfolding decimalFrom
 decimal-grows v [] = omega arith
 decimal-grows v (x ∷ xs) = omega (arith, decimal-grows (10 * v + (x - 48)) xs)
 
-module _ (f : List ℕ) where
-  pub level-leading : noLeadingZero f ≡ false → isLevel f ≡ false
+module _ (top : ℕ) (f : List ℕ) where
+  pub level-leading : noLeadingZero f ≡ false → isLevel top f ≡ false
   unfolding isLevel
   level-leading e = rw e
 
-  pub level-digit : all digit f ≡ false → isLevel f ≡ false
+  pub level-digit : all digit f ≡ false → isLevel top f ≡ false
   unfolding isLevel
   level-digit e = rw (e, and-false (noLeadingZero f))
 
-  pub level-large : mostLevel < decimal f → isLevel f ≡ false
+  pub level-large : top < decimal f → isLevel top f ≡ false
   unfolding isLevel
-  level-large h = rw (lt-leb (decimal f) mostLevel h, and-false (leb 1 (decimal f)), and-false (noLeadingZero f && all digit f))
+  level-large h = rw (lt-leb (decimal f) top h, and-false (leb 1 (decimal f)), and-false (noLeadingZero f && all digit f))
 
-  pub level-none : decimal f ≡ 0 → isLevel f ≡ false
+  pub level-none : decimal f ≡ 0 → isLevel top f ≡ false
   unfolding isLevel
   level-none e = rw (e, and-false (noLeadingZero f && all digit f))
 
-  pub level-is : noLeadingZero f ≡ true → all digit f ≡ true → 1 ≤ decimal f → decimal f ≤ mostLevel → isLevel f ≡ true
+  pub level-is : noLeadingZero f ≡ true → all digit f ≡ true → 1 ≤ decimal f → decimal f ≤ top → isLevel top f ≡ true
   unfolding isLevel
-  level-is e d h k = rw (e, d, le-leb 1 (decimal f) h, le-leb (decimal f) mostLevel k)
+  level-is e d h k = rw (e, d, le-leb 1 (decimal f) h, le-leb (decimal f) top k)
 
-  pub level-least : isLevel f ≡ true → 1 ≤ decimal f
+  pub level-least : isLevel top f ≡ true → 1 ≤ decimal f
   unfolding isLevel
-  level-least e = leb-true 1 (decimal f) (and-left (leb 1 (decimal f)) (leb (decimal f) mostLevel) (and-right (noLeadingZero f && all digit f) (within 1 mostLevel (decimal f)) e))
+  level-least e = leb-true 1 (decimal f) (and-left (leb 1 (decimal f)) (leb (decimal f) top) (and-right (noLeadingZero f && all digit f) (within 1 top (decimal f)) e))
 
-  pub level-most : isLevel f ≡ true → decimal f ≤ mostLevel
+  pub level-most : isLevel top f ≡ true → decimal f ≤ top
   unfolding isLevel
-  level-most e = leb-true (decimal f) mostLevel (and-right (leb 1 (decimal f)) (leb (decimal f) mostLevel) (and-right (noLeadingZero f && all digit f) (within 1 mostLevel (decimal f)) e))
+  level-most e = leb-true (decimal f) top (and-right (leb 1 (decimal f)) (leb (decimal f) top) (and-right (noLeadingZero f && all digit f) (within 1 top (decimal f)) e))
+
+  -- a higher top takes it too
+  pub level-wider : (higher : ℕ) → top ≤ higher → isLevel top f ≡ true → isLevel higher f ≡ true
+  unfolding isLevel
+  level-wider higher h e =
+      let form = and-left (noLeadingZero f && all digit f) (within 1 top (decimal f)) e in
+      rw (form, le-leb 1 (decimal f) (level-least e), le-leb (decimal f) higher (omega (arith, level-most e)))
 
 -- ---- names
 
@@ -206,27 +225,27 @@ header-form text e =
 
 module _ (text levels : List ℕ) where
   pub refused-1 : length levels < tableCells → reading text levels ≡ refused 1
-  unfolding reading
-  refused-1 h = rw (lt-leb tableCells (length levels) h, reading)
+  unfolding readingTo
+  refused-1 h = rw (lt-leb tableCells (length levels) h, readingTo)
 
   pub too-short : tableCells ≤ length levels → length text < 1 → reading text levels ≡ refused 2
-  unfolding reading
-  too-short l h = rw (le-leb tableCells (length levels) l, lt-leb 1 (length text) h, reading)
+  unfolding readingTo
+  too-short l h = rw (le-leb tableCells (length levels) l, lt-leb 1 (length text) h, readingTo)
 
   pub too-long : tableCells ≤ length levels → mostText < length text → reading text levels ≡ refused 2
-  unfolding reading
-  too-long l h = rw (le-leb tableCells (length levels) l, lt-leb (length text) mostText h, and-false (leb 1 (length text)), reading)
+  unfolding readingTo
+  too-long l h = rw (le-leb tableCells (length levels) l, lt-leb (length text) mostText h, and-false (leb 1 (length text)), readingTo)
 
-  pub text-fits : tableCells ≤ length levels → 1 ≤ length text → length text ≤ mostText → reading text levels ≡ readingFrom3 text
-  unfolding reading
-  text-fits l h k = rw (le-leb tableCells (length levels) l, le-leb 1 (length text) h, le-leb (length text) mostText k, reading)
+  pub text-fits : tableCells ≤ length levels → 1 ≤ length text → length text ≤ mostText → reading text levels ≡ readingFrom3 mostLevel text
+  unfolding readingTo
+  text-fits l h k = rw (le-leb tableCells (length levels) l, le-leb 1 (length text) h, le-leb (length text) mostText k, readingTo)
 
 -- ---- what a reading tells
 
 pub record Accepts (text levels : List ℕ) (n p t : ℕ) : Type 0 where
   pub table-fits : tableCells ≤ length levels
   pub header-good : HeaderForm text
-  pub lines-good : all (isPlotLine (length (header text))) (laterLines text) ≡ true
+  pub lines-good : all (isPlotLine mostLevel (length (header text))) (laterLines text) ≡ true
   pub plots : n ≡ length (laterLines text)
   pub plots-some : 1 ≤ n
   pub plots-few : n ≤ mostPlots
@@ -245,21 +264,21 @@ not-read q n p t e = let z : _≡_ {A = ℕ} 0 1 = cc in absurd (no z)
 
 -- Question 6's counts never refuse a table that was read.
 pub read-accepts : (text levels : List ℕ) (n p t : ℕ) → reading text levels ≡ read n p t → Accepts text levels n p t
-unfolding reading readingFrom3 counts question4 question5
+unfolding readingTo readingFrom3 counts question4 question5
 read-accepts text levels n p t e =
     by-cases (question1 levels)
     (λ q1. by-cases (question2 text)
     (λ q2. by-cases (question3 text)
-    (λ q3. by-cases (question4 text)
+    (λ q3. by-cases (question4 mostLevel text)
     (λ q4. by-cases (question5 text)
-    (λ q5. accepts q1 q3 q4 q5 (three _ _ _ n p t (sym (rw (q1, q2, q3, q4, q5, reading, readingFrom3)) ∙ e)))
-    (λ q5. not-read 5 n p t (sym (rw (q1, q2, q3, q4, q5, reading, readingFrom3)) ∙ e)))
-    (λ q4. not-read 4 n p t (sym (rw (q1, q2, q3, q4, reading, readingFrom3)) ∙ e)))
-    (λ q3. not-read 3 n p t (sym (rw (q1, q2, q3, reading, readingFrom3)) ∙ e)))
-    (λ q2. not-read 2 n p t (sym (rw (q1, q2, reading)) ∙ e)))
-    (λ q1. not-read 1 n p t (sym (rw (q1, reading)) ∙ e))
+    (λ q5. accepts q1 q3 q4 q5 (three _ _ _ n p t (sym (rw (q1, q2, q3, q4, q5, readingTo, readingFrom3)) ∙ e)))
+    (λ q5. not-read 5 n p t (sym (rw (q1, q2, q3, q4, q5, readingTo, readingFrom3)) ∙ e)))
+    (λ q4. not-read 4 n p t (sym (rw (q1, q2, q3, q4, readingTo, readingFrom3)) ∙ e)))
+    (λ q3. not-read 3 n p t (sym (rw (q1, q2, q3, readingTo, readingFrom3)) ∙ e)))
+    (λ q2. not-read 2 n p t (sym (rw (q1, q2, readingTo)) ∙ e)))
+    (λ q1. not-read 1 n p t (sym (rw (q1, readingTo)) ∙ e))
   where
-    accepts : question1 levels ≡ true → question3 text ≡ true → question4 text ≡ true → question5 text ≡ true
+    accepts : question1 levels ≡ true → question3 text ≡ true → question4 mostLevel text ≡ true → question5 text ≡ true
         → (n ≡ length (laterLines text)) × (p ≡ countKind plotMark (header text)) × (t ≡ countKind treatmentMark (header text)) → Accepts text levels n p t
     accepts q1 q3 q4 q5 k = record {
       table-fits = leb-true tableCells (length levels) q1;
@@ -274,48 +293,11 @@ read-accepts text levels n p t e =
 
 -- ---- the cells that are written
 
--- storing a level leaves no zero where there was none
-set-keeps : (T : List ℕ) (j v i : ℕ) → 1 ≤ v → 1 ≤ getD T i 0 → 1 ≤ getD (set T j v) i 0
-set-keeps T j v i h k =
-    by-cases (eqb i j)
-    (λ e. by-cases (ltb j (length T))
-    (λ l. rw (eqb-true i j e, getD-set-same T j v 0 (ltb-true j (length T) l)) h)
-    (λ l. rw (set-out T j v (ltb-false j (length T) l)) k))
-    (λ e. rw (getD-set-other T j i v 0 (eqb-false i j e)) k)
-
-plot-keeps : (cs : List ℕ) (u : ℕ) (fs : List Field) (T : List ℕ) (i : ℕ) → all isLevel fs ≡ true → 1 ≤ getD T i 0 → 1 ≤ getD (withPlot cs u fs T) i 0
-unfolding withPlot all
-plot-keeps [] u fs T i a h = h
-plot-keeps (c ∷ cs) u [] T i a h = h
-plot-keeps (c ∷ cs) u (f ∷ fs) T i a h =
-    plot-keeps cs u fs (set T (240 * c + u) (decimal f)) i (and-right (isLevel f) (all isLevel fs) a)
-    (set-keeps T (240 * c + u) (decimal f) i (level-least f (and-left (isLevel f) (all isLevel fs) a)) h)
-
 pub length-withPlot : (cs : List ℕ) (u : ℕ) (fs : List Field) (T : List ℕ) → length (withPlot cs u fs T) ≡ length T
 unfolding withPlot
 length-withPlot [] u fs T = refl
 length-withPlot (c ∷ cs) u [] T = refl
 length-withPlot (c ∷ cs) u (f ∷ fs) T = length-withPlot cs u fs (set T (240 * c + u) (decimal f)) ∙ length-set T (240 * c + u) (decimal f)
-
--- a line's cell in each of the columns is written
-plot-hits : (cs : List ℕ) (u : ℕ) (fs : List Field) (T : List ℕ) (c : ℕ) → all isLevel fs ≡ true → length fs ≡ length cs → has c cs ≡ true → 240 * c + u < length T
-    → 1 ≤ getD (withPlot cs u fs T) (240 * c + u) 0
-unfolding withPlot all has
-plot-hits [] u fs T c a l h k = clash h refl
-plot-hits (d ∷ cs) u [] T c a l h k = absurd (no l)
-  where
-    no : 0 ≡ suc (length cs) → ⊥
-    no z = omega arith
-plot-hits (d ∷ cs) u (f ∷ fs) T c a l h k =
-    by-cases (eqb d c)
-    (λ e. let q = eqb-true d c e in
-    plot-keeps cs u fs (set T (240 * d + u) (decimal f)) (240 * c + u) (and-right (isLevel f) (all isLevel fs) a)
-    (rw (q, getD-set-same T (240 * c + u) (decimal f) 0 k) (level-least f (and-left (isLevel f) (all isLevel fs) a))))
-    (λ e. plot-hits cs u fs (set T (240 * d + u) (decimal f)) c (and-right (isLevel f) (all isLevel fs) a) (suc-injective l) (rw (e, has) at h)
-    (rw (length-set T (240 * d + u) (decimal f)) k))
-  where
-    suc-injective : suc (length fs) ≡ suc (length cs) → length fs ≡ length cs
-    suc-injective z = omega arith
 
 pub length-withPlots : (cs : List ℕ) (u : ℕ) (ls : List Line) (T : List ℕ) → length (withPlots cs u ls T) ≡ length T
 unfolding withPlots
@@ -329,35 +311,29 @@ length-after (refused q) text levels = refl
 length-after (read n p t) text levels = length-withPlots (columnsAfter 0 0 (header text)) 0 (laterLines text) levels
 
 -- the fields of a plot line
-row-levels : (n : ℕ) (l : Line) → isPlotLine n l ≡ true → (length (fields (l .bytes)) ≡ n) × (all isLevel (fields (l .bytes)) ≡ true)
+pub row-levels : (top n : ℕ) (l : Line) → isPlotLine top n l ≡ true → (length (fields (l .bytes)) ≡ n) × (all (isLevel top) (fields (l .bytes)) ≡ true)
 unfolding isPlotLine isRow
-row-levels n l e =
-    let r = and-right (l .ended) (eqb (length (fields (l .bytes))) n && all isLevel (fields (l .bytes))) e in (
-      eqb-true (length (fields (l .bytes))) n (and-left (eqb (length (fields (l .bytes))) n) (all isLevel (fields (l .bytes))) r),
-      and-right (eqb (length (fields (l .bytes))) n) (all isLevel (fields (l .bytes))) r,
+row-levels top n l e =
+    let r = and-right (l .ended) (eqb (length (fields (l .bytes))) n && all (isLevel top) (fields (l .bytes))) e in (
+      eqb-true (length (fields (l .bytes))) n (and-left (eqb (length (fields (l .bytes))) n) (all (isLevel top) (fields (l .bytes))) r),
+      and-right (eqb (length (fields (l .bytes))) n) (all (isLevel top) (fields (l .bytes))) r,
     )
 
-module _ (cs : List ℕ) where
-  plots-keep : (u : ℕ) (ls : List Line) (T : List ℕ) (i : ℕ) → all (isPlotLine (length cs)) ls ≡ true → 1 ≤ getD T i 0 → 1 ≤ getD (withPlots cs u ls T) i 0
-  unfolding withPlots all
-  plots-keep u [] T i a h = h
-  plots-keep u (l ∷ ls) T i a h =
-      let r = row-levels (length cs) l (and-left (isPlotLine (length cs) l) (all (isPlotLine (length cs)) ls) a) in
-      plots-keep (suc u) ls (withPlot cs u (fields (l .bytes)) T) i (and-right (isPlotLine (length cs) l) (all (isPlotLine (length cs)) ls) a)
-      (plot-keeps cs u (fields (l .bytes)) T i (r .1) h)
-
-  plots-hit : (u : ℕ) (ls : List Line) (T : List ℕ) (c v : ℕ) → all (isPlotLine (length cs)) ls ≡ true → has c cs ≡ true → v < length ls → 240 * c + (u + v) < length T
-      → 1 ≤ getD (withPlots cs u ls T) (240 * c + (u + v)) 0
-  unfolding withPlots all
-  plots-hit u [] T c v a h l k = absurd (not-suc-le-zero l)
-  plots-hit u (x ∷ ls) T c zero a h l k =
-      let r = row-levels (length cs) x (and-left (isPlotLine (length cs) x) (all (isPlotLine (length cs)) ls) a) in
-      rw add-zero (plots-keep (suc u) ls (withPlot cs u (fields (x .bytes)) T) (240 * c + u) (and-right (isPlotLine (length cs) x) (all (isPlotLine (length cs)) ls) a)
-      (plot-hits cs u (fields (x .bytes)) T c (r .1) (r .0) h (omega arith)))
-  plots-hit u (x ∷ ls) T c (suc v) a h l k =
-      let e : u + suc v ≡ suc u + v = omega arith in
-      rw e (plots-hit (suc u) ls (withPlot cs u (fields (x .bytes)) T) c v (and-right (isPlotLine (length cs) x) (all (isPlotLine (length cs)) ls) a) h (le-of-suc-le-suc l)
-      (rw (length-withPlot cs u (fields (x .bytes)) T) (omega arith)))
+-- the field that takes a column is one of them
+field-in : (top : ℕ) (cs : List ℕ) (fs : List Field) (c : ℕ) → all (isLevel top) fs ≡ true → length fs ≡ length cs → has c cs ≡ true → isLevel top (fieldIn c cs fs) ≡ true
+unfolding all has fieldIn
+field-in top [] fs c a l h = clash h refl
+field-in top (d ∷ cs) [] c a l h = absurd (no l)
+  where
+    no : 0 ≡ suc (length cs) → ⊥
+    no z = omega arith
+field-in top (d ∷ cs) (f ∷ fs) c a l h =
+    by-cases (eqb d c)
+    (λ e. rw (e, fieldIn) (and-left (isLevel top f) (all (isLevel top) fs) a))
+    (λ e. rw (e, fieldIn) (field-in top cs fs c (and-right (isLevel top f) (all (isLevel top) fs) a) (less l) (rw (e, has) at h)))
+  where
+    less : suc (length fs) ≡ suc (length cs) → length fs ≡ length cs
+    less z = omega arith
 
 -- each column of a kind is among those that the header takes
 has-here : (c : ℕ) (cs : List ℕ) → has c (c ∷ cs) ≡ true
@@ -406,68 +382,6 @@ treatment-column p t (f ∷ fs) c a h k =
     (λ z. let low : suc (6 + t) ≤ c = lt-of-le-ne h (eqb-false (6 + t) c z) in
     rw (q .0, columnsAfter) (has-later c (6 + t) (columnsAfter p (suc t) fs) (treatment-column p (suc t) fs c r (omega arith) (omega arith)))))
 
--- ---- no used cell is zero
-
-nonzero-all : (F : List ℕ) → ((u : ℕ) → u < length F → 1 ≤ getD F u 0) → nonzero F ≡ true
-unfolding nonzero
-nonzero-all [] h = refl
-nonzero-all (x ∷ F) h =
-    let k = h 0 (omega arith) in
-    rw (ne-eqb x 0 (λ z. absurd (no z (h 0 (omega arith)))), nonzero) (nonzero-all F (λ u l. h (suc u) (omega arith)))
-  where
-    no : x ≡ 0 → 1 ≤ x → ⊥
-    no z k = omega arith
-
-columns-nonzero : (n : ℕ) (T : List ℕ) (c m : ℕ) → ((d u : ℕ) → c ≤ d → d < c + m → u < n → 1 ≤ getD T (240 * d + u) 0) → allNonzero (columnsFrom n T c m) ≡ true
-unfolding allNonzero columnsFrom
-columns-nonzero n T c zero h = refl
-columns-nonzero n T c (suc m) h =
-    rw (nonzero-all (take n (drop (240 * c) T)) here, allNonzero) (columns-nonzero n T (suc c) m (λ d u a b l. h d u (omega arith) (omega arith) l))
-  where
-    here : (u : ℕ) → u < length (take n (drop (240 * c) T)) → 1 ≤ getD (take n (drop (240 * c) T)) u 0
-    here u l =
-        let k : u < n = omega (arith, length-take n (drop (240 * c) T)) in
-        rw (getD-take n (drop (240 * c) T) u 0 k, getD-drop (240 * c) T u 0) (h c u (omega arith) (omega arith) k)
-
--- Question 7 never refuses a table that was read, of the plot columns or of the treatment columns.
-module _ (text levels : List ℕ) (n p t : ℕ) (e : reading text levels ≡ read n p t) where
-  abbrev table : List ℕ
-  table = levelsAfter (reading text levels) text levels
-
-  after : table ≡ withPlots (columnsAfter 0 0 (header text)) 0 (laterLines text) levels
-  unfolding levelsAfter
-  after = rw e
-
-  used : (c u : ℕ) → has c (columnsAfter 0 0 (header text)) ≡ true → c < mostFields → u < n → 1 ≤ getD table (240 * c + u) 0
-  used c u h k l =
-      let a = read-accepts text levels n p t e in
-      let s : length (columnsAfter 0 0 (header text)) ≡ length (header text) = length-columns 0 0 (header text) in
-      let g : all (isPlotLine (length (columnsAfter 0 0 (header text)))) (laterLines text) ≡ true = rw s (a .lines-good) in
-      let v : u < length (laterLines text) = omega (arith, a .plots) in
-      let w : 240 * c + (0 + u) < length levels = omega (arith, a .plots-few, a .table-fits) in
-      rw (after, ← zero-add u) (plots-hit (columnsAfter 0 0 (header text)) 0 (laterLines text) levels c u g h v w)
-
-  -- the counts are within limits, so of question 6 only the family buffer is left
-  pub read-limits : (buffer : ℕ) → withinLimits n p (length table) buffer ≡ leb 7680 buffer
-  unfolding withinLimits
-  read-limits buffer =
-      let s = read-accepts text levels n p t e in
-      rw (lt-ltb 0 n (s .plots-some), le-leb n 240 (s .plots-few), le-leb p 6 (omega (arith, s .plot-columns, s .header-good .plots)), le-leb 2880 (length table) (rw (length-after (reading text levels) text levels) (s .table-fits)))
-
-  pub plot-levels-nonzero : allNonzero (columnsFrom n table 0 p) ≡ true
-  plot-levels-nonzero =
-      columns-nonzero n table 0 p
-      (λ c u a b l.
-      let s = read-accepts text levels n p t e in
-      used c u (plot-column 0 0 (header text) c (s .header-good .columns) a (omega (arith, s .plot-columns))) (omega (arith, s .plot-columns, s .header-good .plots)) l)
-
-  pub treatment-levels-nonzero : allNonzero (columnsFrom n table 6 t) ≡ true
-  treatment-levels-nonzero =
-      columns-nonzero n table 6 t
-      (λ c u a b l.
-      let s = read-accepts text levels n p t e in
-      used c u (treatment-column 0 0 (header text) c (s .header-good .columns) (omega arith) (omega (arith, s .treatment-columns))) (omega (arith, s .treatment-columns, s .header-good .treatments)) l)
-
 -- ---- the level table cell by cell
 
 -- cells of other places are not touched
@@ -494,8 +408,8 @@ distinct [] = true
 distinct (c ∷ cs) = not (has c cs) && distinct cs
 
 plot-reads : (cs : List ℕ) (u : ℕ) (fs : List Field) (T : List ℕ) (c : ℕ) → distinct cs ≡ true → length fs ≡ length cs → has c cs ≡ true → 240 * c + u < length T
-    → getD (withPlot cs u fs T) (240 * c + u) 0 ≡ levelIn c cs fs
-unfolding withPlot distinct has levelIn
+    → getD (withPlot cs u fs T) (240 * c + u) 0 ≡ decimal (fieldIn c cs fs)
+unfolding withPlot distinct has fieldIn
 plot-reads [] u fs T c d l h k = clash h refl
 plot-reads (b ∷ cs) u [] T c d l h k = absurd (no l)
   where
@@ -504,9 +418,9 @@ plot-reads (b ∷ cs) u [] T c d l h k = absurd (no l)
 plot-reads (b ∷ cs) u (f ∷ fs) T c d l h k =
     by-cases (eqb b c)
     (λ e. let q = eqb-true b c e in
-    rw (e, levelIn) (plot-misses cs u fs (set T (240 * b + u) (decimal f)) (240 * c + u) (λ a m z. alone q a m z)
+    rw (e, fieldIn) (plot-misses cs u fs (set T (240 * b + u) (decimal f)) (240 * c + u) (λ a m z. alone q a m z)
     ∙ rw q (getD-set-same T (240 * c + u) (decimal f) 0 k)))
-    (λ e. rw (e, levelIn) (plot-reads cs u fs (set T (240 * b + u) (decimal f)) c (and-right (not (has b cs)) (distinct cs) d) (less l) (rw (e, has) at h) (rw (length-set T (240 * b + u) (decimal f)) k)))
+    (λ e. rw (e, fieldIn) (plot-reads cs u fs (set T (240 * b + u) (decimal f)) c (and-right (not (has b cs)) (distinct cs) d) (less l) (rw (e, has) at h) (rw (length-set T (240 * b + u) (decimal f)) k)))
   where
     less : suc (length fs) ≡ suc (length cs) → length fs ≡ length cs
     less z = omega arith
@@ -516,18 +430,18 @@ plot-reads (b ∷ cs) u (f ∷ fs) T c d l h k =
         let w : a ≡ b = omega arith in
         absurd (true≢false (sym (rw w at m) ∙ not-yes (has b cs) (and-left (not (has b cs)) (distinct cs) d)))
 
-plots-read : (cs : List ℕ) (u : ℕ) (ls : List Line) (T : List ℕ) (c v : ℕ) → distinct cs ≡ true → all (isPlotLine (length cs)) ls ≡ true → has c cs ≡ true → v < length ls
-    → u + length ls ≤ 240 → 240 * c + (u + v) < length T → getD (withPlots cs u ls T) (240 * c + (u + v)) 0 ≡ levelIn c cs (fields (getD ls v noLine .bytes))
+plots-read : (cs : List ℕ) (u : ℕ) (ls : List Line) (T : List ℕ) (c v : ℕ) → distinct cs ≡ true → all (isPlotLine mostLevel (length cs)) ls ≡ true → has c cs ≡ true → v < length ls
+    → u + length ls ≤ 240 → 240 * c + (u + v) < length T → getD (withPlots cs u ls T) (240 * c + (u + v)) 0 ≡ decimal (fieldIn c cs (fields (getD ls v noLine .bytes)))
 unfolding withPlots all
 plots-read cs u [] T c v d a h l b k = absurd (not-suc-le-zero l)
 plots-read cs u (x ∷ ls) T c zero d a h l b k =
-    let r = row-levels (length cs) x (and-left (isPlotLine (length cs) x) (all (isPlotLine (length cs)) ls) a) in
+    let r = row-levels mostLevel (length cs) x (and-left (isPlotLine mostLevel (length cs) x) (all (isPlotLine mostLevel (length cs)) ls) a) in
     rw add-zero
     (plots-miss cs (suc u) ls (withPlot cs u (fields (x .bytes)) T) (240 * c + u) (λ e w m n z. omega arith)
     ∙ plot-reads cs u (fields (x .bytes)) T c d (r .0) h (omega arith))
 plots-read cs u (x ∷ ls) T c (suc v) d a h l b k =
     let e : u + suc v ≡ suc u + v = omega arith in
-    rw e (plots-read cs (suc u) ls (withPlot cs u (fields (x .bytes)) T) c v d (and-right (isPlotLine (length cs) x) (all (isPlotLine (length cs)) ls) a) h (le-of-suc-le-suc l) (omega arith)
+    rw e (plots-read cs (suc u) ls (withPlot cs u (fields (x .bytes)) T) c v d (and-right (isPlotLine mostLevel (length cs) x) (all (isPlotLine mostLevel (length cs)) ls) a) h (le-of-suc-le-suc l) (omega arith)
     (rw (length-withPlot cs u (fields (x .bytes)) T) (omega arith)))
 
 -- the columns that a header takes, and no others
@@ -584,7 +498,38 @@ columns-distinct p t (f ∷ fs) a l =
     past-six : (t s : ℕ) → 6 + t < s → s ≤ 6 → ⊥
     past-six t s h k = omega arith
 
+-- columns whose cells are not zero
+nonzero-all : (F : List ℕ) → ((u : ℕ) → u < length F → 1 ≤ getD F u 0) → nonzero F ≡ true
+unfolding nonzero
+nonzero-all [] h = refl
+nonzero-all (x ∷ F) h =
+    let k = h 0 (omega arith) in
+    rw (ne-eqb x 0 (λ z. absurd (no z (h 0 (omega arith)))), nonzero) (nonzero-all F (λ u l. h (suc u) (omega arith)))
+  where
+    no : x ≡ 0 → 1 ≤ x → ⊥
+    no z k = omega arith
+
+columns-nonzero : (n : ℕ) (T : List ℕ) (c m : ℕ) → ((d u : ℕ) → c ≤ d → d < c + m → u < n → 1 ≤ getD T (240 * d + u) 0) → allNonzero (columnsFrom n T c m) ≡ true
+unfolding allNonzero columnsFrom
+columns-nonzero n T c zero h = refl
+columns-nonzero n T c (suc m) h =
+    rw (nonzero-all (take n (drop (240 * c) T)) here, allNonzero) (columns-nonzero n T (suc c) m (λ d u a b l. h d u (omega arith) (omega arith) l))
+  where
+    here : (u : ℕ) → u < length (take n (drop (240 * c) T)) → 1 ≤ getD (take n (drop (240 * c) T)) u 0
+    here u l =
+        let k : u < n = omega (arith, length-take n (drop (240 * c) T)) in
+        rw (getD-take n (drop (240 * c) T) u 0 k, getD-drop (240 * c) T u 0) (h c u (omega arith) (omega arith) k)
+
+-- ---- what is known of a table that was read
+
 module _ (text levels : List ℕ) (n p t : ℕ) (e : reading text levels ≡ read n p t) where
+  abbrev table : List ℕ
+  table = levelsAfter (reading text levels) text levels
+
+  after : table ≡ withPlots (columnsAfter 0 0 (header text)) 0 (laterLines text) levels
+  unfolding levelsAfter
+  after = rw e
+
   taken : (c : ℕ) → Used p t c → (has c (columnsAfter 0 0 (header text)) ≡ true) × (c < 12)
   taken c w =
       let s = read-accepts text levels n p t e in
@@ -593,25 +538,35 @@ module _ (text levels : List ℕ) (n p t : ℕ) (e : reading text levels ≡ rea
       (λ h. (treatment-column 0 0 (header text) c (s .header-good .columns) (omega arith) (omega (arith, s .treatment-columns)), omega (arith, s .treatment-columns, s .header-good .treatments)))
       w
 
-  -- a used cell holds the level of its plot and column
-  pub cell-read : (c u : ℕ) → Used p t c → u < n
-      → getD (levelsAfter (reading text levels) text levels) (240 * c + u) 0 ≡ levelIn c (columnsAfter 0 0 (header text)) (fields (getD (laterLines text) u noLine .bytes))
-  cell-read c u w l =
-      let a = read-accepts text levels n p t e in
-      let k = taken c w in
-      let s : length (columnsAfter 0 0 (header text)) ≡ length (header text) = length-columns 0 0 (header text) in
-      let g : all (isPlotLine (length (columnsAfter 0 0 (header text)))) (laterLines text) ≡ true = rw s (a .lines-good) in
-      let d = columns-distinct 0 0 (header text) (a .header-good .columns) (omega (arith, a .header-good .plots)) in
-      let v : u < length (laterLines text) = omega (arith, a .plots) in
-      let few : 0 + length (laterLines text) ≤ 240 = omega (arith, a .plots, a .plots-few) in
-      let room : 240 * c + (0 + u) < length levels = omega (arith, a .plots-few, a .table-fits) in
-      rw (after text levels n p t e) (rw (zero-add u) at (plots-read (columnsAfter 0 0 (header text)) 0 (laterLines text) levels c u d g (k .0) v few room))
+  -- a line has a field for each of the columns
+  rows-good : all (isPlotLine mostLevel (length (columnsAfter 0 0 (header text)))) (laterLines text) ≡ true
+  rows-good = rw (length-columns 0 0 (header text)) (read-accepts text levels n p t e .lines-good)
+
+  module _ (c u : ℕ) (w : Used p t c) (l : u < n) where
+    -- a used cell holds the decimal value of its field
+    pub cell-read : getD table (240 * c + u) 0 ≡ decimal (cellField text c u)
+    cell-read =
+        let a = read-accepts text levels n p t e in
+        let k = taken c w in
+        let d = columns-distinct 0 0 (header text) (a .header-good .columns) (omega (arith, a .header-good .plots)) in
+        let v : u < length (laterLines text) = omega (arith, a .plots) in
+        let few : 0 + length (laterLines text) ≤ 240 = omega (arith, a .plots, a .plots-few) in
+        let room : 240 * c + (0 + u) < length levels = omega (arith, a .plots-few, a .table-fits) in
+        rw after (rw (zero-add u) at (plots-read (columnsAfter 0 0 (header text)) 0 (laterLines text) levels c u d rows-good (k .0) v few room))
+
+    -- which is a level
+    pub cell-level : isLevel mostLevel (cellField text c u) ≡ true
+    cell-level =
+        let v : u < length (laterLines text) = omega (arith, read-accepts text levels n p t e .plots) in
+        let line = getD (laterLines text) u noLine in
+        let r = row-levels mostLevel (length (columnsAfter 0 0 (header text))) line (all-getD (isPlotLine mostLevel (length (columnsAfter 0 0 (header text)))) (laterLines text) u noLine rows-good v) in
+        field-in mostLevel (columnsAfter 0 0 (header text)) (fields (line .bytes)) c (r .1) (r .0) (taken c w .0)
 
   -- a cell that no plot or column uses is not touched
-  pub cell-kept : (i : ℕ) → ((c u : ℕ) → Used p t c → u < n → i ≡ 240 * c + u → ⊥) → getD (levelsAfter (reading text levels) text levels) i 0 ≡ getD levels i 0
+  pub cell-kept : (i : ℕ) → ((c u : ℕ) → Used p t c → u < n → i ≡ 240 * c + u → ⊥) → getD table i 0 ≡ getD levels i 0
   cell-kept i h =
       let a = read-accepts text levels n p t e in
-      rw (after text levels n p t e)
+      rw after
       (plots-miss (columnsAfter 0 0 (header text)) 0 (laterLines text) levels i
       (λ c v m l z. h c v (used-column a c m) (omega (arith, a .plots)) (omega arith)))
     where
@@ -619,6 +574,23 @@ module _ (text levels : List ℕ) (n p t : ℕ) (e : reading text levels ≡ rea
       used-column a c m =
           ⊎-elim (λ w. inl (omega (arith, a .plot-columns))) (λ w. inr (omega arith, omega (arith, a .treatment-columns)))
           (columns-only 0 0 (header text) c (a .header-good .columns) m)
+
+  -- the counts are within limits, so of question 6 only the family buffer is left
+  pub read-limits : (buffer : ℕ) → withinLimits n p (length table) buffer ≡ leb 7680 buffer
+  unfolding withinLimits
+  read-limits buffer =
+      let s = read-accepts text levels n p t e in
+      rw (lt-ltb 0 n (s .plots-some), le-leb n 240 (s .plots-few), le-leb p 6 (omega (arith, s .plot-columns, s .header-good .plots)), le-leb 2880 (length table) (rw (length-after (reading text levels) text levels) (s .table-fits)))
+
+  used : (c u : ℕ) → Used p t c → u < n → 1 ≤ getD table (240 * c + u) 0
+  used c u w l = rw (cell-read c u w l) (level-least mostLevel (cellField text c u) (cell-level c u w l))
+
+  -- Question 7 never refuses a table that was read, of the plot columns or of the treatment columns.
+  pub plot-levels-nonzero : allNonzero (columnsFrom n table 0 p) ≡ true
+  plot-levels-nonzero = columns-nonzero n table 0 p (λ c u a b l. used c u (inl (omega arith)) l)
+
+  pub treatment-levels-nonzero : allNonzero (columnsFrom n table 6 t) ≡ true
+  treatment-levels-nonzero = columns-nonzero n table 6 t (λ c u a b l. used c u (inr (a, b)) l)
 
 -- ---- what is printed is read back
 
@@ -701,17 +673,17 @@ digits-first (suc k) n ds h l =
     rw (e, digitsBefore) (digits-first k (n / 10) ((48 + n % 10) ∷ ds) (omega arith) (omega arith)))
 
 -- every level can be printed
-pub decimal-level : (n : ℕ) → 1 ≤ n → n ≤ mostLevel → isLevel (decimalOf n) ≡ true
+pub decimal-level : (top n : ℕ) → 1 ≤ n → n ≤ top → isLevel top (decimalOf n) ≡ true
 unfolding decimalOf all
-decimal-level n h k =
+decimal-level top n h k =
     let v = decimal-back n in
-    level-is (decimalOf n) (digits-first (suc n) n [] (omega arith) h) (digits-all (suc n) n [] refl) (omega arith) (omega arith)
+    level-is top (decimalOf n) (digits-first (suc n) n [] (omega arith) h) (digits-all (suc n) n [] refl) (omega arith) (omega arith)
 
 -- ---- the sample sheet
 
 -- its counts
 pub sample-read : reading sampleSheet (replicate 2880 0) ≡ read 4 1 1
-unfolding reading readingFrom3 question3 question4 question5 counts isHeader header laterLines has upTo past fields widen lines extend all isColumn isName countKind isKind namesDiffer newName sameBytes isPlotLine isRow isLevel noLeadingZero decimalFrom
+unfolding readingTo readingFrom3 question3 question4 question5 counts isHeader header laterLines has upTo past fields widen lines extend all isColumn isName countKind isKind namesDiffer newName sameBytes isPlotLine isRow isLevel noLeadingZero decimalFrom
 sample-read = refl
 
 -- its level table

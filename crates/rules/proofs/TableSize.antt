@@ -18,7 +18,8 @@ use Rattle.rules.specs.Design.{Answer, fullDesign}
 use Rattle.rules.specs.Lists.{bit, decimalOf}
 use Rattle.rules.specs.Degrees.{degrees}
 use Rattle.rules.specs.Strata.{stratum, sumAt, residualsFrom, residuals}
-use Rattle.rules.specs.Sheet.{Outcome, read, refused, header, laterLines, countKind, plotMark, treatmentMark, question1, question2, question3, question4, question5, counts, readingFrom3, reading, levelsAfter}
+use Rattle.rules.specs.Limits.{mostLevel}
+use Rattle.rules.specs.Sheet.{Outcome, read, refused, header, laterLines, countKind, plotMark, treatmentMark, question1, question2, question3, question4, question5, counts, readingFrom3, readingTo, reading, levelsAfter}
 use Rattle.rules.specs.Naming.{Kind, plot, treatment}
 use Rattle.rules.specs.Table.{Row, rowBytes, rowsBytes, wordStratum, wordSource, wordDf, wordResidual, wordTotal, wordAll, wordRefused, dash, signed, sourceRows, isZero, residualRows, stratumRows, strataRows, namesFrom, acceptedRows, refusedRow, firstKind, secondKind, familyOf, placeName, designRefusedRow, designRows, emptyTable, outcomeRows, tableRows, tableText}
 use Rattle.rules.proofs.Numbering.{by-cases}
@@ -299,19 +300,19 @@ design-length text n levels a q small t = go (a .refusal) refl
 
 -- a reading refuses by 1 to 5
 reading-number : (text levels : List ℕ) (q : ℕ) → reading text levels ≡ refused q → q ≤ 5
-unfolding reading readingFrom3 counts
+unfolding readingTo readingFrom3 counts
 reading-number text levels q e =
     by-cases (question1 levels)
     (λ q1. by-cases (question2 text)
     (λ q2. by-cases (question3 text)
-    (λ q3. by-cases (question4 text)
+    (λ q3. by-cases (question4 mostLevel text)
     (λ q4. by-cases (question5 text)
-    (λ q5. not-read (length (laterLines text)) (countKind plotMark (header text)) (countKind treatmentMark (header text)) q (sym (rw (q1, q2, q3, q4, q5, reading, readingFrom3)) ∙ e))
-    (λ q5. number 5 q (omega arith) (sym (rw (q1, q2, q3, q4, q5, reading, readingFrom3)) ∙ e)))
-    (λ q4. number 4 q (omega arith) (sym (rw (q1, q2, q3, q4, reading, readingFrom3)) ∙ e)))
-    (λ q3. number 3 q (omega arith) (sym (rw (q1, q2, q3, reading, readingFrom3)) ∙ e)))
-    (λ q2. number 2 q (omega arith) (sym (rw (q1, q2, reading)) ∙ e)))
-    (λ q1. number 1 q (omega arith) (sym (rw (q1, reading)) ∙ e))
+    (λ q5. not-read (length (laterLines text)) (countKind plotMark (header text)) (countKind treatmentMark (header text)) q (sym (rw (q1, q2, q3, q4, q5, readingTo, readingFrom3)) ∙ e))
+    (λ q5. number 5 q (omega arith) (sym (rw (q1, q2, q3, q4, q5, readingTo, readingFrom3)) ∙ e)))
+    (λ q4. number 4 q (omega arith) (sym (rw (q1, q2, q3, q4, readingTo, readingFrom3)) ∙ e)))
+    (λ q3. number 3 q (omega arith) (sym (rw (q1, q2, q3, readingTo, readingFrom3)) ∙ e)))
+    (λ q2. number 2 q (omega arith) (sym (rw (q1, q2, readingTo)) ∙ e)))
+    (λ q1. number 1 q (omega arith) (sym (rw (q1, readingTo)) ∙ e))
   where
     number : (a b : ℕ) → a ≤ 5 → refused a ≡ refused b → b ≤ 5
     number a b h z = let w : a ≡ b = cc in omega arith

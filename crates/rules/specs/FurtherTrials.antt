@@ -11,7 +11,7 @@ use Rattle.rules.specs.Family.{Family, written}
 use Rattle.rules.specs.Relation.{RelationAnswer, relation}
 use Rattle.rules.specs.Degrees.{DegreesAnswer, degreesOfFreedom}
 use Rattle.rules.specs.Strata.{StrataAnswer, strata}
-use Rattle.rules.specs.Sheet.{Outcome, read, refused, reading}
+use Rattle.rules.specs.Sheet.{Outcome, read, refused, readingTo, reading}
 use Rattle.rules.specs.Naming.{Kind, plot, treatment, NameAnswer, naming}
 use Rattle.rules.specs.Table.{signed, tableText, TableAnswer, skeletonTable}
 use Rattle.rules.specs.Trials.{Trial, refuses, treats, observed}
@@ -307,7 +307,7 @@ furtherTrials =
     ∷ reads (112 ∷ 58 ∷ 65 ∷ 48 ∷ 9 ∷ 112 ∷ 58 ∷ 65 ∷ 49 ∷ 9 ∷ 112 ∷ 58 ∷ 65 ∷ 50 ∷ 9 ∷ 112 ∷ 58 ∷ 65 ∷ 51 ∷ 9 ∷ 112 ∷ 58 ∷ 65 ∷ 52 ∷ 9 ∷ 112 ∷ 58 ∷ 65 ∷ 53 ∷ 9 ∷ 116 ∷ 58 ∷ 66 ∷ 48 ∷ 9 ∷ 116 ∷ 58 ∷ 66 ∷ 49 ∷ 9 ∷ 116 ∷ 58 ∷ 66 ∷ 50 ∷ 9 ∷ 116 ∷ 58 ∷ 66 ∷ 51 ∷ 9 ∷ 116 ∷ 58 ∷ 66 ∷ 52 ∷ 9 ∷ 116 ∷ 58 ∷ 66 ∷ 53 ∷ 10 ∷ []) tableCells (refused 5)
     ∷ reads (112 ∷ 58 ∷ 65 ∷ 48 ∷ 9 ∷ 112 ∷ 58 ∷ 65 ∷ 49 ∷ 9 ∷ 112 ∷ 58 ∷ 65 ∷ 50 ∷ 9 ∷ 112 ∷ 58 ∷ 65 ∷ 51 ∷ 9 ∷ 112 ∷ 58 ∷ 65 ∷ 52 ∷ 9 ∷ 112 ∷ 58 ∷ 65 ∷ 53 ∷ 9 ∷ 112 ∷ 58 ∷ 65 ∷ 54 ∷ 10 ∷ []) tableCells (refused 3)
     ∷ reads (116 ∷ 58 ∷ 66 ∷ 48 ∷ 9 ∷ 116 ∷ 58 ∷ 66 ∷ 49 ∷ 9 ∷ 116 ∷ 58 ∷ 66 ∷ 50 ∷ 9 ∷ 116 ∷ 58 ∷ 66 ∷ 51 ∷ 9 ∷ 116 ∷ 58 ∷ 66 ∷ 52 ∷ 9 ∷ 116 ∷ 58 ∷ 66 ∷ 53 ∷ 9 ∷ 116 ∷ 58 ∷ 66 ∷ 54 ∷ 10 ∷ []) tableCells (refused 3)
-    -- later lines that are refused: `1` without byte 10, an empty one, `0`, `01`, `1→1`, `/1`, `1:`, `65536`
+    -- later lines that are refused: `1` without byte 10, an empty one, `0`, `01`, `1→1`, `/1`, `1:`, `4294967296`
     ∷ reads (112 ∷ 58 ∷ 65 ∷ 98 ∷ 10 ∷ 49 ∷ []) tableCells (refused 4)
     ∷ reads (112 ∷ 58 ∷ 65 ∷ 98 ∷ 10 ∷ 10 ∷ []) tableCells (refused 4)
     ∷ reads (112 ∷ 58 ∷ 65 ∷ 98 ∷ 10 ∷ 48 ∷ 10 ∷ []) tableCells (refused 4)
@@ -315,9 +315,9 @@ furtherTrials =
     ∷ reads (112 ∷ 58 ∷ 65 ∷ 98 ∷ 10 ∷ 49 ∷ 9 ∷ 49 ∷ 10 ∷ []) tableCells (refused 4)
     ∷ reads (112 ∷ 58 ∷ 65 ∷ 98 ∷ 10 ∷ 47 ∷ 49 ∷ 10 ∷ []) tableCells (refused 4)
     ∷ reads (112 ∷ 58 ∷ 65 ∷ 98 ∷ 10 ∷ 49 ∷ 58 ∷ 10 ∷ []) tableCells (refused 4)
-    ∷ reads (112 ∷ 58 ∷ 65 ∷ 98 ∷ 10 ∷ 54 ∷ 53 ∷ 53 ∷ 51 ∷ 54 ∷ 10 ∷ []) tableCells (refused 4)
-    -- later lines that are not: `1`, `10`, `9`, `65535`
-    ∷ reads (112 ∷ 58 ∷ 65 ∷ 98 ∷ 10 ∷ 49 ∷ 10 ∷ 49 ∷ 48 ∷ 10 ∷ 57 ∷ 10 ∷ 54 ∷ 53 ∷ 53 ∷ 51 ∷ 53 ∷ 10 ∷ []) tableCells (read 4 1 0)
+    ∷ reads (112 ∷ 58 ∷ 65 ∷ 98 ∷ 10 ∷ 52 ∷ 50 ∷ 57 ∷ 52 ∷ 57 ∷ 54 ∷ 55 ∷ 50 ∷ 57 ∷ 54 ∷ 10 ∷ []) tableCells (refused 4)
+    -- later lines that are not: `1`, `10`, `9`, `4294967295`
+    ∷ reads (112 ∷ 58 ∷ 65 ∷ 98 ∷ 10 ∷ 49 ∷ 10 ∷ 49 ∷ 48 ∷ 10 ∷ 57 ∷ 10 ∷ 52 ∷ 50 ∷ 57 ∷ 52 ∷ 57 ∷ 54 ∷ 55 ∷ 50 ∷ 57 ∷ 53 ∷ 10 ∷ []) tableCells (read 4 1 0)
     -- two treatment columns, one plot column
     ∷ reads (116 ∷ 58 ∷ 65 ∷ 98 ∷ 9 ∷ 112 ∷ 58 ∷ 65 ∷ 99 ∷ 9 ∷ 116 ∷ 58 ∷ 65 ∷ 100 ∷ 10 ∷ 49 ∷ 9 ∷ 49 ∷ 9 ∷ 49 ∷ 10 ∷ []) tableCells (read 1 1 2)
     -- sheets that are refused, with the names of the places
@@ -349,7 +349,7 @@ unfolding written
 inTable cells Fs Ts = written (written (replicate cells 0) 0 Fs) mostColumns Ts
 
 unfoldable pub seen : FurtherTrial → FurtherTrial
-unfolding observed inBuffer inTable relation degreesOfFreedom strata naming reading tableText skeletonTable signed
+unfolding observed inBuffer inTable relation degreesOfFreedom strata naming readingTo tableText skeletonTable signed
 seen (plans t) = plans (observed t)
 seen (relates n S m a) = relates n S m (relation n (inBuffer familyBytes S) m)
 seen (subtracts n S m a) = subtracts n S m (degreesOfFreedom n (inBuffer familyBytes S) m)

@@ -36,9 +36,13 @@ mostText = 32768
 abbrev pub mostFields : ℕ
 mostFields = 12
 
--- a level: "1 to 65535"
+-- a level: "1 to 4294967295"
 abbrev pub mostLevel : ℕ
-mostLevel = 65535
+mostLevel = 4294967295
+
+-- a level of the older sheets: 1 to 65535
+abbrev pub mostOlderLevel : ℕ
+mostOlderLevel = 65535
 
 -- bytes of a column's name after its first: "a letter and then 1 to 11 letters or digits"
 abbrev pub mostNameTail : ℕ

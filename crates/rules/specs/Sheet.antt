@@ -3,10 +3,11 @@
 use mathlib.Core.Bool.{Bool, true, false, not, _&&_, _||_}
 use mathlib.Core.List.{List, [], _∷_, _++_}
 use mathlib.Core.Logic.{_⊎_}
+use mathlib.Core.Path.{_≡_}
 use Prim.Native.Nat.{ℕ, suc, _+_, _-_, _*_, _<_, _≤_}
 use lib.Dec.{eqb, leb}
-use lib.ListN.{length, drop, set}
-use Rattle.rules.specs.Limits.{mostText, mostPlots, mostColumns, mostFields, mostLevel, mostNameTail, tableCells}
+use lib.ListN.{length, getD, drop, set}
+use Rattle.rules.specs.Limits.{mostText, mostPlots, mostColumns, mostFields, mostLevel, mostOlderLevel, mostNameTail, tableCells}
 
 -- ---- tests
 
@@ -169,19 +170,19 @@ unfoldable pub noLeadingZero : Field → Bool
 noLeadingZero [] = true
 noLeadingZero (x ∷ xs) = not (eqb x 48)
 
--- "a decimal level 1 to 65535 without leading zeros"
-unfoldable pub isLevel : Field → Bool
+-- "a decimal level 1 to 4294967295 without leading zeros"; the highest level is given, as older sheets have another
+unfoldable pub isLevel : ℕ → Field → Bool
 unfolding all decimalFrom noLeadingZero
-isLevel f = noLeadingZero f && all digit f && within 1 mostLevel (decimal f)
+isLevel top f = noLeadingZero f && all digit f && within 1 top (decimal f)
 
 -- "as many fields as the first line, each a decimal level"
-unfoldable pub isRow : ℕ → List Field → Bool
+unfoldable pub isRow : ℕ → ℕ → List Field → Bool
 unfolding all isLevel
-isRow n fs = eqb (length fs) n && all isLevel fs
+isRow top n fs = eqb (length fs) n && all (isLevel top) fs
 
-unfoldable pub isPlotLine : ℕ → Line → Bool
+unfoldable pub isPlotLine : ℕ → ℕ → Line → Bool
 unfolding fields isRow
-isPlotLine n l = l .ended && isRow n (fields (l .bytes))
+isPlotLine top n l = l .ended && isRow top n (fields (l .bytes))
 
 unfoldable pub laterLines : List ℕ → List Line
 unfolding past lines
@@ -211,18 +212,22 @@ unfolding withPlot fields
 withPlots cs u [] levels = levels
 withPlots cs u (l ∷ ls) levels = withPlots cs (suc u) ls (withPlot cs u (fields (l .bytes)) levels)
 
--- the same by cells (cell-read and cell-kept in proofs/Sheet): the level of the field that takes column c
-unfoldable pub levelIn : ℕ → List ℕ → List Field → ℕ
-levelIn c [] fs = 0
-levelIn c (d ∷ cs) [] = 0
-levelIn c (d ∷ cs) (f ∷ fs) = elim (eqb d c) [ true ↦ decimal f | false ↦ levelIn c cs fs ]
+-- the same by cells (cell-read and cell-kept in proofs/Sheet, cells-equal in proofs/Labels): the field that takes column c
+unfoldable pub fieldIn : ℕ → List ℕ → List Field → Field
+fieldIn c [] fs = []
+fieldIn c (d ∷ cs) [] = []
+fieldIn c (d ∷ cs) (f ∷ fs) = elim (eqb d c) [ true ↦ f | false ↦ fieldIn c cs fs ]
+
+abbrev pub noLine : Line
+noLine = record { bytes = []; ended = false }
+
+-- the field of cell 240 × c + u: column c, plot u
+abbrev pub cellField : List ℕ → ℕ → ℕ → Field
+cellField text c u = fieldIn c (columnsAfter 0 0 (header text)) (fields (getD (laterLines text) u noLine .bytes))
 
 -- column c is used by p plot and t treatment columns
 abbrev pub Used : ℕ → ℕ → ℕ → Type 0
 Used p t c = (c < p) ⊎ ((mostColumns ≤ c) × (c < mostColumns + t))
-
-abbrev pub noLine : Line
-noLine = record { bytes = []; ended = false }
 
 -- ---- printing
 
@@ -258,9 +263,9 @@ unfolding has isHeader header
 question3 text = has newline text && isHeader (header text)
 
 -- 4. "Does every later line have it?"
-unfoldable pub question4 : List ℕ → Bool
+unfoldable pub question4 : ℕ → List ℕ → Bool
 unfolding all isPlotLine header laterLines
-question4 text = all (isPlotLine (length (header text))) (laterLines text)
+question4 top text = all (isPlotLine top (length (header text))) (laterLines text)
 
 -- 5. "Are there 1 to 240 plot lines?"
 unfoldable pub question5 : List ℕ → Bool
@@ -277,20 +282,29 @@ unfolding laterLines header countKind
 counts text = read (length (laterLines text)) (countKind plotMark (header text)) (countKind treatmentMark (header text))
 
 -- questions 3 to 5
-unfoldable pub readingFrom3 : List ℕ → Outcome
+unfoldable pub readingFrom3 : ℕ → List ℕ → Outcome
 unfolding question3 question4 question5 counts
-readingFrom3 text = elim (question3 text) [
+readingFrom3 top text = elim (question3 text) [
   | false ↦ refused 3
-  | true ↦ elim (question4 text) [ false ↦ refused 4 | true ↦ elim (question5 text) [ false ↦ refused 5 | true ↦ counts text ] ]
+  | true ↦ elim (question4 top text) [ false ↦ refused 4 | true ↦ elim (question5 text) [ false ↦ refused 5 | true ↦ counts text ] ]
 ]
 
--- questions 1 to 5: "The first "no" gives its number."
-unfoldable pub reading : List ℕ → List ℕ → Outcome
+-- questions 1 to 5, with levels up to `top`: "The first "no" gives its number."
+unfoldable pub readingTo : ℕ → List ℕ → List ℕ → Outcome
 unfolding readingFrom3
-reading text levels = elim (question1 levels) [ false ↦ refused 1 | true ↦ elim (question2 text) [ false ↦ refused 2 | true ↦ readingFrom3 text ] ]
+readingTo top text levels = elim (question1 levels) [ false ↦ refused 1 | true ↦ elim (question2 text) [ false ↦ refused 2 | true ↦ readingFrom3 top text ] ]
+
+abbrev pub reading : List ℕ → List ℕ → Outcome
+reading = readingTo mostLevel
 
 -- The level table after a reading. "After 1 to 8 .. no lent memory has changed"; "Cells that no plot or column uses are not touched."
 unfoldable pub levelsAfter : Outcome → List ℕ → List ℕ → List ℕ
 unfolding withPlots columnsAfter header laterLines
 levelsAfter (refused q) text levels = levels
 levelsAfter (read n p t) text levels = withPlots (columnsAfter 0 0 (header text)) 0 (laterLines text) levels
+
+-- "Every older sheet gives the same families": an outcome o and the level table afterwards are those with levels up to 65535, unless these give 4
+abbrev pub OlderKept : List ℕ → List ℕ → Outcome → List ℕ → Type 0
+OlderKept text levels o after =
+    (readingTo mostOlderLevel text levels ≡ refused 4)
+    ⊎ ((o ≡ readingTo mostOlderLevel text levels) × (after ≡ levelsAfter (readingTo mostOlderLevel text levels) text levels))

@@ -12,7 +12,7 @@ use Rattle.rules.specs.Design.{Answer, fullDesign}
 use Rattle.rules.specs.Degrees.{degrees}
 use Rattle.rules.specs.Strata.{stratum, residuals}
 use Rattle.rules.specs.Lists.{decimalOf}
-use Rattle.rules.specs.Sheet.{Outcome, read, refused, reading, levelsAfter, newline, tab}
+use Rattle.rules.specs.Sheet.{Outcome, read, refused, readingTo, reading, levelsAfter, newline, tab}
 use Rattle.rules.specs.Naming.{Kind, plot, treatment, nameAt}
 
 -- ---- lines
@@ -164,7 +164,7 @@ outcomeRows text (read n p t) =
     designRows text n (levelsAfter (read n p t) text emptyTable) (fullDesign n p t mostInteraction (levelsAfter (read n p t) text emptyTable) familyBytes familyBytes)
 
 unfoldable pub tableRows : List ℕ → List Row
-unfolding outcomeRows reading emptyTable
+unfolding outcomeRows readingTo emptyTable
 tableRows text = outcomeRows text (reading text emptyTable)
 
 unfoldable pub tableText : List ℕ → List ℕ

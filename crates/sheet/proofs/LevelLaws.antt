@@ -51,19 +51,19 @@ module _ (s : ℕ) (text : List ℕ) (start : ℕ) (h : start < length text) whe
   first-low l =
       level-bad s start (drop start text)
       (by-cases (eqb (getD text start 0) 9)
-      (λ e. level-none (fieldOf (drop start text)) (rw (field-tab text start h (eqb-true _ _ e))))
+      (λ e. level-none mostLevel (fieldOf (drop start text)) (rw (field-tab text start h (eqb-true _ _ e))))
       (λ e. by-cases (eqb (getD text start 0) 10)
-      (λ k. level-none (fieldOf (drop start text)) (rw (field-newline text start h (eqb-true _ _ k))))
+      (λ k. level-none mostLevel (fieldOf (drop start text)) (rw (field-newline text start h (eqb-true _ _ k))))
       (λ k. by-cases (eqb (getD text start 0) 48)
-      (λ z. level-leading (fieldOf (drop start text)) (rw (field-on text start h (eqb-false _ _ e) (eqb-false _ _ k), z)))
+      (λ z. level-leading mostLevel (fieldOf (drop start text)) (rw (field-on text start h (eqb-false _ _ e) (eqb-false _ _ k), z)))
       (λ z. let y = eqb-false (getD text start 0) 48 z in
-      level-digit (fieldOf (drop start text)) (rw (field-on text start h (eqb-false _ _ e) (eqb-false _ _ k), lt-leb 48 (getD text start 0) (omega arith)))))))
+      level-digit mostLevel (fieldOf (drop start text)) (rw (field-on text start h (eqb-false _ _ e) (eqb-false _ _ k), lt-leb 48 (getD text start 0) (omega arith)))))))
 
   pub first-high : 57 < getD text start 0 → levelThere s (drop start text) ≡ false
   unfolding all
   first-high l =
       level-bad s start (drop start text)
-      (level-digit (fieldOf (drop start text)) (rw (field-on text start h (λ e. omega arith) (λ e. omega arith), lt-leb (getD text start 0) 57 l, and-false (leb 48 (getD text start 0)))))
+      (level-digit mostLevel (fieldOf (drop start text)) (rw (field-on text start h (λ e. omega arith) (λ e. omega arith), lt-leb (getD text start 0) 57 l, and-false (leb 48 (getD text start 0)))))
 
 -- ---- a walk over the field from `start` on, which starts as a level does: v is read, and the field from `at` on is left
 
@@ -105,13 +105,13 @@ module _ (text : List ℕ) (start at v s : ℕ) (d : Digits text start at v) whe
   -- the number is too large already
   pub digits-large : mostLevel < v → levelThere s (drop start text) ≡ false
   digits-large l =
-      level-bad s start (drop start text) (level-large (fieldOf (drop start text)) (omega (arith, d .number, decimal-grows v (fieldOf (drop at text)))))
+      level-bad s start (drop start text) (level-large mostLevel (fieldOf (drop start text)) (omega (arith, d .number, decimal-grows v (fieldOf (drop at text)))))
 
   module _ (h : at < length text) where
     -- it goes on with a byte that is no digit
     stray : (getD text at 0 ≡ 9 → ⊥) → (getD text at 0 ≡ 10 → ⊥) → digit (getD text at 0) ≡ false → levelThere s (drop start text) ≡ false
     unfolding all
-    stray p q b = level-bad s start (drop start text) (level-digit (fieldOf (drop start text)) (sym (d .digits) ∙ rw (field-on text at h p q, b)))
+    stray p q b = level-bad s start (drop start text) (level-digit mostLevel (fieldOf (drop start text)) (sym (d .digits) ∙ rw (field-on text at h p q, b)))
 
     pub digits-low : getD text at 0 < 48 → (getD text at 0 ≡ s → ⊥) → levelThere s (drop start text) ≡ false
     digits-low l n =
@@ -132,7 +132,7 @@ module _ (text : List ℕ) (start at v s : ℕ) (d : Digits text start at v) whe
           let f = field-stop text at h b in
           let n = read f in
           let a : all digit (fieldOf (drop start text)) ≡ true = sym (d .digits) ∙ rw f in
-          let good = level-is (fieldOf (drop start text)) (d .leading) a (omega (arith, d .some)) (omega arith) in
+          let good = level-is mostLevel (fieldOf (drop start text)) (d .leading) a (omega (arith, d .some)) (omega arith) in
           let z : at + 1 ≡ start + suc (length (fieldOf (drop start text))) = omega (arith, ended f) in
           rw (n, z) (sym (then-on s start (drop start text) (level-good text start at s (ended f) h e good)))
 
@@ -167,10 +167,14 @@ long-on i v d h l =
     let e : 10 ^ (i + 1) ≡ 10 ^ i * 10 = rw add-one (pow-suc 10 i) in
     record { least = omega (arith, l .least, e); most = omega (arith, l .most, e) }
 
--- of at most five digits
-pub long-few : (i v : ℕ) → i ≤ 5 → Long i v → v < 100000
-long-few i v h l = omega (arith, l .most, pow-le-pow-right {n = 10} (omega arith) {i = i} {j = 5} h)
+-- one digit more than a level has
+abbrev pub pastDigits : ℕ
+pastDigits = 11
 
--- of six
-pub long-six : (v : ℕ) → Long 6 v → mostLevel < v
-long-six v l = omega (arith, l .least)
+-- of fewer digits
+pub long-few : (i v : ℕ) → i < pastDigits → Long i v → v < 10000000000
+long-few i v h l = omega (arith, l .most, pow-le-pow-right {n = 10} (omega arith) {i = i} {j = 10} (omega arith))
+
+-- of so many
+pub long-past : (v : ℕ) → Long pastDigits v → mostLevel < v
+long-past v l = omega (arith, l .least)

@@ -10,6 +10,7 @@ use lib.Dec.{leb}
 use lib.ListN.{length, take, drop}
 use lib.Seq.{take-at}
 use borrow.Author.Tests.{leb-true}
+use Rattle.rules.specs.Limits.{mostLevel}
 use Rattle.rules.specs.Sheet.{Line, upTo, lines, all, countKind, header, columnsAfter, laterLines, isPlotLine, withPlots, question3, question4, question5, Outcome, read, refused, counts, readingFrom3, levelsAfter}
 use Rattle.rules.proofs.Sheet.{and-right, HeaderForm, header-form, kinds-all, length-columns, columns-fit}
 use Rattle.rules.proofs.Numbering.{by-cases}
@@ -36,20 +37,20 @@ module _ (text : List ℕ) (h : Header) (e : h ≡ headed text) where
 -- ---- questions 3 to 5 of a text
 
 module _ (text : List ℕ) where
-  pub refused-3 : question3 text ≡ false → readingFrom3 text ≡ refused 3
+  pub refused-3 : question3 text ≡ false → readingFrom3 mostLevel text ≡ refused 3
   unfolding readingFrom3
   refused-3 a = rw (a, readingFrom3)
 
-  refused-4 : question3 text ≡ true → question4 text ≡ false → readingFrom3 text ≡ refused 4
+  refused-4 : question3 text ≡ true → question4 mostLevel text ≡ false → readingFrom3 mostLevel text ≡ refused 4
   unfolding readingFrom3
   refused-4 a b = rw (a, b, readingFrom3)
 
-  refused-5 : question3 text ≡ true → question4 text ≡ true → question5 text ≡ false → readingFrom3 text ≡ refused 5
+  refused-5 : question3 text ≡ true → question4 mostLevel text ≡ true → question5 text ≡ false → readingFrom3 mostLevel text ≡ refused 5
   unfolding readingFrom3
   refused-5 a b c = rw (a, b, c, readingFrom3)
 
-  all-read : question3 text ≡ true → question4 text ≡ true → question5 text ≡ true
-      → readingFrom3 text ≡ read (length (laterLines text)) (countKind 112 (header text)) (countKind 116 (header text))
+  all-read : question3 text ≡ true → question4 mostLevel text ≡ true → question5 text ≡ true
+      → readingFrom3 mostLevel text ≡ read (length (laterLines text)) (countKind 112 (header text)) (countKind 116 (header text))
   unfolding readingFrom3 counts
   all-read a b c = rw (a, b, c, readingFrom3)
 
@@ -95,19 +96,19 @@ module _ (text : List ℕ) (q : question3 text ≡ true) (h : Header) (is : h �
     judged-later : r ≡ judged 0 (length (header text)) (laterLines text)
     judged-later = e ∙ ap₂ (λ (n : ℕ) (ls : List Line). judged 0 n ls) fields-all later
 
-    bad : question4 text ≡ false → r ≡ record { good = false; count = 0 }
+    bad : question4 mostLevel text ≡ false → r ≡ record { good = false; count = 0 }
     unfolding judged question4
     bad a = judged-later ∙ rw (a, judged)
 
-    good : question4 text ≡ true → r ≡ record { good = true; count = length (laterLines text) }
+    good : question4 mostLevel text ≡ true → r ≡ record { good = true; count = length (laterLines text) }
     unfolding judged question4
     good a = judged-later ∙ rw (a, judged, zero-add)
 
     -- they fail one
-    pub later-failed : (failing r ≡ 0 → ⊥) → readingFrom3 text ≡ refused (failing r)
+    pub later-failed : (failing r ≡ 0 → ⊥) → readingFrom3 mostLevel text ≡ refused (failing r)
     unfolding question5
     later-failed n =
-        by-cases (question4 text)
+        by-cases (question4 mostLevel text)
         (λ a. by-cases (question5 text)
         (λ w. absurd (n (ap failing (good a) ∙ rw (w, failing))))
         (λ w. refused-5 text q a w ∙ ap refused (sym (ap failing (good a) ∙ rw (w, failing)))))
@@ -115,10 +116,10 @@ module _ (text : List ℕ) (q : question3 text ≡ true) (h : Header) (is : h �
 
     -- they fail none: the lines can be stored, and the sheet is read
     module _ (z : failing r ≡ 0) where
-      both : (question4 text ≡ true) × (question5 text ≡ true)
+      both : (question4 mostLevel text ≡ true) × (question5 text ≡ true)
       unfolding question5
       both =
-          by-cases (question4 text)
+          by-cases (question4 mostLevel text)
           (λ a. by-cases (question5 text) (λ w. (a, w)) (λ w. absurd (no 5 (omega arith) (sym (ap failing (good a) ∙ rw (w, failing)) ∙ z))))
           (λ a. absurd (no 4 (omega arith) (sym (ap failing (bad a)) ∙ z)))
         where
@@ -136,12 +137,12 @@ module _ (text : List ℕ) (q : question3 text ≡ true) (h : Header) (is : h �
         form = rw (fields-all, later) (both .0);
       }
 
-      pub later-read : readingFrom3 text ≡ read (r .count) (h .«plot_columns») (h .«treatment_columns»)
+      pub later-read : readingFrom3 mostLevel text ≡ read (r .count) (h .«plot_columns») (h .«treatment_columns»)
       unfolding firstLine
       later-read = rw (is, count-is) (all-read text q (both .0) (both .1))
 
       -- the rules' table
-      pub later-stored : (levels : List ℕ) → withPlots (take fieldsIn (h .columns)) 0 (lines (drop (h .end) text)) levels ≡ levelsAfter (readingFrom3 text) text levels
+      pub later-stored : (levels : List ℕ) → withPlots (take fieldsIn (h .columns)) 0 (lines (drop (h .end) text)) levels ≡ levelsAfter (readingFrom3 mostLevel text) text levels
       unfolding levelsAfter
       later-stored levels =
           ap₂ (λ (cs : List ℕ) (ls : List Line). withPlots cs 0 ls levels) columns-all later

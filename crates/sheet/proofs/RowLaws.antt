@@ -10,6 +10,7 @@ use lib.Dec.{eqb, ltb}
 use lib.ListN.{length, getD, drop, drop-of-length-le, length-drop}
 use lib.Seq.{drop-cons, drop-drop}
 use borrow.Author.Tests.{eq-eqb, ne-eqb, eqb-true, eqb-false, lt-ltb, le-ltb, ltb-true}
+use Rattle.rules.specs.Limits.{mostLevel}
 use Rattle.rules.specs.Sheet.{Field, Line, upTo, past, has, fields, lines, all, isLevel, isRow, isPlotLine}
 use Rattle.rules.proofs.Numbering.{by-cases}
 use Rattle.rules.proofs.Members.{clash}
@@ -54,7 +55,7 @@ module _ (s at : ℕ) (xs : List ℕ) where
       (λ h. rw (h, ne-eqb (getD xs (length (fieldOf xs)) 0) s (n (ltb-true (length (fieldOf xs)) (length xs) h))))
       (λ h. rw h)
 
-  pub level-bad : isLevel (fieldOf xs) ≡ false → levelThere s xs ≡ false
+  pub level-bad : isLevel mostLevel (fieldOf xs) ≡ false → levelThere s xs ≡ false
   unfolding levelThere
   level-bad e = rw e (and-false (ltb (length (fieldOf xs)) (length xs) && eqb (getD xs (length (fieldOf xs)) 0) s))
 
@@ -66,7 +67,7 @@ module _ (text : List ℕ) (start e s : ℕ) (d : e ≡ start + length (fieldOf 
   pub level-other : (getD text e 0 ≡ s → ⊥) → levelThere s (drop start text) ≡ false
   level-other n = not-there s start (drop start text) (λ l b. n (field-byte text start e d ∙ b))
 
-  pub level-good : e < length text → getD text e 0 ≡ s → isLevel (fieldOf (drop start text)) ≡ true → levelThere s (drop start text) ≡ true
+  pub level-good : e < length text → getD text e 0 ≡ s → isLevel mostLevel (fieldOf (drop start text)) ≡ true → levelThere s (drop start text) ≡ true
   unfolding levelThere
   level-good h b l =
       let k : length (fieldOf (drop start text)) < length (drop start text) = omega (arith, length-drop start text) in
@@ -85,12 +86,12 @@ row-turn m xs = go (stop xs)
     F : List Field
     F = fields (upTo 10 ys)
 
-    tabbed : (b h : Bool) → h && (eqb (suc (length F)) (suc (suc m)) && (b && all isLevel F)) ≡ b && (h && (eqb (length F) (suc m) && all isLevel F))
+    tabbed : (b h : Bool) → h && (eqb (suc (length F)) (suc (suc m)) && (b && all (isLevel mostLevel) F)) ≡ b && (h && (eqb (length F) (suc m) && all (isLevel mostLevel) F))
     tabbed true h = rw (eqb-suc (length F) (suc m))
     tabbed false h = rw (and-false (eqb (suc (length F)) (suc (suc m)))) (and-false h)
 
     go : Stop xs → rowThere (suc (suc m)) xs ≡ levelThere 9 xs && rowThere (suc m) ys
-    go (at-tab r) = rw (r .parts, r .ends, lt-ltb _ _ (r .less), r .byte) (tabbed (isLevel (fieldOf xs)) (has 10 ys))
+    go (at-tab r) = rw (r .parts, r .ends, lt-ltb _ _ (r .less), r .byte) (tabbed (isLevel mostLevel (fieldOf xs)) (has 10 ys))
     go (at-newline r) = rw (r .parts, r .ends, lt-ltb _ _ (r .less), r .byte, ne-eqb 1 (suc (suc m)) (λ e. omega arith))
     go (at-end r) = rw (r .ends, le-ltb _ _ (r .all-of-it))
 
@@ -111,7 +112,7 @@ row-last xs = go (stop xs)
 
     go : Stop xs → rowThere 1 xs ≡ levelThere 10 xs
     go (at-tab r) = rw (r .parts, r .byte, two, and-false (has 10 xs), and-false (ltb (length (fieldOf xs)) (length xs)))
-    go (at-newline r) = rw (r .parts, r .ends, lt-ltb _ _ (r .less), r .byte) (one (isLevel (fieldOf xs)))
+    go (at-newline r) = rw (r .parts, r .ends, lt-ltb _ _ (r .less), r .byte) (one (isLevel mostLevel (fieldOf xs)))
     go (at-end r) = rw (r .ends, le-ltb _ _ (r .all-of-it))
 
 -- where it ends
@@ -226,13 +227,13 @@ module _ (count n : ℕ) (text : List ℕ) (at : ℕ) where
   unfolding judged all
   judged-end = ap (λ (k : ℕ). record { good = true; count = k }) (add-zero count)
 
-  judged-no : (l : Line) (ls : List Line) → isPlotLine n l ≡ false → judged count n (l ∷ ls) ≡ record { good = false; count = 0 }
+  judged-no : (l : Line) (ls : List Line) → isPlotLine mostLevel n l ≡ false → judged count n (l ∷ ls) ≡ record { good = false; count = 0 }
   unfolding judged all
   judged-no l ls e = rw (e, judged)
 
-  judged-yes : (l : Line) (ls : List Line) → isPlotLine n l ≡ true → judged count n (l ∷ ls) ≡ judged (count + 1) n ls
+  judged-yes : (l : Line) (ls : List Line) → isPlotLine mostLevel n l ≡ true → judged count n (l ∷ ls) ≡ judged (count + 1) n ls
   unfolding judged all
-  judged-yes l ls e = by-cases (all (isPlotLine n) ls) (λ a. rw (e, judged, a) (ap (λ (k : ℕ). record { good = true; count = k }) (omega arith))) (λ a. rw (e, judged, a))
+  judged-yes l ls e = by-cases (all (isPlotLine mostLevel n) ls) (λ a. rw (e, judged, a) (ap (λ (k : ℕ). record { good = true; count = k }) (omega arith))) (λ a. rw (e, judged, a))
 
   pub judge-end : length text ≤ at → judged count n (lines (drop at text)) ≡ record { good = true; count = count }
   judge-end h = rw (lines-none text at h) judged-end

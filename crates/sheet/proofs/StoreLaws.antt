@@ -11,6 +11,7 @@ use lib.Dec.{ltb}
 use lib.ListN.{length, getD, drop, set}
 use lib.Seq.{drop-drop}
 use borrow.Author.Tests.{ltb-true, ltb-false}
+use Rattle.rules.specs.Limits.{mostLevel}
 use Rattle.rules.specs.Sheet.{Field, Line, upTo, has, fields, lines, all, decimal, withPlot, withPlots, isPlotLine}
 use Rattle.rules.proofs.Sheet.{and-left, and-right}
 use Rattle.rules.proofs.Members.{clash}
@@ -103,7 +104,7 @@ no-lines cs u levels = refl
 -- what is left: lines from `at` on, to be stored from plot u on
 pub record More (cs : List ℕ) (n u plots : ℕ) (text : List ℕ) (at : ℕ) (levels W : List ℕ) : Type 0 where
   pub counted : u + length (lines (drop at text)) ≡ plots
-  pub form : all (isPlotLine n) (lines (drop at text)) ≡ true
+  pub form : all (isPlotLine mostLevel n) (lines (drop at text)) ≡ true
   pub work : withPlots cs u (lines (drop at text)) levels ≡ W
 
 module _ (cs : List ℕ) (n u plots : ℕ) (text : List ℕ) (at : ℕ) (levels W : List ℕ) (m : More cs n u plots text at levels W) where
@@ -128,14 +129,14 @@ module _ (cs : List ℕ) (n u plots : ℕ) (text : List ℕ) (at : ℕ) (levels 
 
   pub more-form : u < plots → rowThere n (drop at text) ≡ true
   unfolding isPlotLine rowThere all
-  more-form h = and-left (isPlotLine n first) _ (rw (lines-turn text at (more-inside h)) at (m .form))
+  more-form h = and-left (isPlotLine mostLevel n first) _ (rw (lines-turn text at (more-inside h)) at (m .form))
 
   pub more-turn : u < plots → (r : ℕ) (after : List ℕ) → r ≡ at + suc (length (upTo 10 (drop at text))) → after ≡ withPlot cs u (fields (upTo 10 (drop at text))) levels
       → More cs n (u + 1) plots text r after W
   unfolding all withPlots
   more-turn h r after e w = record {
     counted = let k = ap length turn in omega (arith, m .counted);
-    form = and-right (isPlotLine n first) (all (isPlotLine n) (lines (drop r text))) (rw turn at (m .form));
+    form = and-right (isPlotLine mostLevel n first) (all (isPlotLine mostLevel n) (lines (drop r text))) (rw turn at (m .form));
     work = rw (w, add-one) (rw turn at (m .work));
   }
     where

@@ -5,7 +5,7 @@ use mathlib.Core.List.{List, [], _∷_, _++_}
 use Prim.Native.Nat.{ℕ, zero, suc, _+_, _-_, min}
 use lib.Dec.{leb}
 use lib.ListN.{length, replicate}
-use Rattle.rules.specs.Limits.{mostPlots, mostColumns, mostFields}
+use Rattle.rules.specs.Limits.{mostPlots, mostColumns, mostFields, mostLevel}
 use Rattle.rules.specs.Sheet.{Field, Line, newline, plotMark, treatmentMark, all, within, has, upTo, isColumn, isKind, countKind, header, columnsAfter, isPlotLine, question3, Outcome, read, refused}
 use Rattle.sheet.specs.declared.Reading.{Reading}
 use Rattle.sheet.specs.declared.Reading.the-variants.{Read, Refused}
@@ -85,7 +85,7 @@ columnSpan mark c text = spanFrom mark c 0 (header text)
 -- question 4 of these lines, after `count` others
 unfoldable pub judged : ℕ → ℕ → List Line → Rows
 unfolding all isPlotLine
-judged count n ls = elim (all (isPlotLine n) ls) [ true ↦ record { good = true; count = count + length ls } | false ↦ record { good = false; count = 0 } ]
+judged count n ls = elim (all (isPlotLine mostLevel n) ls) [ true ↦ record { good = true; count = count + length ls } | false ↦ record { good = false; count = 0 } ]
 
 -- which of questions 4 and 5 judged lines fail; 0 where they fail none
 abbrev pub failing : Rows → ℕ

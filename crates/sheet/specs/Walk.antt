@@ -7,7 +7,7 @@ use Prim.Native.Nat.{ℕ, zero, suc, _+_, _≤_}
 use lib.Dec.{eqb, ltb}
 use lib.ListN.{length, getD, drop}
 use Rattle.rules.specs.Sheet.{Field, tab, newline, all, upTo, has, fields, lines, header, isColumn, isLevel, isRow, isPlotLine, decimal, decimalFrom, plotMark, treatmentMark}
-use Rattle.rules.specs.Limits.{tableCells, mostFields, mostPlots}
+use Rattle.rules.specs.Limits.{tableCells, mostFields, mostPlots, mostLevel}
 use Rattle.sheet.specs.declared.field.FieldLevel.{FieldLevel}
 
 -- the field that xs starts with: the bytes before the first tab or newline
@@ -41,7 +41,7 @@ OfColumns xs = (has newline xs ≡ true) × (all isColumn (header xs) ≡ true)
 -- xs starts with a level and then the byte `stop`
 unfoldable pub levelThere : ℕ → List ℕ → Bool
 unfolding fieldOf isLevel
-levelThere stop xs = ltb (length (fieldOf xs)) (length xs) && eqb (getD xs (length (fieldOf xs)) 0) stop && isLevel (fieldOf xs)
+levelThere stop xs = ltb (length (fieldOf xs)) (length xs) && eqb (getD xs (length (fieldOf xs)) 0) stop && isLevel mostLevel (fieldOf xs)
 
 -- the place after them, when xs stands at `at`; 0 where they are not there
 unfoldable pub levelEnd : ℕ → ℕ → List ℕ → ℕ
@@ -61,7 +61,7 @@ stopBefore (suc m) = tab
 -- xs starts with a line of n levels
 unfoldable pub rowThere : ℕ → List ℕ → Bool
 unfolding has isRow fields upTo
-rowThere n xs = has newline xs && isRow n (fields (upTo newline xs))
+rowThere n xs = has newline xs && isRow mostLevel n (fields (upTo newline xs))
 
 -- the place after it
 unfoldable pub rowEnd : ℕ → ℕ → List ℕ → ℕ
@@ -85,4 +85,4 @@ pub record Store (columns : List ℕ) (n cells : ℕ) : Type 0 where
 pub record PlotLines (text : List ℕ) (start n plots : ℕ) : Type 0 where
   pub counted : plots ≡ length (lines (drop start text))
   pub few : plots ≤ mostPlots
-  pub form : all (isPlotLine n) (lines (drop start text)) ≡ true
+  pub form : all (isPlotLine mostLevel n) (lines (drop start text)) ≡ true

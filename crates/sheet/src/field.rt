@@ -10,8 +10,8 @@ ghost use Rattle.sheet.specs.Walk.{fieldOf, levelThen, noLevel, isMark};
 use limits::LEVEL;
 use limits::Level;
 
-// A level has at most five digits, and a byte follows.
-const PAST_DIGITS: usize = 6;
+// A level has at most ten digits, and a byte follows.
+const PAST_DIGITS: usize = 11;
 
 // The end of the field that starts at `at`: the place of the next byte 9 or 10, or the text's length.
 pub fn end_of(text: &[u8], start: usize) -> usize
@@ -52,7 +52,7 @@ pub fn level_then(text: &[u8], start: usize, stop: u8) -> FieldLevel
     if b'9' < first {
         return no_level();
     }
-    let mut v = (first - b'0') as u32;
+    let mut v = (first - b'0') as u64;
     for i in 1..PAST_DIGITS {
         let at = start + i;
         if text.len() <= at {
@@ -74,7 +74,7 @@ pub fn level_then(text: &[u8], start: usize, stop: u8) -> FieldLevel
         if b'9' < x {
             return no_level();
         }
-        v = 10 * v + (x - b'0') as u32;
+        v = 10 * v + (x - b'0') as u64;
     }
     no_level()
 }

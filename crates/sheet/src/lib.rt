@@ -1,6 +1,6 @@
 // The sheet reader: the only way from text to a level table.
 ghost use mathlib.Core.Path.{_≡_};
-ghost use Rattle.rules.specs.Sheet.{reading, levelsAfter};
+ghost use Rattle.rules.specs.Sheet.{reading, levelsAfter, OlderKept};
 ghost use Rattle.sheet.specs.Answers.{outcomeOf};
 
 mod field;
@@ -33,6 +33,7 @@ pub enum Reading {
 pub fn read_sheet(text: &[u8], levels: &mut [Level]) -> Reading
     ensures answer { λ r. ⌜ outcomeOf r ≡ reading (now (text .entry)) (now (levels .entry)) ⌝ }
     ensures table { λ _. ⌜ now (levels .exit) ≡ levelsAfter (reading (now (text .entry)) (now (levels .entry))) (now (text .entry)) (now (levels .entry)) ⌝ }
+    ensures older { λ r. ⌜ OlderKept (now (text .entry)) (now (levels .entry)) (outcomeOf r) (now (levels .exit)) ⌝ }
 {
     if levels.len() < LEVELS {
         return Reading::Refused(1);

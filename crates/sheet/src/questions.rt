@@ -7,7 +7,7 @@ use crate::rows::Rows;
 ghost use mathlib.Core.Path.{_≡_};
 ghost use Prim.Native.Nat.{_≤_};
 ghost use lib.ListN.{length};
-ghost use Rattle.rules.specs.Limits.{tableCells};
+ghost use Rattle.rules.specs.Limits.{mostLevel, tableCells};
 ghost use Rattle.rules.specs.Sheet.{readingFrom3, levelsAfter};
 ghost use Rattle.sheet.specs.Answers.{outcomeOf, failing};
 use limits::Level;
@@ -16,8 +16,8 @@ use limits::PLOTS;
 // Asks questions 3 to 5 of the text, and writes where the answers are yes. The table is as long as question 1 asks.
 pub fn from_3(text: &[u8], levels: &mut [Level]) -> Reading
     requires { ⌜ tableCells ≤ length (now levels) ⌝ }
-    ensures { λ r. ⌜ outcomeOf r ≡ readingFrom3 (now (text .entry)) ⌝ }
-    ensures { λ _. ⌜ now (levels .exit) ≡ levelsAfter (readingFrom3 (now (text .entry))) (now (text .entry)) (now (levels .entry)) ⌝ }
+    ensures { λ r. ⌜ outcomeOf r ≡ readingFrom3 mostLevel (now (text .entry)) ⌝ }
+    ensures { λ _. ⌜ now (levels .exit) ≡ levelsAfter (readingFrom3 mostLevel (now (text .entry))) (now (text .entry)) (now (levels .entry)) ⌝ }
 {
     let h = header::read_header(text);
     let at = h.end;

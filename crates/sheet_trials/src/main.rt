@@ -1,6 +1,7 @@
 // Runs the sheet reader on small, damaged and large sheets. A line of the output is the case, the answer, how many cells of the
 // level table changed, and the first of these as place=level. The expected output was worked out from the rules.
 use libc::STDOUT_FILENO;
+use limits::Level;
 use sheet::Reading;
 
 fn main() {
@@ -11,6 +12,7 @@ fn main() {
     unended();
     tabs();
     level_range();
+    past_the_highest();
     level_form();
     odd_bytes();
     line_counts();
@@ -79,11 +81,20 @@ fn tabs() {
 }
 
 fn level_range() {
+    case(b"0|p:Hut\n0\n");
     case(b"65535|p:Hut\n65535\n");
     case(b"65536|p:Hut\n65536\n");
-    case(b"0|p:Hut\n0\n");
     case(b"131073|p:Hut\n131073\n");
+    case(b"1000000000|p:Hut\n1000000000\n");
+    case(b"4294967295|p:Hut\n4294967295\n");
+    case(b"labels 2^16 apart|p:Hut\n1\n65537\n4294901761\n");
+}
+
+fn past_the_highest() {
+    case(b"4294967296|p:Hut\n4294967296\n");
     case(b"4294967297|p:Hut\n4294967297\n");
+    case(b"9999999999|p:Hut\n9999999999\n");
+    case(b"10000000000|p:Hut\n10000000000\n");
     case(b"18446744073709551617|p:Hut\n18446744073709551617\n");
 }
 
@@ -130,7 +141,7 @@ fn long_fields() {
 
 fn short_table() {
     io::write_all(STDOUT_FILENO, b"short table and empty text\t");
-    let mut table = [9999u16; 2879];
+    let mut table: [Level; 2879] = [9999; 2879];
     print(sheet::read_sheet(b"", &mut table));
     changes(&table);
 }
@@ -163,13 +174,13 @@ fn put(text: &mut [u8], len: usize, x: u8) {
     }
 }
 
-// Reads `p:Hut` and `end`, 30,000 times the byte `x`, a newline, level 1 and a newline.
+// Reads `p:Hut` and `end`, 32,000 times the byte `x`, a newline, level 1 and a newline.
 fn long(label: &[u8], x: u8, end: u8) {
     let mut text = start(x, end);
-    text[30006] = b'\n';
-    text[30007] = b'1';
-    text[30008] = b'\n';
-    show_part(label, &text, 30009);
+    text[32006] = b'\n';
+    text[32007] = b'1';
+    text[32008] = b'\n';
+    show_part(label, &text, 32009);
 }
 
 // Reads the first `len` bytes.
@@ -213,7 +224,7 @@ fn bar(s: &[u8]) -> usize {
 
 // Prints a case: its label, the answer and what changed in a level table that is longer than the reader asks.
 fn show(label: &[u8], text: &[u8]) {
-    let mut table = [9999u16; 3000];
+    let mut table: [Level; 3000] = [9999; 3000];
     io::write_all(STDOUT_FILENO, label);
     io::write_all(STDOUT_FILENO, b"\t");
     print(sheet::read_sheet(text, &mut table));
@@ -221,7 +232,7 @@ fn show(label: &[u8], text: &[u8]) {
 }
 
 // Prints how many cells changed, and the first twelve.
-fn changes(table: &[u16]) {
+fn changes(table: &[Level]) {
     io::write_all(STDOUT_FILENO, b"\t");
     io::print_decimal(STDOUT_FILENO, wide(changed(table)));
     cells(table);
@@ -229,7 +240,7 @@ fn changes(table: &[u16]) {
 }
 
 // Prints the first twelve cells that changed.
-fn cells(table: &[u16]) {
+fn cells(table: &[Level]) {
     let mut left: usize = 12;
     for i in 0..table.len() {
         let x = table[i];
@@ -242,7 +253,7 @@ fn cells(table: &[u16]) {
     }
 }
 
-fn cell(i: usize, x: u16) {
+fn cell(i: usize, x: Level) {
     io::write_all(STDOUT_FILENO, b" ");
     io::print_decimal(STDOUT_FILENO, wide(i));
     io::write_all(STDOUT_FILENO, b"=");
@@ -250,7 +261,7 @@ fn cell(i: usize, x: u16) {
 }
 
 // How many cells changed. No case has the level 9999.
-fn changed(table: &[u16]) -> usize {
+fn changed(table: &[Level]) -> usize {
     let mut n = 0;
     for i in 0..table.len() {
         if table[i] != 9999 {
@@ -288,6 +299,6 @@ fn wide(n: usize) -> u64 {
     n as u64
 }
 
-fn wide_level(n: u16) -> u64 {
+fn wide_level(n: Level) -> u64 {
     n as u64
 }

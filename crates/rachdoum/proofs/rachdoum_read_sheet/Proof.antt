@@ -24,7 +24,7 @@ returns c =
     let q = c .before .before in
     let f = q .before .before .before .before in
     let e = sym (ap outcomeOf (q .found .given .1)) ∙ f .read-sheet .ensures .0 in
-    (ap readingRefusal e, (f .read-sheet .ensures .1, ap readingNumbers e))
+    (ap readingRefusal e, (f .read-sheet .ensures .1 .0, ap readingNumbers e))
 
 same-length-2 : tie.Need-same-length-2
 same-length-2 c = search needs
@@ -34,7 +34,7 @@ returns-2 c =
     let q = c .before .before in
     let f = q .before .before .before .before in
     let e = sym (ap outcomeOf (q .found2 .given .1)) ∙ f .read-sheet .ensures .0 in
-    (ap readingRefusal e, (f .read-sheet .ensures .1, ap readingNumbers e))
+    (ap readingRefusal e, (f .read-sheet .ensures .1 .0, ap readingNumbers e))
 
 pub rachdoum-read-sheet-spec : {M : Type 1} → statement M
 rachdoum-read-sheet-spec =

@@ -1,34 +1,37 @@
 -- `sheet::read_sheet` meets its contract.
 -- Assumes nothing.
-use mathlib.Core.Path.{sym, _∙_}
+use mathlib.Core.Path.{_≡_, sym, ap, _∙_}
+use mathlib.Core.List.{List}
+use Prim.Native.Nat.{ℕ}
 use native.Mathlib.Omega.{arith}
 use borrow.Author.Needs.{needs}
 use denote.Ref.{now}
-use Rattle.rules.specs.Sheet.{levelsAfter}
+use Rattle.rules.specs.Sheet.{Outcome, refused, reading, levelsAfter, OlderKept}
 use Rattle.rules.proofs.Sheet.{refused-1, too-short, too-long, text-fits}
+use Rattle.rules.proofs.OlderSheets.{older-kept}
 use Rattle.sheet.proofs.read_sheet.Statement.{statement}
 use Rattle.sheet.proofs.read_sheet.Tie as tie
 
-returns : tie.Need-returns
+-- a refusal that leaves the level table as it was
+refusal : (text levels : List ℕ) (q : ℕ) → reading text levels ≡ refused q
+    → (refused q ≡ reading text levels) × ((levels ≡ levelsAfter (reading text levels) text levels) × OlderKept text levels (refused q) levels)
 unfolding levelsAfter
+refusal text levels q e = let kept : levels ≡ levelsAfter (reading text levels) text levels = rw e in (sym e, (kept, older-kept text levels (refused q) levels (sym e) kept))
+
+returns : tie.Need-returns
 returns c =
     let s = c .before .before .before .args in
-    let e = refused-1 (now (s .text)) (now (s .levels)) (c .if1 .taken) in
-    (rw e, rw e)
+    refusal (now (s .text)) (now (s .levels)) 1 (refused-1 (now (s .text)) (now (s .levels)) (c .if1 .taken))
 
 returns-2 : tie.Need-returns-2
-unfolding levelsAfter
 returns-2 c =
     let s = c .before .before .before .before .args in
-    let e = too-short (now (s .text)) (now (s .levels)) (omega arith) (c .if2 .taken) in
-    (rw e, rw e)
+    refusal (now (s .text)) (now (s .levels)) 2 (too-short (now (s .text)) (now (s .levels)) (omega arith) (c .if2 .taken))
 
 returns-3 : tie.Need-returns-3
-unfolding levelsAfter
 returns-3 c =
     let s = c .before .before .before .before .before .args in
-    let e = too-long (now (s .text)) (now (s .levels)) (omega arith) (c .if3 .taken) in
-    (rw e, rw e)
+    refusal (now (s .text)) (now (s .levels)) 2 (too-long (now (s .text)) (now (s .levels)) (omega arith) (c .if3 .taken))
 
 from-3-requires : tie.Need-from-3-requires
 from-3-requires c κs = omega arith
@@ -41,7 +44,9 @@ returns-4 c =
     let s = c .before .before .before .before .before .before .before .before .before .args in
     let e = text-fits (now (s .text)) (now (s .levels)) (omega arith) (omega arith) (omega arith) in
     let r = c .before .before .from-3 .ensures in
-    (r .0 ∙ sym e, rw e (r .1))
+    let answer = r .0 ∙ sym e in
+    let table = r .1 ∙ ap (λ (o : Outcome). levelsAfter o (now (s .text)) (now (s .levels))) (sym e) in
+    (answer, (table, older-kept (now (s .text)) (now (s .levels)) _ _ answer table))
 
 pub read-sheet-spec : {M : Type 1} → statement M
 read-sheet-spec =

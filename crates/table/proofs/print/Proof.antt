@@ -73,7 +73,7 @@ print-design-requires c κs =
       read-questions text emptyTable (k .plots) (k .«plot_columns») (k .«treatment_columns») e .1,
       w .plots-some,
       w .plots-few,
-      levels-long text (sheet .last .1 .0) (sheet .ensures .1),
+      levels-long text (sheet .last .1 .0) (sheet .ensures .1 .0),
       (w .plot-columns, w .treatment-columns),
     )
 
@@ -90,7 +90,7 @@ returns-2 c =
     let k = given .0 .0 in
     let e : read (k .plots) (k .«plot_columns») (k .«treatment_columns») ≡ reading (now (a .text)) emptyTable = sym (ap outcomeOf (given .1)) ∙ sheet .ensures .0 in
     wrote-as (now (a .out)) 0
-    (read-text (now (a .text)) (k .plots) (k .«plot_columns») (k .«treatment_columns») (sheet .last .1 .0) e (sheet .ensures .1))
+    (read-text (now (a .text)) (k .plots) (k .«plot_columns») (k .«treatment_columns») (sheet .last .1 .0) e (sheet .ensures .1 .0))
     (c .before .before .print-design .ensures)
 
 pub print-spec : {M : Type 1} → statement M

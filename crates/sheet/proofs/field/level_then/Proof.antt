@@ -8,15 +8,15 @@ use borrow.Author.Needs.{needs}
 use denote.Ref.{now}
 use lib.Dec.{eqb}
 use lib.ListN.{getD, drop}
-use Rattle.sheet.proofs.LevelLaws.{Digits, digits-start, digits-out, digits-low, digits-high, digits-end, digits-large, digits-on, none-left, first-low, first-high, then-off, Long, long-on, long-few, long-six}
+use Rattle.sheet.proofs.LevelLaws.{Digits, digits-start, digits-out, digits-low, digits-high, digits-end, digits-large, digits-on, none-left, first-low, first-high, then-off, Long, long-on, pastDigits, long-few, long-past}
 use Rattle.sheet.proofs.field.level_then.Statement.{statement}
 use Rattle.sheet.proofs.field.level_then.Tie as tie
 
 abbrev Inv-loop : tie.InvT-loop
-Inv-loop text start stop first v₀ i₀ v i = (1 ≤ i) × (i ≤ 6) × Long i v × Digits text start (start + i) v
+Inv-loop text start stop first v₀ i₀ v i = (1 ≤ i) × (i ≤ pastDigits) × Long i v × Digits text start (start + i) v
 
 abbrev μ-loop : tie.MeasureT-loop
-μ-loop text start stop first v₀ i₀ v i = 6 - i
+μ-loop text start stop first v₀ i₀ v i = pastDigits - i
 
 -- the byte that ends the digits is the one asked for
 ends : (x stop : ℕ) → x ≡ stop → (eqb stop 9 || eqb stop 10) ≡ true → (eqb x 9 || eqb x 10) ≡ true
@@ -155,8 +155,8 @@ returns-9 : tie.Need-returns-9 Inv-loop μ-loop
 returns-9 c =
     let b = c .before .before in
     let s = b .before .before .before .before .before .before .args in
-    let e : b .loop .i ≡ 6 = omega arith in
-    let large = long-six (b .loop .v) (rw e at (b .loop .inv .2)) in
+    let e : b .loop .i ≡ pastDigits = omega arith in
+    let large = long-past (b .loop .v) (rw e at (b .loop .inv .2)) in
     let bad = digits-large (now (s .text)) (s .start) (s .start + b .loop .i) (b .loop .v) (s .stop) (b .loop .inv .3) large in
     c .no-level8 .ensures ∙ sym (then-off (s .stop) (s .start) (drop (s .start) (now (s .text))) bad)
 

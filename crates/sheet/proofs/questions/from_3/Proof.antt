@@ -7,6 +7,7 @@ use mathlib.Core.List.{List}
 use native.Mathlib.Omega.{arith}
 use borrow.Author.Needs.{needs}
 use denote.Ref.{now}
+use Rattle.rules.specs.Limits.{mostLevel}
 use Rattle.rules.specs.Sheet.{question3, readingFrom3, levelsAfter, refused}
 use Rattle.sheet.specs.declared.header.Header.{Header}
 use Rattle.sheet.specs.Answers.{firstLine, failing}
@@ -54,7 +55,7 @@ returns-2 c =
     let d = c .before .before .before in
     let j = c .before .before .judge in
     let q = c .before .failed .ensures in
-    let e : readingFrom3 (text d) ≡ refused (c .before .failed .result) = later-failed (text d) (yes d) (h d) (is d) (j .result) (j .ensures) (λ z. c .if2 .taken (q ∙ z)) ∙ ap refused (sym q) in
+    let e : readingFrom3 mostLevel (text d) ≡ refused (c .before .failed .result) = later-failed (text d) (yes d) (h d) (is d) (j .result) (j .ensures) (λ z. c .if2 .taken (q ∙ z)) ∙ ap refused (sym q) in
     (rw e, rw e)
 
 -- questions 4 and 5 said yes
