@@ -1,16 +1,17 @@
 -- Sheets with levels up to a lower top: what is read of them, and what is made of it, stays with a higher one.
 -- Assumes nothing.
-use mathlib.Core.Path.{_≡_, sym, ap, _∙_}
+use mathlib.Core.Path.{_≡_, refl, sym, ap, _∙_}
 use mathlib.Core.Logic.{_⊎_, inl, inr, ⊎-elim}
-use mathlib.Core.Bool.{true}
-use mathlib.Core.List.{List}
+use mathlib.Core.Bool.{true, false}
+use mathlib.Core.List.{List, [], _∷_}
 use Prim.Native.Nat.{ℕ, _≤_}
 use lib.Dec.{lit≤}
 use lib.ListN.{length}
 use borrow.Author.Tests.{eq-eqb}
 use Rattle.rules.specs.Limits.{mostLevel, mostOlderLevel}
-use Rattle.rules.specs.Sheet.{Line, fields, header, laterLines, isLevel, isRow, isPlotLine, question1, question2, question3, question4, Outcome, read, refused, readingFrom3, readingTo, reading, levelsAfter, OlderKept}
+use Rattle.rules.specs.Sheet.{all, Line, fields, header, decimalFrom, noLeadingZero, isLevel, isRow, isPlotLine, laterLines, question1, question2, question3, question4, Outcome, read, refused, readingFrom3, readingTo, reading, levelsAfter, OlderKept}
 use Rattle.rules.specs.Design.{plotDesign, fullDesign}
+use Rattle.rules.specs.Table.{emptyTable, outcomeRows, tableRows}
 use Rattle.rules.proofs.Numbering.{by-cases}
 use Rattle.rules.proofs.Sheet.{and-left, all-weaker, level-wider, row-levels, not-read}
 
@@ -65,3 +66,13 @@ module _ (text levels : List ℕ) (n p t : ℕ) (e : readingTo mostOlderLevel te
 
   pub older-full : (k b c : ℕ) → fullDesign n p t k table b c ≡ fullDesign n p t k olderTable b c
   older-full k b c = ap (λ (T : List ℕ). fullDesign n p t k T b c) older-levels
+
+-- The printed table too is the same, unless levels up to 65535 give 4.
+pub older-rows : (text : List ℕ) → (readingTo mostOlderLevel text emptyTable ≡ refused 4) ⊎ (tableRows text ≡ outcomeRows text (readingTo mostOlderLevel text emptyTable))
+unfolding tableRows
+older-rows text = ⊎-elim inl (λ e. inr (ap (outcomeRows text) e)) (top-raised mostOlderLevel mostLevel (lit≤ tt) text emptyTable)
+
+-- 65535 is a level of older sheets, 65536 is none
+older-highest : (isLevel mostOlderLevel (54 ∷ 53 ∷ 53 ∷ 51 ∷ 53 ∷ []) ≡ true) × (isLevel mostOlderLevel (54 ∷ 53 ∷ 53 ∷ 51 ∷ 54 ∷ []) ≡ false)
+unfolding isLevel noLeadingZero all decimalFrom
+older-highest = (refl, refl)

@@ -170,7 +170,7 @@ unfoldable pub noLeadingZero : Field → Bool
 noLeadingZero [] = true
 noLeadingZero (x ∷ xs) = not (eqb x 48)
 
--- "a decimal level 1 to 4294967295 without leading zeros"; the highest level is given, as older sheets have another
+-- "a decimal level 1 to 4294967295 without leading zeros"; `top` is the highest level: older sheets have a lower one
 unfoldable pub isLevel : ℕ → Field → Bool
 unfolding all decimalFrom noLeadingZero
 isLevel top f = noLeadingZero f && all digit f && within 1 top (decimal f)
