@@ -13,7 +13,6 @@ use borrow.Author.Tests.{eqb-false, leb-true}
 use Rattle.rules.specs.Limits.{mostLevel}
 use Rattle.rules.specs.Lists.{decimalOf}
 use Rattle.rules.specs.Sheet.{within, all, digit, decimalFrom, decimal, noLeadingZero, isLevel, Field, Used, cellField, read, reading, levelsAfter}
-use Rattle.rules.proofs.Members.{clash}
 use Rattle.rules.proofs.Sheet.{and-left, and-right, not-yes, decimal-grows, level-least, level-most, decimal-back, decimal-level, cell-read, cell-level}
 
 -- Equal numbers that go on from v and from w have the same digits, where neither of v and w is longer than the other.
@@ -33,12 +32,12 @@ digits-told v w (x ∷ xs) (y ∷ ys) a b l m e =
     (omega (arith, r .0), ap₂ (λ (c : ℕ) (r : List ℕ). c ∷ r) (omega (arith, r .0)) (r .1))
 
 -- a level starts with a digit from 1 on
-record Digits (x : ℕ) (xs : List ℕ) : Type 0 where
-  first : 49 ≤ x
-  most : x ≤ 57
-  rest : all digit xs ≡ true
+pub record LevelDigits (x : ℕ) (xs : List ℕ) : Type 0 where
+  pub first : 49 ≤ x
+  pub most : x ≤ 57
+  pub rest : all digit xs ≡ true
 
-level-digits : (top x : ℕ) (xs : List ℕ) → isLevel top (x ∷ xs) ≡ true → Digits x xs
+pub level-digits : (top x : ℕ) (xs : List ℕ) → isLevel top (x ∷ xs) ≡ true → LevelDigits x xs
 unfolding isLevel noLeadingZero all
 level-digits top x xs e =
     let d = and-left (not (eqb x 48) && all digit (x ∷ xs)) (within 1 top (decimal (x ∷ xs))) e in

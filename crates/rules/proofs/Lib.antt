@@ -43,6 +43,7 @@ pub mod Subtracted
 pub mod TableMeant
 pub mod ReaderLimits
 pub mod Labels
+pub mod SheetSize
 pub mod OlderSheets
 pub mod NamesMeant
 pub mod Bits

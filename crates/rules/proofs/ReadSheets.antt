@@ -13,7 +13,7 @@ use Rattle.rules.specs.Factor.{Column, uniform, orthogonal}
 use Rattle.rules.specs.Family.{Family, columnsFrom}
 use Rattle.rules.specs.Closing.{plotFamily, firstTreatmentFamily, finalTreatmentFamily, Closing, tooMany, family}
 use Rattle.rules.specs.Design.{Answer, nonzero, allNonzero, withinLimits, fullWithinLimits, fullQuestion7, fullDesign, Places, firstFailing, firstPair, firstCross, question8, question9, question10, question11, question12, question13, question14, withTreatments}
-use Rattle.rules.specs.Sheet.{Outcome, read, refused, question1, question2, question3, readingFrom3, readingTo, reading, levelsAfter}
+use Rattle.rules.specs.Sheet.{Outcome, read, question1, question2, question3, readingFrom3, readingTo, reading, levelsAfter}
 use Rattle.rules.proofs.Numbering.{by-cases}
 use Rattle.rules.proofs.Members.{clash}
 use Rattle.rules.proofs.Sheet.{not-read, read-accepts, length-after, read-limits, plot-levels-nonzero, treatment-levels-nonzero}

@@ -11,7 +11,7 @@ use lib.ListN.{length, take, drop}
 use lib.Seq.{take-at}
 use borrow.Author.Tests.{leb-true}
 use Rattle.rules.specs.Limits.{mostLevel}
-use Rattle.rules.specs.Sheet.{Line, upTo, lines, all, countKind, header, columnsAfter, laterLines, isPlotLine, withPlots, question3, question4, question5, Outcome, read, refused, counts, readingFrom3, levelsAfter}
+use Rattle.rules.specs.Sheet.{Line, upTo, lines, countKind, header, columnsAfter, laterLines, withPlots, question3, question4, question5, Outcome, read, refused, counts, readingFrom3, levelsAfter}
 use Rattle.rules.proofs.Sheet.{and-right, HeaderForm, header-form, kinds-all, length-columns, columns-fit}
 use Rattle.rules.proofs.Numbering.{by-cases}
 use Rattle.sheet.specs.Walk.{Store, PlotLines}

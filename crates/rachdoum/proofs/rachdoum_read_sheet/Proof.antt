@@ -1,6 +1,6 @@
 -- `rachdoum::rachdoum_read_sheet` meets its contract: each case of the reader's answer has the rules' numbers.
 -- Assumes nothing.
-use mathlib.Core.Path.{_≡_, sym, ap, _∙_}
+use mathlib.Core.Path.{sym, ap, _∙_}
 use borrow.Author.Needs.{needs}
 use Rattle.sheet.specs.Answers.{outcomeOf}
 use Rattle.rachdoum.specs.Numbers.{readingRefusal, readingNumbers}

@@ -1,11 +1,11 @@
 -- `print`: the line of a refusal by 1 to 5, or the text of the design.
 -- Assumes nothing.
 use mathlib.Core.Path.{_≡_, sym, ap, _∙_}
-use mathlib.Core.List.{List, [], _∷_}
+use mathlib.Core.List.{[], _∷_}
 use Prim.Native.Nat.{ℕ}
 use denote.Ref.{now}
 use borrow.Author.Needs.{needs}
-use Rattle.rules.specs.Sheet.{read, reading, levelsAfter}
+use Rattle.rules.specs.Sheet.{read, reading}
 use Rattle.rules.specs.Table.{rowsBytes, refusedRow, dash, emptyTable}
 use Rattle.rules.proofs.ReadSheets.{read-questions}
 use Rattle.rules.proofs.Sheet.{read-accepts}
