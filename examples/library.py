@@ -5,7 +5,7 @@
 """
 import ctypes
 import sys
-from ctypes import c_int64, c_size_t, c_uint8, c_uint16, c_uint32, c_uint64
+from ctypes import c_int64, c_size_t, c_uint8, c_uint32, c_uint64
 
 # As in include/rachdoum.h.
 INTERACTION = 6
@@ -14,7 +14,7 @@ LEVELS = 2880
 FAMILY = 7680
 NAME = 96
 TABLE = 32768
-level = c_uint16
+level = c_uint32
 
 PLOT, TREATMENT = c_uint32(0), c_uint32(1)
 

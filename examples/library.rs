@@ -14,7 +14,7 @@ mod rachdoum {
     pub const FAMILY: usize = 7680;
     pub const NAME: usize = 96;
     pub const TABLE: usize = 32768;
-    pub type Level = u16;
+    pub type Level = u32;
 
     extern "C" {
         pub fn rachdoum_read_sheet(text: *const u8, text_len: usize, levels: *mut Level, levels_len: usize, answer: *mut u64) -> u32;

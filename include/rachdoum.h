@@ -3,12 +3,13 @@
  * Each function answers the number of the question that failed, 0 for none, and writes `answer` whole: 0 where there is no number. There
  * is one exception: `rachdoum_skeleton` answers 0 for a refused sheet too, whose refusal is the line that it prints.
  *
- * A slice is a pointer and a length; the pointer is never null and, where the length is not 0, points to so much memory. Slices that are
- * written do not overlap others. Nothing else is assumed: counts and lengths may have any value.
+ * A slice is a pointer and a length; the pointer is never null and, where the length is not 0, points to so much memory. The length of a
+ * level table counts levels, all others count bytes. Slices that are written do not overlap others. Nothing else is assumed: counts and
+ * lengths may have any value.
  *
  * Threads: no function keeps anything between calls. Several threads may call them at once, each with memory of its own to write to.
- * Stack: it is the only memory that they take. Read off the machine code, `rachdoum_skeleton` takes 65 kB, the designs take 37 kB, the
- * others less than 10 kB. No function calls itself.
+ * Stack: it is the only memory that they take. Read off the machine code, `rachdoum_skeleton` takes 111 kB, `rachdoum_full_design` 76 kB,
+ * `rachdoum_plot_design` 39 kB, the others less than 10 kB. No function calls itself.
  *
  * Build the archive with `rt staticlib rachdoum` and link target/staticlib/librachdoum.a. */
 #ifndef RACHDOUM_H
@@ -34,8 +35,8 @@ extern "C" {
 #define RACHDOUM_NAME 96 /* bytes of a name buffer */
 #define RACHDOUM_TABLE 32768 /* bytes for the printed table */
 
-/* A level: only a label. */
-typedef uint16_t rachdoum_level;
+/* A level: only a label. A sheet has levels from 1 to 4294967295; 0 stands for a missing one. */
+typedef uint32_t rachdoum_level;
 
 /* What a function answers. docs/REFUSALS.md has each question with an example and a remedy. */
 enum rachdoum_refusal {

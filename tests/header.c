@@ -1,5 +1,6 @@
-/* The header against the library: memory of the stated length is enough and one less is refused, each refusal has the number that its
- * name stands for, and threads with small stacks may call at once. Called from the root of the repository. */
+/* The header against the library: memory of the stated length is enough and one less is refused, levels of 32 bits are taken whole, each
+ * refusal has the number that its name stands for, and threads with small stacks may call at once. Called from the root of the
+ * repository. */
 #include "../include/rachdoum.h"
 
 #include <pthread.h>
@@ -91,6 +92,22 @@ static void families(void) {
           RACHDOUM_REFUSED_NO_STRATUM);
 }
 
+static uint32_t read_lines(const char *lines) {
+  size_t text_len = strlen(lines);
+  memcpy(text, lines, text_len);
+  return read_text(text_len, RACHDOUM_LEVELS);
+}
+
+static void wide_levels(void) {
+  answers("the highest level", read_lines("p:Hut\n4294967295\n4294967295\n65535\n65535\n"), RACHDOUM_ACCEPTED);
+  answers("levels as they were read", levels[0] != UINT32_MAX || levels[2] != UINT16_MAX, RACHDOUM_ACCEPTED);
+  answers("lower halves alike", plot(PLOTS, 1), RACHDOUM_ACCEPTED);
+  answers("two huts between U and E", made[2] != 3, RACHDOUM_ACCEPTED);
+  answers("a level too high", read_lines("p:Hut\n4294967296\n"), RACHDOUM_REFUSED_FORM_OF_LINE);
+  answers("a level of zero", read_lines("p:Hut\n0\n"), RACHDOUM_REFUSED_FORM_OF_LINE);
+  answers("levels as they were", levels[0] != UINT32_MAX, RACHDOUM_ACCEPTED);
+}
+
 static uint32_t refusal_of(const char *path) {
   FILE *file = fopen(path, "rb");
   size_t text_len = file != NULL ? fread(text, 1, sizeof text, file) : 0;
@@ -159,6 +176,7 @@ static void threads(void) {
 int main(void) {
   lengths();
   families();
+  wide_levels();
   names();
   threads();
   return bad;

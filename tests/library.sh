@@ -126,7 +126,7 @@ step 'header as C' gcc -Wall -Wextra -Werror -pedantic -std=c99 -fsyntax-only -x
 step 'header as C++' g++ -Wall -Wextra -Werror -pedantic -std=c++11 -fsyntax-only -x c++ include/rachdoum.h
 step 'header built against the archive' \
   gcc -Wall -Wextra -Werror -pedantic -std=c99 -pthread -o "$work/header" tests/header.c "$archive"
-step 'lengths, refusals and threads as the header says' timeout 60 "$work/header"
+step 'lengths, levels, refusals and threads as the header says' timeout 60 "$work/header"
 step 'no memory between calls' no_state
 
 step 'comparison built' cargo build --release --offline --quiet --manifest-path compare/Cargo.toml

@@ -10,11 +10,15 @@ use std::time::Duration;
 /// Six plot columns and six treatment columns.
 const TWELVE: &str = "p:Aa p:Bb p:Cc p:Dd p:Ee p:Ff t:Gg t:Hh t:Ii t:Jj t:Kk t:Ll";
 
-/// So many different labels, none of them 0.
-type Labels = fn(usize) -> Vec<Level>;
+/// A kind of labels: its words, so many different ones that are not 0, and how often each comes in a column.
+type Kind = (&'static str, fn(usize) -> Vec<Level>, usize);
 
-const KINDS: [(&str, Labels); 3] =
-    [("near to each other", near), ("far apart", far_apart), ("that share a bucket of the library", one_bucket)];
+const KINDS: [Kind; 4] = [
+    ("near to each other", near, 2),
+    ("far apart", far_apart, 2),
+    ("that share a bucket of the library", one_bucket, 2),
+    ("that share a bucket of the library, all different", one_bucket, 1),
+];
 
 fn near(count: usize) -> Vec<Level> {
     (1..=count as Level).collect()
@@ -29,27 +33,27 @@ fn one_bucket(count: usize) -> Vec<Level> {
     sharing(1).filter(|&label| label != 0).take(count).collect()
 }
 
-/// Columns alike, whose labels come twice: about 128 of 65,536 share a bucket of the library.
-fn alike(labels: Labels, headings: &str, plots: usize) -> Sheet {
-    let labels = labels(plots / 2);
+/// Columns alike, with labels of this kind.
+fn alike((_, labels, often): Kind, headings: &str, plots: usize) -> Sheet {
+    let labels = labels(plots / often);
     sheet(&format!("{plots} plots"), headings, plots, |u, _| labels[u % labels.len()] as usize - 1)
 }
 
 /// One column numbered, on more and more plots.
-fn by_plots(kind: &str, labels: Labels) -> Series {
-    let sheets = BY_PLOTS.into_iter().map(|plots| (plots, alike(labels, "p:Plot", plots))).collect();
-    Series { title: format!("numbering: labels {kind}"), entry: &NUMBER, said: ("classes", Trial::classes), digits: 3, sheets }
+fn by_plots(kind: Kind) -> Series {
+    let sheets = BY_PLOTS.into_iter().map(|plots| (plots, alike(kind, "p:Plot", plots))).collect();
+    Series { title: format!("numbering: labels {}", kind.0), entry: &NUMBER, said: ("classes", Trial::classes), digits: 3, sheets }
 }
 
 /// The printed table of the sheet that takes numbering longest.
-fn whole_table(kind: &str, labels: Labels) -> Series {
-    let title = format!("the printed table of twelve columns alike: labels {kind}");
-    let sheets = vec![(PLOTS, alike(labels, TWELVE, PLOTS))];
+fn whole_table(kind: Kind) -> Series {
+    let title = format!("the printed table of twelve columns alike: labels {}", kind.0);
+    let sheets = vec![(PLOTS, alike(kind, TWELVE, PLOTS))];
     Series { title, entry: &ALL[0], said: ("members", Trial::members), digits: 2, sheets }
 }
 
 /// Prints tables for each kind of labels; whether both agreed on every column.
 pub fn tables(limit: Duration) -> bool {
-    let mut series = KINDS.iter().flat_map(|&(kind, labels)| [by_plots(kind, labels), whole_table(kind, labels)]);
+    let mut series = KINDS.into_iter().flat_map(|kind| [by_plots(kind), whole_table(kind)]);
     series.all(|series| series.measure(limit).is_some())
 }

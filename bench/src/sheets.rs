@@ -13,6 +13,8 @@ pub struct Sheet {
 pub const CROSSED: [usize; 5] = [2, 2, 2, 3, 10];
 const FIVE: &str = "p:Aa p:Bb p:Cc p:Dd p:Ee";
 const FIVE_TREATED: &str = "t:Ff t:Gg t:Hh t:Ii t:Jj";
+/// Levels from here on are as long as levels can be, ten digits.
+const LONG: usize = 4_000_000_000;
 
 /// A sheet with these headings; the level of field f on plot u is `level(u, f) + 1`.
 pub fn sheet(title: &str, headings: &str, plots: usize, level: impl Fn(usize, usize) -> usize) -> Sheet {
@@ -46,20 +48,34 @@ pub fn from_file(file: &Path) -> io::Result<Sheet> {
     Ok(Sheet { title, text: fs::read(file)? })
 }
 
-/// The longest sheet that can be accepted: 240 plots, 12 columns, names of 12 letters and levels of five digits.
+/// The longest sheet that can be accepted: 240 plots, 12 columns, names of 12 letters and levels of ten digits.
 fn widest() -> Sheet {
     let kinds = ["p", "p", "p", "p", "p", "p", "t", "t", "t", "t", "t", "t"];
     let names: Vec<String> = kinds.iter().enumerate().map(|(i, kind)| format!("{kind}:Longname{:04}", i + 1)).collect();
     let nested = [60, 20, 10, 5];
     let treated = [(60, 2), (20, 3), (10, 2), (5, 2), (1, 5)];
-    sheet("widest: 12 columns, 17,460 bytes", &names.join(" "), 240, |u, f| {
-        60_000 + match f {
+    sheet("widest: 12 columns, 31,860 bytes", &names.join(" "), 240, |u, f| {
+        LONG + match f {
             0..=3 => u / nested[f],
             4 => u % 5,
             5 => u / 20 * 5 + u % 5,
             11 => 1 - u / 60 % 2,
             _ => u / treated[f - 6].0 % treated[f - 6].1,
         }
+    })
+}
+
+/// 120 sensors listed by serial numbers of 8 to 10 digits, ten in each of twelve huts, each in two weeks: a cable for each hut, a gain
+/// for each sensor and a filter for each week.
+fn serial_numbers() -> Sheet {
+    // Numbers with gaps, from 12345678 up to 4227098269.
+    let serial = |sensor: usize| 12_345_677 + 297_631 * sensor * sensor;
+    sheet("serial numbers of 8 to 10 digits", "p:Hut p:Sensor p:Week t:Cable t:Gain t:Filter", 240, |u, f| match f {
+        0 => u / 20,
+        1 => serial(u / 2),
+        3 => u / 20 % 3,
+        4 => u / 2 % 2,
+        _ => u % 2,
     })
 }
 
@@ -92,6 +108,7 @@ fn accepted() -> Vec<Sheet> {
     };
     vec![
         widest(),
+        serial_numbers(),
         sheet("32 plot members", FIVE, 240, five),
         sheet("32 treatment members", FIVE_TREATED, 240, five),
         sheet("32 plot and 32 treatment members", &both, 240, five),
@@ -120,7 +137,7 @@ fn refused() -> Vec<Sheet> {
         5 => (five(u, 0) + five(u, 1)) % 2,
         _ => u,
     };
-    let last = |u: usize, f: usize| if (u, f) == (239, 9) { Level::MAX as usize } else { 60_000 + five(u, f) };
+    let last = |u: usize, f: usize| if (u, f) == (239, 9) { Level::MAX as usize } else { LONG + five(u, f) };
     vec![
         sheet("refused by 4 at the last level", &both, 240, last),
         sheet("refused by 5, 32,768 bytes", "p:Aab", 16_381, |_, _| 0),

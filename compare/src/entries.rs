@@ -44,6 +44,12 @@ pub struct Fault {
 #[cfg(feature = "library")]
 pub const STALE: u64 = 0xD15E_A5ED_0DD5_EED5;
 
+/// Levels of which only the lower 16 bits are left: a fault of entries that take a level table.
+#[cfg(feature = "library")]
+pub fn cut(levels: &[reference::Level]) -> Vec<reference::Level> {
+    levels.iter().map(|level| level & 0xFFFF).collect()
+}
+
 /// Gathers the modules of the entries.
 macro_rules! entries {
     ($($name:ident,)*) => {

@@ -8,6 +8,7 @@ pub mod cells;
 pub mod check;
 pub mod entries;
 pub mod family;
+pub mod levels;
 pub mod memory;
 pub mod random;
 pub mod sheet;

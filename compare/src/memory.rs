@@ -7,9 +7,9 @@ pub fn pattern(length: usize) -> Vec<u8> {
     (0..length).map(|i| (i as u8).wrapping_mul(31) ^ 0xA5).collect()
 }
 
-/// Levels in which an untouched one shows.
+/// Levels in which an untouched one shows, and one of which only a half was written: neither half is that of a low or of a high level.
 pub fn pattern_levels(length: usize) -> Vec<Level> {
-    (0..length).map(|i| (i as Level).wrapping_mul(7919) ^ 0x5AA5).collect()
+    (0..length).map(|i| (i as Level).wrapping_mul(7919 * 65_537) ^ 0xA55A_5AA5).collect()
 }
 
 /// A level table with these plot and treatment columns; the cells that they do not use are 0.

@@ -39,7 +39,7 @@ pub fn damage_text(random: &mut Random, text: &mut Vec<u8>) {
     let line = text.iter().position(|&byte| byte == 10).unwrap_or(0);
     let end = if random.once_in(2) { line + 1 } else { text.len() };
     let at = random.below(end);
-    match random.below(12) {
+    match random.below(14) {
         0 => text[at] = random.pick(b"\t\n01:ptA \r\0"),
         1 => text[at] = random.word() as u8,
         2 => { text.remove(at); }
@@ -49,23 +49,41 @@ pub fn damage_text(random: &mut Random, text: &mut Vec<u8>) {
         6 => text.extend_from_slice(b"1\n"),
         7 => { let copy = text[line_at(text, at)].to_vec(); text.splice(at..at, copy); }
         8 => { let range = line_at(text, at); let copy = text[range.clone()].to_vec(); text.splice(range.end..range.end, copy); }
-        9 => replace_field(random, text, at),
-        10 => text.clear(),
+        9..=11 => replace_field(random, text, at),
+        12 => text.clear(),
         _ => lengthen(random, text, line),
     }
 }
 
-/// Puts another field in the place of the one at this byte.
+/// Fields that are headings or nearly so.
+const HEADINGS: [&str; 9] = ["", "-1", "p:Hut", "t:Hut", "p:A", "q:Hut", "p:Abcdefghijklm", "t:1a", "p:a_b"];
+/// Fields that are levels or nearly so: ends of ranges, numbers that are 0 or 1 when they are cut, zeros and signs.
+const LEVEL_FIELDS: [&str; 24] = [
+    "", "0", "00", "01", "65535", "65536", "65537", "131073", "999999999", "1000000000", "4294967294", "4294967295", "4294967296",
+    "4294967297", "8589934593", "9999999999", "10000000000", "04294967295", "18446744073709551615", "18446744073709551616",
+    "18446744073709551617", "-1", "+1", "1\r",
+];
+
+/// Puts another field in the place of the one at this byte, mostly of the sort that its line has.
 fn replace_field(random: &mut Random, text: &mut Vec<u8>, at: usize) {
     let parts = |byte: &u8| *byte == 9 || *byte == 10;
     let start = text[..at].iter().rposition(parts).map_or(0, |found| found + 1);
     let end = text[at..].iter().position(parts).map_or(text.len(), |found| at + found);
-    let [highest, above] = [u64::from(Level::MAX), u64::from(Level::MAX) + 1].map(|level| level.to_string());
-    let fields = [
-        "", "0", "01", &highest, &above, "99999", "100000", "4294967297", "18446744073709551617", "-1", "p:Hut", "t:Hut", "p:A",
-        "q:Hut", "p:Abcdefghijklm", "t:1a", "p:a_b",
-    ];
-    text.splice(start..end, random.pick(&fields).bytes());
+    let in_first_line = !text[..at].contains(&10);
+    let field = match random.below(12) {
+        0 => many_digits(random),
+        1 => random.pick(&HEADINGS).to_string(),
+        2 => random.pick(&LEVEL_FIELDS).to_string(),
+        _ if in_first_line => random.pick(&HEADINGS).to_string(),
+        _ => random.pick(&LEVEL_FIELDS).to_string(),
+    };
+    text.splice(start..end, field.into_bytes());
+}
+
+/// More digits than any level has, up to about as many as a text can have.
+fn many_digits(random: &mut Random) -> String {
+    let digits = random.pick(&["1", "9", "0", "4294967296"]);
+    digits.repeat(random.pick(&[11usize, 20, 400, 32_000]).div_ceil(digits.len()))
 }
 
 /// Adds the plot lines again, so often that question 5 or question 2 may fail; now and then to the very limit of a text.

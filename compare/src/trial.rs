@@ -1,5 +1,6 @@
 //! Trials made at random: crossed, nested, Latin-square, damaged and scattered columns.
 
+use crate::levels::different;
 use crate::memory::{level_table, members, pattern};
 use crate::random::Random;
 use reference::{Level, COLUMNS, FAMILY, FAST, INTERACTIONS, LEVELS, PLOTS};
@@ -124,14 +125,10 @@ fn labelled(random: &mut Random, plots: usize, radix: &[usize]) -> Vec<Vec<usize
     }
 }
 
-/// Labels as levels: small numbers, any numbers, or numbers at the upper end.
+/// Labels as levels, in any order.
 fn as_levels(random: &mut Random, labels: &[usize]) -> Vec<Level> {
     let most = labels.iter().max().copied().unwrap_or(0);
-    let mut names: Vec<Level> = match random.below(3) {
-        0 => (1..=most as Level + 1).collect(),
-        1 => (0..=most as Level).map(|label| Level::MAX - label).collect(),
-        _ => (0..=most as Level).map(|label| (label + 1).wrapping_mul(257 * 2 + 1)).collect(),
-    };
+    let mut names = different(random, most + 1);
     random.shuffle(&mut names);
     labels.iter().map(|&label| names[label]).collect()
 }

@@ -1,6 +1,6 @@
 //! Changes that keep a sheet well formed, beside libFuzzer's own changes of bytes.
 
-use reference::{COLUMNS, PLOTS};
+use reference::{Level, COLUMNS, PLOTS};
 use std::collections::BTreeSet;
 
 extern "C" {
@@ -27,7 +27,7 @@ impl Chance {
 #[derive(Clone)]
 struct Sheet {
     headings: Vec<String>,
-    plots: Vec<Vec<u32>>,
+    plots: Vec<Vec<Level>>,
 }
 
 impl Sheet {
@@ -37,7 +37,7 @@ impl Sheet {
         let mut lines = text.split('\n');
         let headings: Vec<String> = lines.next()?.split('\t').map(str::to_string).collect();
         let level = |field: &str| field.parse().ok();
-        let plots: Option<Vec<Vec<u32>>> = lines.map(|line| line.split('\t').map(level).collect()).collect();
+        let plots: Option<Vec<Vec<Level>>> = lines.map(|line| line.split('\t').map(level).collect()).collect();
         let plots = plots?;
         let even = plots.iter().all(|plot| plot.len() == headings.len());
         (even && plots.len() <= PLOTS + 1 && headings.len() <= FIELDS + 1).then_some(Sheet { headings, plots })
@@ -46,7 +46,7 @@ impl Sheet {
     fn write(&self) -> Vec<u8> {
         let mut text = self.headings.join("\t") + "\n";
         for plot in &self.plots {
-            let levels: Vec<String> = plot.iter().map(u32::to_string).collect();
+            let levels: Vec<String> = plot.iter().map(Level::to_string).collect();
             text += &(levels.join("\t") + "\n");
         }
         text.into_bytes()
@@ -60,9 +60,9 @@ impl Sheet {
 /// One change of a sheet that has a plot.
 type Change = fn(&mut Sheet, &mut Chance);
 
-const CHANGES: [Change; 14] = [
-    copy_level, copy_level, exchange_levels, exchange_plots, regular_column, regular_column, combined_column, merged_levels, add_column,
-    remove_column, other_kind, repeat_plots, copy_plot, remove_plot,
+const CHANGES: [Change; 15] = [
+    copy_level, copy_level, exchange_levels, exchange_plots, regular_column, regular_column, combined_column, merged_levels, raised_level,
+    add_column, remove_column, other_kind, repeat_plots, copy_plot, remove_plot,
 ];
 
 /// A plot takes another's level.
@@ -94,7 +94,7 @@ fn regular_column(sheet: &mut Sheet, chance: &mut Chance) {
     let levels = divisors[chance.below(divisors.len())];
     let (_, c) = sheet.place(chance);
     for (u, plot) in sheet.plots.iter_mut().enumerate() {
-        plot[c] = (u / step % levels + 1) as u32;
+        plot[c] = (u / step % levels + 1) as Level;
     }
 }
 
@@ -105,7 +105,7 @@ fn combined_column(sheet: &mut Sheet, chance: &mut Chance) {
     let sum = chance.below(2) == 0;
     for plot in &mut sheet.plots {
         let (x, y) = (plot[a] % 256, plot[b] % 256);
-        plot[c] = if sum { (x + y) % most + 1 } else { x * 256 % 65_280 + y + 1 };
+        plot[c] = if sum { (x + y) % most + 1 } else { x * 256 + y + 1 };
     }
 }
 
@@ -113,6 +113,18 @@ fn merged_levels(sheet: &mut Sheet, chance: &mut Chance) {
     let (u, c) = sheet.place(chance);
     let (v, _) = sheet.place(chance);
     let (from, to) = (sheet.plots[u][c], sheet.plots[v][c]);
+    relabel(sheet, c, from, to);
+}
+
+/// All plots of a class get a level that is higher by a power of two, at most the highest.
+fn raised_level(sheet: &mut Sheet, chance: &mut Chance) {
+    let (u, c) = sheet.place(chance);
+    let from = sheet.plots[u][c];
+    relabel(sheet, c, from, from.saturating_add(1 << chance.below(Level::BITS as usize)));
+}
+
+/// Another level for all plots that have this one.
+fn relabel(sheet: &mut Sheet, c: usize, from: Level, to: Level) {
     sheet.plots.iter_mut().filter(|plot| plot[c] == from).for_each(|plot| plot[c] = to);
 }
 
@@ -129,7 +141,7 @@ fn add_column(sheet: &mut Sheet, chance: &mut Chance) {
     sheet.plots.iter_mut().for_each(|plot| plot.push(plot[c]));
     let added = sheet.headings.len() - 1;
     let rotation = chance.below(sheet.plots.len());
-    let levels: Vec<u32> = sheet.plots.iter().map(|plot| plot[added]).collect();
+    let levels: Vec<Level> = sheet.plots.iter().map(|plot| plot[added]).collect();
     sheet.plots.iter_mut().zip(levels.iter().cycle().skip(rotation)).for_each(|(plot, &level)| plot[added] = level);
 }
 
@@ -162,8 +174,8 @@ fn repeat_plots(sheet: &mut Sheet, chance: &mut Chance) {
         return;
     }
     let once = sheet.plots.clone();
-    for time in 1..times as u32 {
-        let moved = |plot: &Vec<u32>| plot.iter().enumerate().map(|(f, &level)| level + if f == c { time * most } else { 0 }).collect();
+    for time in 1..times as Level {
+        let moved = |plot: &Vec<Level>| plot.iter().enumerate().map(|(f, &level)| level + if f == c { time * most } else { 0 }).collect();
         sheet.plots.extend(once.iter().map(moved));
     }
 }

@@ -12,7 +12,7 @@ from __future__ import annotations
 
 import ctypes
 import os
-from ctypes import POINTER, c_char_p, c_int64, c_size_t, c_uint8, c_uint16, c_uint32, c_uint64
+from ctypes import POINTER, c_char_p, c_int64, c_size_t, c_uint8, c_uint32, c_uint64
 from typing import Any, List, Optional, Tuple
 
 # The limits of the header. They stand here and nowhere else.
@@ -24,7 +24,7 @@ TEXT_BYTES = 32_768
 TABLE_BYTES = 32_768
 NAME_BYTES = 96
 NAME_LENGTHS = (2, 12)
-LEVEL = c_uint16
+LEVEL = c_uint32
 LEVEL_CELLS = 2 * COLUMNS * PLOTS
 FAMILY_BYTES = MEMBERS * PLOTS
 

@@ -1,14 +1,17 @@
 """What the tests share: the command run inside this process, and random designs."""
 import contextlib
+import ctypes
 import io
 import os
 import random
 import sys
 
+from rachdoum import library
 from rachdoum.command import main
 
 ROOT = os.path.dirname(os.path.dirname(os.path.dirname(os.path.abspath(__file__))))
 EXAMPLES = os.path.join(ROOT, "examples")
+HIGHEST_LEVEL = 2 ** (8 * ctypes.sizeof(library.LEVEL)) - 1
 
 
 class _Stream(io.TextIOWrapper):
@@ -107,7 +110,8 @@ def design(seed):
 
 
 def _numbered(chance, column):
-    """A column with its labels replaced by different whole numbers."""
+    """A column with its labels replaced by different whole numbers: any that a level can be, or some that lie 65,536 apart."""
     labels = sorted(set(column))
-    numbers = chance.sample(range(1, 65536), len(labels))
+    levels = range(1, HIGHEST_LEVEL + 1) if chance.random() < 0.5 else range(chance.randint(1, 65536), HIGHEST_LEVEL + 1, 65536)
+    numbers = chance.sample(levels, len(labels))
     return [dict(zip(labels, numbers))[label] for label in column]

@@ -26,10 +26,22 @@ class Entries(unittest.TestCase):
         for text, number in [(b"", 2), (b"x" * 32769, 2), (b"Hut\n", 3), (b"p:Hut\n0\n", 4), (b"p:Hut\n", 5)]:
             self.assertEqual(library.read_sheet(text)[:2], (number, (0, 0, 0)))
 
-    def test_largest_level(self):
-        top = 2 ** (8 * ctypes.sizeof(library.LEVEL)) - 1
-        self.assertEqual(library.read_sheet(b"p:Hut\n%d\n" % top)[2][0], top)
-        self.assertEqual(library.read_sheet(b"p:Hut\n%d\n" % (top + 1))[0], 4)
+    def test_levels(self):
+        for level in (1, 65535, 65536, 65537, 999999999, 1000000000, 4294967294, 4294967295):
+            self.assertEqual(library.read_sheet(b"p:Hut\n%d\n" % level)[2][0], level)
+        for level in (0, 4294967296, 4294967297, 9999999999, 10000000000, 18446744073709551617):
+            self.assertEqual(library.read_sheet(b"p:Hut\n%d\n" % level)[:2], (4, (0, 0, 0)))
+
+    def test_levels_with_a_half_in_common(self):
+        for a, b in ((1, 65537), (65536, 131072), (65535, 4294967295), (4294901760, 4294967295), (1, 3163095041)):
+            text = b"p:Hut\tt:Gain\n%d\t%d\n%d\t%d\n%d\t%d\n%d\t%d\n" % (a, a, a, b, b, a, b, b)
+            _, counts, levels = library.read_sheet(text)
+            number, answer, first, second = library.full_design(levels, *counts, 6)
+            self.assertEqual((number, answer), (0, (0, 0, 3, 2)))
+            self.assertEqual(first, family([1, 1, 1, 1], [1, 1, 2, 2], [1, 2, 3, 4]))
+            self.assertEqual(second, family([1, 1, 1, 1], [1, 2, 1, 2]))
+            self.assertEqual(library.name(text, levels, first, 4, 3, library.PLOT, 2), (0, b"Hut"))
+            self.assertEqual(library.skeleton(text), library.skeleton(HUTS))
 
     def test_plot_design(self):
         _, _, levels = library.read_sheet(HUTS)

@@ -10,7 +10,7 @@
 #![allow(clippy::type_complexity, clippy::needless_range_loop)]
 
 /// A level of a column, from 1 to the highest number of this type; 0 is a level that is missing.
-pub type Level = u16;
+pub type Level = u32;
 /// Most plots of a trial.
 pub const PLOTS: usize = 240;
 /// Most columns of one kind, plot or treatment.

@@ -16,9 +16,15 @@ fn column(plots: usize, level: impl Fn(usize) -> usize) -> Vec<Level> {
 }
 
 #[test]
-fn the_sample_sheet() {
+fn the_sample_sheet_with_any_labels() {
     let table = ["stratum source df", "U U 1", "U =total 1", "Hut =total 1", "E Gain 1", "E =residual 1", "E =total 2", "=all =total 4"];
     prints(b"p:Hut\tt:Gain\n1\t1\n1\t2\n2\t1\n2\t2\n", &table);
+    let pairs = [(1, 65_537), (65_536, 131_072), (65_535, 4_294_967_295), (4_294_901_760, 4_294_967_295), (1, 3_163_095_041)];
+    for (a, b) in pairs {
+        for (c, d) in pairs {
+            prints(&sheet(&[("Hut", vec![a, a, b, b])], &[("Gain", vec![c, d, c, d])]), &table);
+        }
+    }
 }
 
 #[test]

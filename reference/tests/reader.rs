@@ -25,12 +25,12 @@ fn plot_lines(count: usize) -> String {
 fn the_sample_sheet_is_read_and_only_used_cells_change() {
     for entries in &BOTH {
         let mut levels = pattern_levels(LEVELS + 4);
-        let text = b"t:Gain\tp:Hut\tt:Cable\n7\t1\t65535\n8\t2\t9\n";
+        let text = b"t:Gain\tp:Hut\tt:Cable\n7\t1\t4294967295\n8\t2\t9\n";
         assert_eq!((entries.read_sheet)(text, &mut levels), (0, [2, 1, 2]));
         let mut expected = pattern_levels(LEVELS + 4);
         expected[..2].copy_from_slice(&[1, 2]);
         expected[6 * PLOTS..6 * PLOTS + 2].copy_from_slice(&[7, 8]);
-        expected[7 * PLOTS..7 * PLOTS + 2].copy_from_slice(&[65535, 9]);
+        expected[7 * PLOTS..7 * PLOTS + 2].copy_from_slice(&[4_294_967_295, 9]);
         assert_eq!(levels, expected, "{}", entries.title);
     }
 }
@@ -92,24 +92,88 @@ fn every_line_is_ended() {
     reads(b"p:Aa\n1\r\n", 4);
 }
 
-#[test]
-fn levels_are_1_to_65535_without_leading_zeros() {
-    for good in ["1", "9", "10", "65535", "59999", "60000"] {
-        reads(format!("p:Aa\n{good}\n").as_bytes(), 0);
+/// Both read this field as this level, and store it whole.
+fn level_is(field: &str, level: Level) {
+    for entries in &BOTH {
+        let mut levels = pattern_levels(LEVELS + 4);
+        assert_eq!((entries.read_sheet)(format!("p:Aa\n{field}\n").as_bytes(), &mut levels), (0, [1, 1, 0]), "{field}");
+        let mut expected = pattern_levels(LEVELS + 4);
+        expected[0] = level;
+        assert_eq!(levels, expected, "{}: {field}", entries.title);
     }
+}
+
+#[test]
+fn levels_are_1_to_4294967295() {
+    let read = [
+        ("1", 1), ("9", 9), ("10", 10), ("255", 0xFF), ("256", 0x100), ("59999", 59_999), ("60000", 60_000), ("65535", 0xFFFF),
+        ("65536", 0x1_0000), ("65537", 0x1_0001), ("99999", 99_999), ("100000", 100_000), ("131073", 0x2_0001),
+        ("16777216", 0x100_0000), ("999999999", 999_999_999), ("1000000000", 1_000_000_000), ("2147483648", 0x8000_0000),
+        ("4294901760", 0xFFFF_0000), ("4294967294", 0xFFFF_FFFE), ("4294967295", 0xFFFF_FFFF),
+    ];
+    read.into_iter().for_each(|(field, level)| level_is(field, level));
+    let refused = [
+        "0", "4294967296", "4294967297", "4294967300", "4294967305", "4295032831", "4300000000", "5000000000", "8589934593", "9999999999",
+        "10000000000", "42949672950", "281474976710657", "18446744073709551615", "18446744073709551616", "18446744073709551617",
+        "340282366920938463463374607431768211457",
+    ];
+    refused.into_iter().for_each(|field| reads(format!("p:Aa\n{field}\n").as_bytes(), 4));
+    for digit in ["1", "4", "9"] {
+        reads(format!("p:Aa\n{}\n", digit.repeat(32_000)).as_bytes(), 4);
+    }
+}
+
+#[test]
+fn levels_are_digits_without_leading_zeros() {
     let bad = [
-        "0", "00", "01", "65536", "65540", "70000", "99999", "100000", "131073", "4294967297", "18446744073709551617", "+1", "-1",
-        " 1", "1 ", "1.0", "1e1", "x", "1\t", "\t1", "1\t1", "\u{663}", "1\0", ":", "/",
+        "00", "01", "04294967295", "0000000001", "+1", "-1", " 1", "1 ", "1\r", "1.0", "1e1", "x", "1\t", "\t1", "1\t1", "\u{663}", "1\0",
+        ":", "/", "429496729:", "429496729/",
     ];
     for level in bad {
         reads(format!("p:Aa\n{level}\n").as_bytes(), 4);
     }
-    reads(format!("p:Aa\n{}\n", "1".repeat(32_000)).as_bytes(), 4);
     reads(format!("p:Aa\n{}1\n", "0".repeat(32_000)).as_bytes(), 4);
     reads(b"p:Aa\tt:Bb\n1\n", 4);
     reads(b"p:Aa\tt:Bb\n1 1\n", 4);
     reads(b"p:Aa\tt:Bb\n1\t1\t1\n", 4);
     reads(b"p:Aa\tt:Bb\n1\t\n", 4);
+}
+
+#[test]
+fn every_level_of_16_bits_is_read_as_itself() {
+    let all: Vec<Level> = (1..=65_535).collect();
+    for column in all.chunks(PLOTS) {
+        let text = "p:Aa\n".to_string() + &column.iter().map(|level| format!("{level}\n")).collect::<String>();
+        for entries in &BOTH {
+            let mut levels = pattern_levels(LEVELS);
+            assert_eq!((entries.read_sheet)(text.as_bytes(), &mut levels), (0, [column.len() as u64, 1, 0]));
+            assert_eq!(levels[..column.len()], *column, "{}", entries.title);
+        }
+    }
+}
+
+#[test]
+fn the_longest_sheet_is_read() {
+    // A level of ten digits, another one in each cell.
+    let level = |c: usize, u: usize| Level::MAX - (PLOTS * c + u) as Level;
+    let names: Vec<String> = (0..12).map(|c| format!("{}:Longestnam{c:02}", if c < 6 { 'p' } else { 't' })).collect();
+    let line = |u: usize| (0..12).map(|c| level(c, u).to_string()).collect::<Vec<_>>().join("\t") + "\n";
+    let text = names.join("\t") + "\n" + &(0..PLOTS).map(line).collect::<String>();
+    assert_eq!(text.len(), 31_860);
+    for entries in &BOTH {
+        let mut levels = pattern_levels(LEVELS + 4);
+        assert_eq!((entries.read_sheet)(text.as_bytes(), &mut levels), (0, [240, 6, 6]));
+        let mut expected = pattern_levels(LEVELS + 4);
+        (0..LEVELS).for_each(|cell| expected[cell] = level(cell / PLOTS, cell % PLOTS));
+        assert_eq!(levels, expected, "{}", entries.title);
+    }
+}
+
+#[test]
+fn a_cell_of_which_half_was_written_shows() {
+    let halves = |level: &Level| [level >> 16, level & 0xFFFF];
+    let shows = |level: &Level| halves(level).iter().all(|&half| half != 0 && half != 0xFFFF);
+    assert!(pattern_levels(2 * LEVELS).iter().all(shows));
 }
 
 #[test]

@@ -180,6 +180,29 @@ fn only_used_levels_may_not_be_missing() {
 }
 
 #[test]
+fn no_label_is_cut() {
+    // In each pair one half is the same; the last one is in one bucket of the library, too.
+    let pairs = [(1, 65_537), (65_536, 131_072), (65_535, 4_294_967_295), (4_294_901_760, 4_294_967_295), (1, 3_163_095_041)];
+    for (a, b) in pairs {
+        accepted(&[vec![a, a, b, b]], 4, &[1, 2, 4], &[1, 1, 2]);
+        accepted(&[vec![a, a, b, b], vec![a, b, a, b]], 4, &[1, 2, 2, 4], &[1, 1, 1, 1]);
+        refused(&[vec![a, a, b]], 3, 9, [2, 0, 3]);
+        refused(&[vec![a, a, b, 0]], 4, 7, [0; 3]);
+        let levels = level_table(&[vec![a, a, b, b]], &[vec![b, a, b, a]]);
+        let family = family_buffer(&[vec![1, 1, 1, 1], vec![1, 1, 2, 2], vec![1, 2, 3, 4]]);
+        for entries in &BOTH {
+            let (mut plots, mut treatments) = (pattern(FAMILY), pattern(FAMILY));
+            assert_eq!((entries.full_design)(&levels, 4, 1, 1, 6, &mut plots, &mut treatments), (0, [0, 0, 3, 2]));
+            assert_eq!(members(&plots, 4, 3), [[1, 1, 1, 1], [1, 1, 2, 2], [1, 2, 3, 4]], "{}", entries.title);
+            assert_eq!(members(&treatments, 4, 2), [[1, 1, 1, 1], [1, 2, 1, 2]], "{}", entries.title);
+            let mut name = pattern(NAME);
+            assert_eq!((entries.name)(b"p:Hut\n", &levels, &family, 4, 3, 0, 2, &mut name), (0, [3]));
+            assert_eq!(name[..3], *b"Hut", "{}", entries.title);
+        }
+    }
+}
+
+#[test]
 fn what_12_13_and_14_leave() {
     for entries in &BOTH {
         let crooked = level_table(&[], &[vec![1, 1, 1, 2, 2, 2], vec![1, 1, 2, 1, 2, 2]]);

@@ -39,7 +39,7 @@ fn run(call: &Call, entries: &Entries) -> Outcome {
 
 #[cfg(feature = "library")]
 pub mod library {
-    use crate::entries::{Fault, LIBRARY, STALE};
+    use crate::entries::{cut, Fault, LIBRARY, STALE};
     use reference::{Entries, Level, PLOTS};
 
     extern "C" {
@@ -66,8 +66,10 @@ pub mod library {
         (number, answer)
     }
 
-    pub const FAULTS: &[Fault] =
-        &[Fault { title: "one byte past a family written", entries: Entries { full_design: past_family, ..LIBRARY } }];
+    pub const FAULTS: &[Fault] = &[
+        Fault { title: "one byte past a family written", entries: Entries { full_design: past_family, ..LIBRARY } },
+        Fault { title: "labels cut to 16 bits", entries: Entries { full_design: cut_labels, ..LIBRARY } },
+    ];
 
     fn past_family(
         levels: &[Level], plots: usize, p: usize, t: usize, k: usize, first: &mut [u8], second: &mut [u8],
@@ -78,5 +80,11 @@ pub mod library {
             second[PLOTS * (size - 1) + plots] ^= 1;
         }
         (number, answer)
+    }
+
+    fn cut_labels(
+        levels: &[Level], plots: usize, p: usize, t: usize, k: usize, first: &mut [u8], second: &mut [u8],
+    ) -> (u32, [u64; 4]) {
+        (LIBRARY.full_design)(&cut(levels), plots, p, t, k, first, second)
     }
 }

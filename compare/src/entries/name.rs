@@ -60,7 +60,7 @@ fn run(call: &Call, entries: &Entries) -> Outcome {
 
 #[cfg(feature = "library")]
 pub mod library {
-    use crate::entries::{Fault, LIBRARY, STALE};
+    use crate::entries::{cut, Fault, LIBRARY, STALE};
     use reference::{Entries, Level};
 
     extern "C" {
@@ -86,8 +86,10 @@ pub mod library {
         (number, answer)
     }
 
-    pub const FAULTS: &[Fault] =
-        &[Fault { title: "one byte past a name written", entries: Entries { name: past_name, ..LIBRARY } }];
+    pub const FAULTS: &[Fault] = &[
+        Fault { title: "one byte past a name written", entries: Entries { name: past_name, ..LIBRARY } },
+        Fault { title: "labels cut to 16 bits", entries: Entries { name: cut_labels, ..LIBRARY } },
+    ];
 
     #[allow(clippy::too_many_arguments)]
     fn past_name(
@@ -99,5 +101,12 @@ pub mod library {
             name[length] = 0;
         }
         (number, answer)
+    }
+
+    #[allow(clippy::too_many_arguments)]
+    fn cut_labels(
+        text: &[u8], levels: &[Level], family: &[u8], plots: usize, size: usize, kind: u32, place: usize, name: &mut [u8],
+    ) -> (u32, [u64; 1]) {
+        (LIBRARY.name)(text, &cut(levels), family, plots, size, kind, place, name)
     }
 }

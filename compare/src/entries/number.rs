@@ -2,8 +2,9 @@
 //! it: its function is in the archive of the crate `numbering`.
 
 use super::Entry;
-use crate::buckets::sharing;
+use crate::buckets::{sharing, sharing_near};
 use crate::call::{Call, Outcome};
+use crate::levels::different;
 use crate::memory::{inner, lent_bytes};
 use crate::random::Random;
 use crate::shrink;
@@ -45,16 +46,21 @@ fn column(random: &mut Random) -> Vec<Level> {
     }
 }
 
-/// Labels in any order: near to each other, anywhere, or in one bucket of the library.
+/// So many labels are chosen at most.
+const LABELS: usize = 300;
+
+/// Labels in any order: near to each other, anywhere, over the range of levels, or in one bucket of the library.
 fn labels(random: &mut Random) -> Vec<Level> {
     let any = random.word() as Level;
-    let mut labels: Vec<Level> = match random.below(3) {
+    let mut labels: Vec<Level> = match random.below(5) {
         0 => {
-            let last = random.pick(&[1, 20, 240, 254, 255, 256, 300]);
+            let last = random.pick(&[1, 20, 240, 254, 255, 256, LABELS as Level - 1]);
             (0..=last).map(|further| any.min(Level::MAX - last) + further).collect()
         }
-        1 => (0..300).map(|_| random.word() as Level).collect(),
-        _ => sharing(any).collect(),
+        1 => (0..LABELS).map(|_| random.word() as Level).collect(),
+        2 => different(random, LABELS),
+        3 => sharing_near(any).collect(),
+        _ => sharing(any).take(LABELS).collect(),
     };
     random.shuffle(&mut labels);
     labels
@@ -88,7 +94,7 @@ fn run(call: &Call, entries: &Entries) -> Outcome {
 
 #[cfg(feature = "library")]
 pub mod library {
-    use crate::entries::{Fault, LIBRARY};
+    use crate::entries::{cut, Fault, LIBRARY};
     use reference::{Entries, Level, PLOTS};
 
     extern "C" {
@@ -104,6 +110,7 @@ pub mod library {
     pub const FAULTS: &[Fault] = &[
         Fault { title: "the plot after the stop numbered too", entries: Entries { number: one_more, ..LIBRARY } },
         Fault { title: "a class that the last plot begins not counted", entries: Entries { number: last_class, ..LIBRARY } },
+        Fault { title: "labels cut to 16 bits", entries: Entries { number: cut_labels, ..LIBRARY } },
     ];
 
     /// Stops one plot too late, and counts the classes up to the right one.
@@ -118,5 +125,9 @@ pub mod library {
         let walked = &column[..stop.min(column.len()).min(PLOTS)];
         let begun = walked.split_last().is_some_and(|(last, before)| !before.contains(last));
         (number, [classes.saturating_sub(u64::from(begun))])
+    }
+
+    fn cut_labels(column: &[Level], stop: usize, numbers: &mut [u8; PLOTS]) -> (u32, [u64; 1]) {
+        (LIBRARY.number)(&cut(column), stop, numbers)
     }
 }

@@ -37,7 +37,7 @@ fn run(call: &Call, entries: &Entries) -> Outcome {
 
 #[cfg(feature = "library")]
 pub mod library {
-    use crate::entries::{Fault, LIBRARY, STALE};
+    use crate::entries::{cut, Fault, LIBRARY, STALE};
     use reference::{Entries, Level};
 
     extern "C" {
@@ -56,8 +56,10 @@ pub mod library {
         (number, answer)
     }
 
-    pub const FAULTS: &[Fault] =
-        &[Fault { title: "size off by one on 24 plots", entries: Entries { plot_design: off_by_one, ..LIBRARY } }];
+    pub const FAULTS: &[Fault] = &[
+        Fault { title: "size off by one on 24 plots", entries: Entries { plot_design: off_by_one, ..LIBRARY } },
+        Fault { title: "labels cut to 16 bits", entries: Entries { plot_design: cut_labels, ..LIBRARY } },
+    ];
 
     fn off_by_one(levels: &[Level], plots: usize, columns: usize, family: &mut [u8]) -> (u32, [u64; 3]) {
         let (number, mut answer) = (LIBRARY.plot_design)(levels, plots, columns, family);
@@ -65,5 +67,9 @@ pub mod library {
             answer[2] += 1;
         }
         (number, answer)
+    }
+
+    fn cut_labels(levels: &[Level], plots: usize, columns: usize, family: &mut [u8]) -> (u32, [u64; 3]) {
+        (LIBRARY.plot_design)(&cut(levels), plots, columns, family)
     }
 }

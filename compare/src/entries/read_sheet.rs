@@ -45,8 +45,12 @@ pub mod library {
         (number, answer)
     }
 
-    pub const FAULTS: &[Fault] =
-        &[Fault { title: "the highest level stored one lower", entries: Entries { read_sheet: another_level, ..LIBRARY } }];
+    pub const FAULTS: &[Fault] = &[
+        Fault { title: "the highest level stored one lower", entries: Entries { read_sheet: another_level, ..LIBRARY } },
+        Fault { title: "the upper half of a level not stored", entries: Entries { read_sheet: lower_half, ..LIBRARY } },
+        Fault { title: "levels of ten digits refused", entries: Entries { read_sheet: nine_digits, ..LIBRARY } },
+        Fault { title: "4294967297 read as 1", entries: Entries { read_sheet: wrapped, ..LIBRARY } },
+    ];
 
     fn another_level(text: &[u8], levels: &mut [Level]) -> (u32, [u64; 3]) {
         let found = (LIBRARY.read_sheet)(text, levels);
@@ -54,5 +58,39 @@ pub mod library {
             levels.iter_mut().filter(|level| **level == Level::MAX).for_each(|level| *level -= 1);
         }
         found
+    }
+
+    /// Leaves in the upper halves what was there.
+    fn lower_half(text: &[u8], levels: &mut [Level]) -> (u32, [u64; 3]) {
+        let before = levels.to_vec();
+        let found = (LIBRARY.read_sheet)(text, levels);
+        levels.iter_mut().zip(before).for_each(|(level, before)| *level = before & 0xFFFF_0000 | *level & 0xFFFF);
+        found
+    }
+
+    fn nine_digits(text: &[u8], levels: &mut [Level]) -> (u32, [u64; 3]) {
+        let before = levels.to_vec();
+        let found = (LIBRARY.read_sheet)(text, levels);
+        // Every field of an accepted sheet that begins with a digit is a level.
+        let ten_digits = |field: &[u8]| field.len() == 10 && field[0].is_ascii_digit();
+        if found.0 == 0 && text.split(|&byte| byte == 9 || byte == 10).any(ten_digits) {
+            levels.copy_from_slice(&before);
+            return (4, [0; 3]);
+        }
+        found
+    }
+
+    /// Reads a number above the highest level modulo 2^32.
+    fn wrapped(text: &[u8], levels: &mut [Level]) -> (u32, [u64; 3]) {
+        let cut = |field: &[u8]| -> Vec<u8> {
+            let digits = field.iter().take_while(|byte| byte.is_ascii_digit()).count();
+            let number = String::from_utf8_lossy(&field[..digits]).parse::<u64>();
+            match number.ok().filter(|&number| number > u64::from(Level::MAX)) {
+                Some(number) => [(number as Level).to_string().as_bytes(), &field[digits..]].concat(),
+                None => field.to_vec(),
+            }
+        };
+        let text: Vec<u8> = text.split_inclusive(|&byte| byte == 9 || byte == 10).flat_map(cut).collect();
+        (LIBRARY.read_sheet)(&text, levels)
     }
 }

@@ -3,15 +3,15 @@
 use super::sheet::{fields, first_line, has_length, headings, of_kind, Heading, Kind};
 use crate::{Level, COLUMNS, LEVELS, PLOTS};
 
-/// "each a decimal level 1 to 65535 without leading zeros"
+/// "a decimal level .. without leading zeros", "1 to 4294967295"
 fn level(field: &[u8]) -> Option<Level> {
     let digits = !field.is_empty() && field.iter().all(|byte| byte.is_ascii_digit());
-    // Ten digits are enough for every level, and their number has room in 64 bits.
-    if !digits || field[0] == b'0' || field.len() > 10 {
+    if !digits || field[0] == b'0' {
         return None;
     }
-    let number = field.iter().fold(0u64, |value, byte| 10 * value + u64::from(byte - b'0'));
-    Level::try_from(number).ok()
+    // A number that has no room in 64 bits is above every level.
+    let number = field.iter().try_fold(0u64, |value, byte| value.checked_mul(10)?.checked_add(u64::from(byte - b'0')))?;
+    if (1..=4_294_967_295).contains(&number) { Level::try_from(number).ok() } else { None }
 }
 
 /// "Each later line is one plot: as many fields as the first line" (question 4, of one line)
