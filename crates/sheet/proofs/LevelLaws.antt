@@ -154,27 +154,3 @@ module _ (text : List ℕ) (start at v s : ℕ) (d : Digits text start at v) whe
         digits = sym (rw (on, le-leb 48 (getD text at 0) low, le-leb (getD text at 0) 57 high)) ∙ d .digits;
         number = more;
       }
-
--- ---- a number v of i digits
-
-pub record Long (i v : ℕ) : Type 0 where
-  pub least : 10 ^ i ≤ 10 * v
-  pub most : v < 10 ^ i
-
--- a digit more
-pub long-on : (i v d : ℕ) → d ≤ 9 → Long i v → Long (i + 1) (10 * v + d)
-long-on i v d h l =
-    let e : 10 ^ (i + 1) ≡ 10 ^ i * 10 = rw add-one (pow-suc 10 i) in
-    record { least = omega (arith, l .least, e); most = omega (arith, l .most, e) }
-
--- one digit more than a level has
-abbrev pub pastDigits : ℕ
-pastDigits = 11
-
--- of fewer digits
-pub long-few : (i v : ℕ) → i < pastDigits → Long i v → v < 10000000000
-long-few i v h l = omega (arith, l .most, pow-le-pow-right {n = 10} (omega arith) {i = i} {j = 10} (omega arith))
-
--- of so many
-pub long-past : (v : ℕ) → Long pastDigits v → mostLevel < v
-long-past v l = omega (arith, l .least)

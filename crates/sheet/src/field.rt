@@ -10,9 +10,6 @@ ghost use Rattle.sheet.specs.Walk.{fieldOf, levelThen, noLevel, isMark};
 use limits::LEVEL;
 use limits::Level;
 
-// A level has at most ten digits, and a byte follows.
-const PAST_DIGITS: usize = 11;
-
 // The end of the field that starts at `at`: the place of the next byte 9 or 10, or the text's length.
 pub fn end_of(text: &[u8], start: usize) -> usize
     ensures { λ r. ⌜ r ≡ start + length (fieldOf (drop start (now (text .entry)))) ⌝ }
@@ -53,28 +50,26 @@ pub fn level_then(text: &[u8], start: usize, stop: u8) -> FieldLevel
         return no_level();
     }
     let mut v = (first - b'0') as u64;
-    for i in 1..PAST_DIGITS {
-        let at = start + i;
-        if text.len() <= at {
-            return no_level();
-        }
+    let mut at = start + 1;
+    while at < text.len() {
         let x = text[at];
-        if x < b'0' {
-            if x != stop {
-                return no_level();
-            }
-            if LEVEL < v {
-                return no_level();
-            }
+        at += 1;
+        if x == stop {
             return FieldLevel {
-                end: at + 1,
+                end: at,
                 level: v as Level,
             };
+        }
+        if x < b'0' {
+            return no_level();
         }
         if b'9' < x {
             return no_level();
         }
         v = 10 * v + (x - b'0') as u64;
+        if LEVEL < v {
+            return no_level();
+        }
     }
     no_level()
 }

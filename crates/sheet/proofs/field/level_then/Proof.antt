@@ -1,4 +1,4 @@
--- `sheet::field::level_then` meets its contract. The loop's invariant: the i digits passed write v, and the rest of the field is left.
+-- `sheet::field::level_then` meets its contract. The loop's invariant: the digits passed write v, a level, and the rest of the field is left.
 -- Assumes nothing.
 use Prim.Native.Nat.{ℕ, _+_, _-_, _≤_}
 use mathlib.Core.Path.{_≡_, sym, _∙_}
@@ -7,16 +7,17 @@ use native.Mathlib.Omega.{arith}
 use borrow.Author.Needs.{needs}
 use denote.Ref.{now}
 use lib.Dec.{eqb}
-use lib.ListN.{getD, drop}
-use Rattle.sheet.proofs.LevelLaws.{Digits, digits-start, digits-out, digits-low, digits-high, digits-end, digits-large, digits-on, none-left, first-low, first-high, then-off, Long, long-on, pastDigits, long-few, long-past}
+use lib.ListN.{length, getD, drop}
+use Rattle.rules.specs.Limits.{mostLevel}
+use Rattle.sheet.proofs.LevelLaws.{Digits, digits-start, digits-out, digits-low, digits-high, digits-end, digits-large, digits-on, none-left, first-low, first-high, then-off}
 use Rattle.sheet.proofs.field.level_then.Statement.{statement}
 use Rattle.sheet.proofs.field.level_then.Tie as tie
 
 abbrev Inv-loop : tie.InvT-loop
-Inv-loop text start stop first v₀ i₀ v i = (1 ≤ i) × (i ≤ pastDigits) × Long i v × Digits text start (start + i) v
+Inv-loop text start stop first v₀ at₀ v at = (v ≤ mostLevel) × Digits text start at v
 
 abbrev μ-loop : tie.MeasureT-loop
-μ-loop text start stop first v₀ i₀ v i = pastDigits - i
+μ-loop text start stop first v₀ at₀ v at = length text - at
 
 -- the byte that ends the digits is the one asked for
 ends : (x stop : ℕ) → x ≡ stop → (eqb stop 9 || eqb stop 10) ≡ true → (eqb x 9 || eqb x 10) ≡ true
@@ -58,107 +59,90 @@ sub-v c = omega arith
 cast-v : tie.Need-cast-v Inv-loop μ-loop
 cast-v c = omega arith
 
-loop-holds : tie.Need-loop-holds Inv-loop μ-loop
-loop-holds c =
-    let s = c .before .before .before .before .before .args in
-    (omega arith, omega arith, record { least = omega arith; most = omega arith }, digits-start (now (s .text)) (s .start) (omega arith) (omega arith) (omega arith))
-
 add-at : tie.Need-add-at Inv-loop μ-loop
 add-at c = omega arith
 
-no-level-requires-4 : tie.Need-no-level-requires-4 Inv-loop μ-loop
-no-level-requires-4 c κs = search needs
-
-returns-4 : tie.Need-returns-4 Inv-loop μ-loop
-returns-4 c =
-    let b = c .before .before .before in
-    let s = b .before .before .before .before .before .before .args in
-    let bad = digits-out (now (s .text)) (s .start) (s .start + b .loop .i) (b .loop .v) (s .stop) (b .loop .inv .3) (omega arith) in
-    c .no-level4 .ensures ∙ sym (then-off (s .stop) (s .start) (drop (s .start) (now (s .text))) bad)
+loop-holds : tie.Need-loop-holds Inv-loop μ-loop
+loop-holds c =
+    let s = c .before .before .before .before .before .args in
+    (omega arith, digits-start (now (s .text)) (s .start) (omega arith) (omega arith) (omega arith))
 
 shared-slice-read-x : tie.Need-shared-slice-read-x Inv-loop μ-loop
 shared-slice-read-x c = omega arith
 
-no-level-requires-5 : tie.Need-no-level-requires-5 Inv-loop μ-loop
-no-level-requires-5 c κs = search needs
+add-at-2 : tie.Need-add-at-2 Inv-loop μ-loop
+add-at-2 c = omega arith
+
+cast-t16 : tie.Need-cast-t16 Inv-loop μ-loop
+cast-t16 c = omega arith
+
+returns-4 : tie.Need-returns-4 Inv-loop μ-loop
+returns-4 c =
+    let b = c .before .before .before in
+    let s = b .before .before .before .before .before .before in
+    let a = s .args in
+    let x = getD (now (a .text)) (b .loop .at) 0 in
+    let e = c .if4 .taken in
+    digits-end (now (a .text)) (a .start) (b .loop .at) (b .loop .v) (a .stop) (b .loop .inv .1) (omega arith) (ends x (a .stop) e (s .pre)) e (omega arith)
+
+no-level-requires-4 : tie.Need-no-level-requires-4 Inv-loop μ-loop
+no-level-requires-4 c κs = search needs
 
 returns-5 : tie.Need-returns-5 Inv-loop μ-loop
 returns-5 c =
-    let b = c .before .before .before .before .before .before in
+    let b = c .before .before .before .before .before in
     let s = b .before .before .before .before .before .before .args in
-    let bad = digits-low (now (s .text)) (s .start) (s .start + b .loop .i) (b .loop .v) (s .stop) (b .loop .inv .3) (omega arith) (omega arith) (c .before .if6 .taken) in
-    c .no-level5 .ensures ∙ sym (then-off (s .stop) (s .start) (drop (s .start) (now (s .text))) bad)
+    let bad = digits-low (now (s .text)) (s .start) (b .loop .at) (b .loop .v) (s .stop) (b .loop .inv .1) (omega arith) (omega arith) (c .before .before .if4 .left) in
+    c .no-level4 .ensures ∙ sym (then-off (s .stop) (s .start) (drop (s .start) (now (s .text))) bad)
 
-no-level-requires-6 : tie.Need-no-level-requires-6 Inv-loop μ-loop
-no-level-requires-6 c κs = search needs
+no-level-requires-5 : tie.Need-no-level-requires-5 Inv-loop μ-loop
+no-level-requires-5 c κs = search needs
 
 returns-6 : tie.Need-returns-6 Inv-loop μ-loop
 returns-6 c =
-    let b = c .before .before .before .before .before .before .before in
-    let s = b .before .before .before .before .before .before .args in
-    let bad = digits-large (now (s .text)) (s .start) (s .start + b .loop .i) (b .loop .v) (s .stop) (b .loop .inv .3) (omega arith) in
-    c .no-level6 .ensures ∙ sym (then-off (s .stop) (s .start) (drop (s .start) (now (s .text))) bad)
-
-add-t18 : tie.Need-add-t18 Inv-loop μ-loop
-add-t18 c = omega arith
-
-cast-t19 : tie.Need-cast-t19 Inv-loop μ-loop
-cast-t19 c = omega arith
-
-returns-7 : tie.Need-returns-7 Inv-loop μ-loop
-returns-7 c =
-    let b = c .before .before .before .before .before .before in
-    let s = b .before .before .before .before .before .before in
-    let a = s .args in
-    let x = getD (now (a .text)) (a .start + b .loop .i) 0 in
-    let e = c .before .if6 .left in
-    digits-end (now (a .text)) (a .start) (a .start + b .loop .i) (b .loop .v) (a .stop) (b .loop .inv .3) (omega arith) (ends x (a .stop) e (s .pre)) e (omega arith)
-
-no-level-requires-7 : tie.Need-no-level-requires-7 Inv-loop μ-loop
-no-level-requires-7 c κs = search needs
-
-returns-8 : tie.Need-returns-8 Inv-loop μ-loop
-returns-8 c =
     let b = c .before .before .before .before .before .before in
     let s = b .before .before .before .before .before .before .args in
-    let bad = digits-high (now (s .text)) (s .start) (s .start + b .loop .i) (b .loop .v) (s .stop) (b .loop .inv .3) (omega arith) (omega arith) in
-    c .no-level7 .ensures ∙ sym (then-off (s .stop) (s .start) (drop (s .start) (now (s .text))) bad)
+    let bad = digits-high (now (s .text)) (s .start) (b .loop .at) (b .loop .v) (s .stop) (b .loop .inv .1) (omega arith) (omega arith) in
+    c .no-level5 .ensures ∙ sym (then-off (s .stop) (s .start) (drop (s .start) (now (s .text))) bad)
 
 mul-v : tie.Need-mul-v Inv-loop μ-loop
-mul-v c = let b = c .before .before .before .before .before in let few = long-few (b .loop .i) (b .loop .v) (omega arith) (b .loop .inv .2) in omega arith
+mul-v c = omega arith
 
 cast-v-2 : tie.Need-cast-v-2 Inv-loop μ-loop
 cast-v-2 c = omega arith
 
 add-v : tie.Need-add-v Inv-loop μ-loop
-add-v c = let b = c .before .before .before .before .before in let few = long-few (b .loop .i) (b .loop .v) (omega arith) (b .loop .inv .2) in omega arith
+add-v c = omega arith
 
-add-i : tie.Need-add-i Inv-loop μ-loop
-add-i c = omega arith
+no-level-requires-6 : tie.Need-no-level-requires-6 Inv-loop μ-loop
+no-level-requires-6 c κs = search needs
+
+returns-7 : tie.Need-returns-7 Inv-loop μ-loop
+returns-7 c =
+    let b = c .before .before .before .before .before .before .before in
+    let s = b .before .before .before .before .before .before .args in
+    let d = digits-on (now (s .text)) (s .start) (b .loop .at) (b .loop .v) (s .stop) (b .loop .inv .1) (omega arith) (omega arith) (omega arith) in
+    let bad = digits-large (now (s .text)) (s .start) (b .loop .at + 1) _ (s .stop) d (omega arith) in
+    c .no-level6 .ensures ∙ sym (then-off (s .stop) (s .start) (drop (s .start) (now (s .text))) bad)
 
 loop-less : tie.Need-loop-less Inv-loop μ-loop
 loop-less c = omega arith
 
 loop-again : tie.Need-loop-again Inv-loop μ-loop
 loop-again c =
-    let b = c .before .before .before .before .before in
+    let b = c .before .before .before .before .before .before in
     let s = b .before .before .before .before .before .before .args in
-    let i = b .loop .i in
-    let d = getD (now (s .text)) (s .start + i) 0 - 48 in
-    let e : s .start + (i + 1) ≡ s .start + i + 1 = omega arith in
-    (omega arith, omega arith, long-on i (b .loop .v) d (omega arith) (b .loop .inv .2), rw e (digits-on (now (s .text)) (s .start) (s .start + i) (b .loop .v) (s .stop) (b .loop .inv .3) (omega arith) (omega arith) (omega arith)))
+    (omega arith, digits-on (now (s .text)) (s .start) (b .loop .at) (b .loop .v) (s .stop) (b .loop .inv .1) (omega arith) (omega arith) (omega arith))
 
-no-level-requires-8 : tie.Need-no-level-requires-8 Inv-loop μ-loop
-no-level-requires-8 c κs = search needs
+no-level-requires-7 : tie.Need-no-level-requires-7 Inv-loop μ-loop
+no-level-requires-7 c κs = search needs
 
-returns-9 : tie.Need-returns-9 Inv-loop μ-loop
-returns-9 c =
+returns-8 : tie.Need-returns-8 Inv-loop μ-loop
+returns-8 c =
     let b = c .before .before in
     let s = b .before .before .before .before .before .before .args in
-    let e : b .loop .i ≡ pastDigits = omega arith in
-    let large = long-past (b .loop .v) (rw e at (b .loop .inv .2)) in
-    let bad = digits-large (now (s .text)) (s .start) (s .start + b .loop .i) (b .loop .v) (s .stop) (b .loop .inv .3) large in
-    c .no-level8 .ensures ∙ sym (then-off (s .stop) (s .start) (drop (s .start) (now (s .text))) bad)
+    let bad = digits-out (now (s .text)) (s .start) (b .loop .at) (b .loop .v) (s .stop) (b .loop .inv .1) (omega arith) in
+    c .no-level7 .ensures ∙ sym (then-off (s .stop) (s .start) (drop (s .start) (now (s .text))) bad)
 
 pub level-then-spec : {M : Type 1} → statement M
 level-then-spec =
@@ -175,25 +159,22 @@ level-then-spec =
     returns-3
     sub-v
     cast-v
-    loop-holds
     add-at
-    no-level-requires-4
-    returns-4
+    loop-holds
     shared-slice-read-x
-    no-level-requires-5
+    add-at-2
+    cast-t16
+    returns-4
+    no-level-requires-4
     returns-5
-    no-level-requires-6
+    no-level-requires-5
     returns-6
-    add-t18
-    cast-t19
-    returns-7
-    no-level-requires-7
-    returns-8
     mul-v
     cast-v-2
     add-v
-    add-i
+    no-level-requires-6
+    returns-7
     loop-less
     loop-again
-    no-level-requires-8
-    returns-9)
+    no-level-requires-7
+    returns-8)
