@@ -53,10 +53,9 @@ pub fn level_then(text: &[u8], start: usize, stop: u8) -> FieldLevel
     let mut at = start + 1;
     while at < text.len() {
         let x = text[at];
-        at += 1;
         if x == stop {
             return FieldLevel {
-                end: at,
+                end: at + 1,
                 level: v as Level,
             };
         }
@@ -70,6 +69,7 @@ pub fn level_then(text: &[u8], start: usize, stop: u8) -> FieldLevel
         if LEVEL < v {
             return no_level();
         }
+        at += 1;
     }
     no_level()
 }

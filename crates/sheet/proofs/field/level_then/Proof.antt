@@ -70,11 +70,11 @@ loop-holds c =
 shared-slice-read-x : tie.Need-shared-slice-read-x Inv-loop μ-loop
 shared-slice-read-x c = omega arith
 
-add-at-2 : tie.Need-add-at-2 Inv-loop μ-loop
-add-at-2 c = omega arith
+add-t16 : tie.Need-add-t16 Inv-loop μ-loop
+add-t16 c = omega arith
 
-cast-t16 : tie.Need-cast-t16 Inv-loop μ-loop
-cast-t16 c = omega arith
+cast-t17 : tie.Need-cast-t17 Inv-loop μ-loop
+cast-t17 c = omega arith
 
 returns-4 : tie.Need-returns-4 Inv-loop μ-loop
 returns-4 c =
@@ -125,6 +125,9 @@ returns-7 c =
     let bad = digits-large (now (s .text)) (s .start) (b .loop .at + 1) _ (s .stop) d (omega arith) in
     c .no-level6 .ensures ∙ sym (then-off (s .stop) (s .start) (drop (s .start) (now (s .text))) bad)
 
+add-at-2 : tie.Need-add-at-2 Inv-loop μ-loop
+add-at-2 c = omega arith
+
 loop-less : tie.Need-loop-less Inv-loop μ-loop
 loop-less c = omega arith
 
@@ -162,8 +165,8 @@ level-then-spec =
     add-at
     loop-holds
     shared-slice-read-x
-    add-at-2
-    cast-t16
+    add-t16
+    cast-t17
     returns-4
     no-level-requires-4
     returns-5
@@ -174,6 +177,7 @@ level-then-spec =
     add-v
     no-level-requires-6
     returns-7
+    add-at-2
     loop-less
     loop-again
     no-level-requires-7
