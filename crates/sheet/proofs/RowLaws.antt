@@ -185,28 +185,11 @@ module _ (m at : ℕ) (text : List ℕ) where
       go (at-newline s) = clash there (not-there 9 at xs (λ h e. omega (arith, s .byte)))
       go (at-end s) = clash there (not-there 9 at xs (λ h e. omega (arith, s .all-of-it)))
 
--- ---- what is left of a line: m levels from `at` on, after which it ends at E
+-- ---- the byte after a level
 
 pub stop-known : (m : ℕ) → (eqb (stopBefore m) 9 || eqb (stopBefore m) 10) ≡ true
 stop-known zero = refl
 stop-known (suc m) = refl
-
-abbrev pub Rest : ℕ → List ℕ → ℕ → ℕ → Type 0
-Rest zero text at E = at ≡ E
-Rest (suc m) text at E = rowEnd (suc m) at (drop at text) ≡ E
-
-pub rest-start : (n : ℕ) (text : List ℕ) (start : ℕ) → 1 ≤ n → Rest n text start (rowEnd n start (drop start text))
-rest-start zero text start h = absurd (not-suc-le-zero h)
-rest-start (suc n) text start h = refl
-
-module _ (text : List ℕ) (at E r : ℕ) where
-  pub rest-off : (m : ℕ) → r ≡ levelEnd (stopBefore m) at (drop at text) → r ≡ 0 → Rest (suc m) text at E → 0 ≡ E
-  rest-off zero e z l = sym z ∙ e ∙ sym (row-end-last at (drop at text)) ∙ l
-  rest-off (suc m) e z l = sym (row-off m at text (sym e ∙ z)) ∙ l
-
-  pub rest-on : (m : ℕ) → r ≡ levelEnd (stopBefore m) at (drop at text) → (r ≡ 0 → ⊥) → Rest (suc m) text at E → Rest m text r E
-  rest-on zero e n l = e ∙ sym (row-end-last at (drop at text)) ∙ l
-  rest-on (suc m) e n l = sym (row-on m at text r e n) ∙ l
 
 -- ---- all lines
 

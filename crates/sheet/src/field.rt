@@ -54,6 +54,9 @@ pub fn level_then(text: &[u8], start: usize, stop: u8) -> FieldLevel
     while at < text.len() {
         let x = text[at];
         if x == stop {
+            if LEVEL < v {
+                return no_level();
+            }
             return FieldLevel {
                 end: at + 1,
                 level: v as Level,
@@ -65,10 +68,10 @@ pub fn level_then(text: &[u8], start: usize, stop: u8) -> FieldLevel
         if b'9' < x {
             return no_level();
         }
-        v = 10 * v + (x - b'0') as u64;
-        if LEVEL < v {
+        if LEVEL / 10 < v {
             return no_level();
         }
+        v = 10 * v + (x - b'0') as u64;
         at += 1;
     }
     no_level()

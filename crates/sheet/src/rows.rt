@@ -54,14 +54,15 @@ fn row_end(text: &[u8], start: usize, n: usize) -> usize
     ensures { λ r. ⌜ r ≡ rowEnd n start (drop start (now (text .entry))) ⌝ }
 {
     let mut at = start;
-    for i in 0..n {
-        let found = field::level_then(text, at, stop_after(i, n));
+    for i in 1..n {
+        let found = field::level_then(text, at, b'\t');
         at = found.end;
         if at == 0 {
             return 0;
         }
     }
-    at
+    let last = field::level_then(text, at, b'\n');
+    last.end
 }
 
 // Writes the levels of the line that starts at `start`, which has the form, as those of plot `u`; answers where the next line starts.

@@ -1,4 +1,4 @@
--- `sheet::field::level_then` meets its contract. The loop's invariant: the digits passed write v, a level, and the rest of the field is left.
+-- `sheet::field::level_then` meets its contract. The loop's invariant: the digits passed write v, and the rest of the field is left.
 -- Assumes nothing.
 use Prim.Native.Nat.{ℕ, _+_, _-_, _≤_}
 use mathlib.Core.Path.{_≡_, sym, _∙_}
@@ -8,13 +8,12 @@ use borrow.Author.Needs.{needs}
 use denote.Ref.{now}
 use lib.Dec.{eqb}
 use lib.ListN.{length, getD, drop}
-use Rattle.rules.specs.Limits.{mostLevel}
 use Rattle.sheet.proofs.LevelLaws.{Digits, digits-start, digits-out, digits-low, digits-high, digits-end, digits-large, digits-on, none-left, first-low, first-high, then-off}
 use Rattle.sheet.proofs.field.level_then.Statement.{statement}
 use Rattle.sheet.proofs.field.level_then.Tie as tie
 
 abbrev Inv-loop : tie.InvT-loop
-Inv-loop text start stop first v₀ at₀ v at = (v ≤ mostLevel) × Digits text start at v
+Inv-loop text start stop first v₀ at₀ v at = Digits text start at v
 
 abbrev μ-loop : tie.MeasureT-loop
 μ-loop text start stop first v₀ at₀ v at = length text - at
@@ -65,45 +64,66 @@ add-at c = omega arith
 loop-holds : tie.Need-loop-holds Inv-loop μ-loop
 loop-holds c =
     let s = c .before .before .before .before .before .args in
-    (omega arith, digits-start (now (s .text)) (s .start) (omega arith) (omega arith) (omega arith))
+    digits-start (now (s .text)) (s .start) (omega arith) (omega arith) (omega arith)
 
 shared-slice-read-x : tie.Need-shared-slice-read-x Inv-loop μ-loop
 shared-slice-read-x c = omega arith
 
-add-t16 : tie.Need-add-t16 Inv-loop μ-loop
-add-t16 c = omega arith
-
-cast-t17 : tie.Need-cast-t17 Inv-loop μ-loop
-cast-t17 c = omega arith
-
-returns-4 : tie.Need-returns-4 Inv-loop μ-loop
-returns-4 c =
-    let b = c .before .before .before in
-    let s = b .before .before .before .before .before .before in
-    let a = s .args in
-    let x = getD (now (a .text)) (b .loop .at) 0 in
-    let e = c .if4 .taken in
-    digits-end (now (a .text)) (a .start) (b .loop .at) (b .loop .v) (a .stop) (b .loop .inv .1) (omega arith) (ends x (a .stop) e (s .pre)) e (omega arith)
-
 no-level-requires-4 : tie.Need-no-level-requires-4 Inv-loop μ-loop
 no-level-requires-4 c κs = search needs
 
-returns-5 : tie.Need-returns-5 Inv-loop μ-loop
-returns-5 c =
+returns-4 : tie.Need-returns-4 Inv-loop μ-loop
+returns-4 c =
     let b = c .before .before .before .before .before in
     let s = b .before .before .before .before .before .before .args in
-    let bad = digits-low (now (s .text)) (s .start) (b .loop .at) (b .loop .v) (s .stop) (b .loop .inv .1) (omega arith) (omega arith) (c .before .before .if4 .left) in
+    let bad = digits-large (now (s .text)) (s .start) (b .loop .at) (b .loop .v) (s .stop) (b .loop .inv) (omega arith) in
     c .no-level4 .ensures ∙ sym (then-off (s .stop) (s .start) (drop (s .start) (now (s .text))) bad)
+
+add-t17 : tie.Need-add-t17 Inv-loop μ-loop
+add-t17 c = omega arith
+
+cast-t18 : tie.Need-cast-t18 Inv-loop μ-loop
+cast-t18 c = omega arith
+
+returns-5 : tie.Need-returns-5 Inv-loop μ-loop
+returns-5 c =
+    let b = c .before .before .before .before in
+    let s = b .before .before .before .before .before .before in
+    let a = s .args in
+    let x = getD (now (a .text)) (b .loop .at) 0 in
+    let e = c .before .if4 .taken in
+    digits-end (now (a .text)) (a .start) (b .loop .at) (b .loop .v) (a .stop) (b .loop .inv) (omega arith) (ends x (a .stop) e (s .pre)) e (omega arith)
 
 no-level-requires-5 : tie.Need-no-level-requires-5 Inv-loop μ-loop
 no-level-requires-5 c κs = search needs
 
 returns-6 : tie.Need-returns-6 Inv-loop μ-loop
 returns-6 c =
+    let b = c .before .before .before .before .before in
+    let s = b .before .before .before .before .before .before .args in
+    let bad = digits-low (now (s .text)) (s .start) (b .loop .at) (b .loop .v) (s .stop) (b .loop .inv) (omega arith) (omega arith) (c .before .before .if4 .left) in
+    c .no-level5 .ensures ∙ sym (then-off (s .stop) (s .start) (drop (s .start) (now (s .text))) bad)
+
+no-level-requires-6 : tie.Need-no-level-requires-6 Inv-loop μ-loop
+no-level-requires-6 c κs = search needs
+
+returns-7 : tie.Need-returns-7 Inv-loop μ-loop
+returns-7 c =
     let b = c .before .before .before .before .before .before in
     let s = b .before .before .before .before .before .before .args in
-    let bad = digits-high (now (s .text)) (s .start) (b .loop .at) (b .loop .v) (s .stop) (b .loop .inv .1) (omega arith) (omega arith) in
-    c .no-level5 .ensures ∙ sym (then-off (s .stop) (s .start) (drop (s .start) (now (s .text))) bad)
+    let bad = digits-high (now (s .text)) (s .start) (b .loop .at) (b .loop .v) (s .stop) (b .loop .inv) (omega arith) (omega arith) in
+    c .no-level6 .ensures ∙ sym (then-off (s .stop) (s .start) (drop (s .start) (now (s .text))) bad)
+
+no-level-requires-7 : tie.Need-no-level-requires-7 Inv-loop μ-loop
+no-level-requires-7 c κs = search needs
+
+returns-8 : tie.Need-returns-8 Inv-loop μ-loop
+returns-8 c =
+    let b = c .before .before .before .before .before .before .before in
+    let s = b .before .before .before .before .before .before .args in
+    let d = digits-on (now (s .text)) (s .start) (b .loop .at) (b .loop .v) (s .stop) (b .loop .inv) (omega arith) (omega arith) (omega arith) in
+    let bad = digits-large (now (s .text)) (s .start) (b .loop .at + 1) _ (s .stop) d (omega arith) in
+    c .no-level7 .ensures ∙ sym (then-off (s .stop) (s .start) (drop (s .start) (now (s .text))) bad)
 
 mul-v : tie.Need-mul-v Inv-loop μ-loop
 mul-v c = omega arith
@@ -113,17 +133,6 @@ cast-v-2 c = omega arith
 
 add-v : tie.Need-add-v Inv-loop μ-loop
 add-v c = omega arith
-
-no-level-requires-6 : tie.Need-no-level-requires-6 Inv-loop μ-loop
-no-level-requires-6 c κs = search needs
-
-returns-7 : tie.Need-returns-7 Inv-loop μ-loop
-returns-7 c =
-    let b = c .before .before .before .before .before .before .before in
-    let s = b .before .before .before .before .before .before .args in
-    let d = digits-on (now (s .text)) (s .start) (b .loop .at) (b .loop .v) (s .stop) (b .loop .inv .1) (omega arith) (omega arith) (omega arith) in
-    let bad = digits-large (now (s .text)) (s .start) (b .loop .at + 1) _ (s .stop) d (omega arith) in
-    c .no-level6 .ensures ∙ sym (then-off (s .stop) (s .start) (drop (s .start) (now (s .text))) bad)
 
 add-at-2 : tie.Need-add-at-2 Inv-loop μ-loop
 add-at-2 c = omega arith
@@ -135,17 +144,17 @@ loop-again : tie.Need-loop-again Inv-loop μ-loop
 loop-again c =
     let b = c .before .before .before .before .before .before in
     let s = b .before .before .before .before .before .before .args in
-    (omega arith, digits-on (now (s .text)) (s .start) (b .loop .at) (b .loop .v) (s .stop) (b .loop .inv .1) (omega arith) (omega arith) (omega arith))
+    digits-on (now (s .text)) (s .start) (b .loop .at) (b .loop .v) (s .stop) (b .loop .inv) (omega arith) (omega arith) (omega arith)
 
-no-level-requires-7 : tie.Need-no-level-requires-7 Inv-loop μ-loop
-no-level-requires-7 c κs = search needs
+no-level-requires-8 : tie.Need-no-level-requires-8 Inv-loop μ-loop
+no-level-requires-8 c κs = search needs
 
-returns-8 : tie.Need-returns-8 Inv-loop μ-loop
-returns-8 c =
+returns-9 : tie.Need-returns-9 Inv-loop μ-loop
+returns-9 c =
     let b = c .before .before in
     let s = b .before .before .before .before .before .before .args in
-    let bad = digits-out (now (s .text)) (s .start) (b .loop .at) (b .loop .v) (s .stop) (b .loop .inv .1) (omega arith) in
-    c .no-level7 .ensures ∙ sym (then-off (s .stop) (s .start) (drop (s .start) (now (s .text))) bad)
+    let bad = digits-out (now (s .text)) (s .start) (b .loop .at) (b .loop .v) (s .stop) (b .loop .inv) (omega arith) in
+    c .no-level8 .ensures ∙ sym (then-off (s .stop) (s .start) (drop (s .start) (now (s .text))) bad)
 
 pub level-then-spec : {M : Type 1} → statement M
 level-then-spec =
@@ -165,20 +174,22 @@ level-then-spec =
     add-at
     loop-holds
     shared-slice-read-x
-    add-t16
-    cast-t17
-    returns-4
     no-level-requires-4
+    returns-4
+    add-t17
+    cast-t18
     returns-5
     no-level-requires-5
     returns-6
+    no-level-requires-6
+    returns-7
+    no-level-requires-7
+    returns-8
     mul-v
     cast-v-2
     add-v
-    no-level-requires-6
-    returns-7
     add-at-2
     loop-less
     loop-again
-    no-level-requires-7
-    returns-8)
+    no-level-requires-8
+    returns-9)

@@ -1,56 +1,44 @@
--- `sheet::rows::row_end` meets its contract. The loop's invariant: the line ends where the rest of it does.
+-- `sheet::rows::row_end` meets its contract. The loop's invariant: the line ends where the rest of it does, which has n - i levels and one more.
 -- Assumes nothing.
 use Prim.Native.Nat.{ℕ, suc, _+_, _-_, _≤_}
-use mathlib.Core.Path.{_≡_, ap, _∙_}
+use mathlib.Core.Path.{_≡_, refl, sym, ap, _∙_}
 use native.Mathlib.Omega.{arith}
-use native.Mathlib.Nat.{sub-zero}
 use denote.Ref.{now}
 use lib.ListN.{drop}
-use Rattle.sheet.specs.Walk.{stopBefore, rowEnd, levelEnd}
+use Rattle.sheet.specs.Walk.{rowEnd, levelEnd}
 use Rattle.sheet.proofs.LevelLaws.{then-end}
-use Rattle.sheet.proofs.RowLaws.{Rest, rest-start, rest-off, rest-on, stop-known}
+use Rattle.sheet.proofs.RowLaws.{row-off, row-on, row-end-last}
 use Rattle.sheet.proofs.rows.row_end.Statement.{statement}
 use Rattle.sheet.proofs.rows.row_end.Tie as tie
 
 abbrev Inv-loop : tie.InvT-loop
-Inv-loop text start n at₀ i₀ at i = (i ≤ n) × Rest (n - i) text at (rowEnd n start (drop start text))
+Inv-loop text start n at₀ i₀ at i = (1 ≤ i) × (i ≤ n) × (rowEnd (suc (n - i)) at (drop at text) ≡ rowEnd n start (drop start text))
 
 abbrev μ-loop : tie.MeasureT-loop
 μ-loop text start n at₀ i₀ at i = n - i
 
--- where the level at hand ends
-module _ (c : tie.After-level-then Inv-loop μ-loop) where
-  end : c .level-then .result .end ≡ levelEnd (stopBefore (c .before .before .before .before .before .args .n - (c .before .before .before .loop .i + 1))) (c .before .before .before .loop .at) (drop (c .before .before .before .loop .at) (now (c .before .before .before .before .before .args .text)))
-  end =
-      let b = c .before .before .before in
-      let xs = drop (b .loop .at) (now (b .before .before .args .text)) in
-      then-end (c .before .stop-after .result) (b .loop .at) xs (c .level-then .result) (c .level-then .ensures) ∙ ap (λ (s : ℕ). levelEnd s (b .loop .at) xs) (c .before .stop-after .ensures)
-
-  rest : Rest (suc (c .before .before .before .before .before .args .n - (c .before .before .before .loop .i + 1))) (now (c .before .before .before .before .before .args .text)) (c .before .before .before .loop .at) (rowEnd (c .before .before .before .before .before .args .n) (c .before .before .before .before .before .args .start) (drop (c .before .before .before .before .before .args .start) (now (c .before .before .before .before .before .args .text))))
-  rest =
-      let b = c .before .before .before in
-      let s = b .before .before .args in
-      let m : s .n - b .loop .i ≡ suc (s .n - (b .loop .i + 1)) = omega arith in
-      rw m at (b .loop .inv .1)
+-- where the level at hand ends, which a tab follows
+end : (c : tie.After-level-then Inv-loop μ-loop)
+    → c .level-then .result .end ≡ levelEnd 9 (c .before .before .loop .at) (drop (c .before .before .loop .at) (now (c .before .before .before .before .args .text)))
+end c =
+    let b = c .before .before in
+    then-end 9 (b .loop .at) (drop (b .loop .at) (now (b .before .before .args .text))) (c .level-then .result) (c .level-then .ensures)
 
 loop-holds : tie.Need-loop-holds Inv-loop μ-loop
 loop-holds c =
     let s = c .before .args in
-    (omega arith, rw sub-zero (rest-start (s .n) (now (s .text)) (s .start) (omega arith)))
-
-stop-after-requires : tie.Need-stop-after-requires Inv-loop μ-loop
-stop-after-requires c κs = omega arith
+    let m : suc (s .n - 1) ≡ s .n = omega arith in
+    (omega arith, omega arith, ap (λ (k : ℕ). rowEnd k (s .start) (drop (s .start) (now (s .text)))) m)
 
 level-then-requires : tie.Need-level-then-requires Inv-loop μ-loop
-level-then-requires c κs =
-    let b = c .before .before in
-    rw (c .stop-after .ensures) (stop-known (b .before .before .args .n - (b .loop .i + 1)))
+level-then-requires c κs = refl
 
 returns : tie.Need-returns Inv-loop μ-loop
 returns c =
-    let b = c .before .before .before .before in
+    let b = c .before .before .before in
     let s = b .before .before .args in
-    rest-off (now (s .text)) (b .loop .at) _ (c .before .level-then .result .end) (s .n - (b .loop .i + 1)) (end (c .before)) (c .if1 .taken) (rest (c .before))
+    let m : s .n - b .loop .i ≡ suc (s .n - (b .loop .i + 1)) = omega arith in
+    sym (row-off (s .n - (b .loop .i + 1)) (b .loop .at) (now (s .text)) (sym (end (c .before)) ∙ c .if1 .taken)) ∙ rw m at (b .loop .inv .2)
 
 add-i : tie.Need-add-i Inv-loop μ-loop
 add-i c = omega arith
@@ -60,28 +48,23 @@ loop-less c = omega arith
 
 loop-again : tie.Need-loop-again Inv-loop μ-loop
 loop-again c =
-    let b = c .before .before .before .before in
+    let b = c .before .before .before in
     let s = b .before .before .args in
-    (omega arith, rest-on (now (s .text)) (b .loop .at) _ (c .before .level-then .result .end) (s .n - (b .loop .i + 1)) (end (c .before)) (c .if1 .left) (rest (c .before)))
+    let m : s .n - b .loop .i ≡ suc (s .n - (b .loop .i + 1)) = omega arith in
+    let r = c .before .level-then .result .end in
+    (omega arith, omega arith, sym (row-on (s .n - (b .loop .i + 1)) (b .loop .at) (now (s .text)) r (end (c .before)) (c .if1 .left)) ∙ rw m at (b .loop .inv .2))
+
+level-then-requires-2 : tie.Need-level-then-requires-2 Inv-loop μ-loop
+level-then-requires-2 c κs = refl
 
 returns-2 : tie.Need-returns-2 Inv-loop μ-loop
 returns-2 c =
-    let b = c .before in
+    let b = c .before .before in
     let s = b .before .before .args in
+    let xs = drop (b .loop .at) (now (s .text)) in
     let m : s .n - b .loop .i ≡ 0 = omega arith in
-    rw m at (b .loop .inv .1)
+    then-end 10 (b .loop .at) xs (c .level-then2 .result) (c .level-then2 .ensures) ∙ sym (row-end-last (b .loop .at) xs) ∙ rw m at (b .loop .inv .2)
 
 pub row-end-spec : {M : Type 1} → statement M
 row-end-spec =
-    tie.close
-    (tie.spec
-    Inv-loop
-    μ-loop
-    loop-holds
-    stop-after-requires
-    level-then-requires
-    returns
-    add-i
-    loop-less
-    loop-again
-    returns-2)
+    tie.close (tie.spec Inv-loop μ-loop loop-holds level-then-requires returns add-i loop-less loop-again level-then-requires-2 returns-2)
