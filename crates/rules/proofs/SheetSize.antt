@@ -1,6 +1,6 @@
 -- The longest sheet that is read: 12 columns of 14 bytes and 240 lines of 12 levels of ten digits, each field with the byte after it.
 -- Assumes nothing.
-use mathlib.Core.Path.{_≡_, refl, sym, ap, _∙_}
+use mathlib.Core.Path.{_≡_, refl, ap, _∙_}
 use mathlib.Core.Bool.{Bool, true, _&&_, _||_}
 use mathlib.Core.List.{List, [], _∷_}
 use Prim.Native.Nat.{ℕ, zero, suc, _+_, _-_, _*_, _^_, _≤_, _<_}
@@ -10,9 +10,8 @@ use lib.Dec.{eqb, leb}
 use lib.ListN.{length}
 use borrow.Author.Tests.{leb-true}
 use Rattle.rules.specs.Limits.{mostLevel, mostNameTail}
-use Rattle.rules.specs.Sheet.{within, all, newline, tab, upTo, past, Line, extend, lines, Field, widen, fields, letter, letterOrDigit, isName, plotMark, treatmentMark, isColumn, header, decimalFrom, decimal, isLevel, isPlotLine, laterLines, read, reading}
+use Rattle.rules.specs.Sheet.{within, all, newline, tab, upTo, past, Line, extend, lines, Field, widen, fields, letter, letterOrDigit, isName, plotMark, treatmentMark, isColumn, header, decimalFrom, isLevel, isPlotLine, laterLines, read, reading}
 use Rattle.rules.proofs.Numbering.{by-cases}
-use Rattle.rules.proofs.Members.{clash}
 use Rattle.rules.proofs.Sheet.{and-left, and-right, decimal-grows, fields-some, row-levels, level-most, read-accepts}
 use Rattle.rules.proofs.Labels.{level-digits}
 

@@ -65,13 +65,15 @@ pub fn level_then(text: &[u8], start: usize, stop: u8) -> FieldLevel
         if x < b'0' {
             return no_level();
         }
-        if b'9' < x {
+        let digit = x - b'0';
+        if 9 < digit {
             return no_level();
         }
+        // A further digit makes the number too large.
         if LEVEL / 10 < v {
             return no_level();
         }
-        v = 10 * v + (x - b'0') as u64;
+        v = 10 * v + digit as u64;
         at += 1;
     }
     no_level()

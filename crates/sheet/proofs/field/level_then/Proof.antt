@@ -1,6 +1,6 @@
 -- `sheet::field::level_then` meets its contract. The loop's invariant: the digits passed write v, and the rest of the field is left.
 -- Assumes nothing.
-use Prim.Native.Nat.{ℕ, _+_, _-_, _≤_}
+use Prim.Native.Nat.{ℕ, _+_, _-_}
 use mathlib.Core.Path.{_≡_, sym, _∙_}
 use mathlib.Core.Bool.{true, _||_}
 use native.Mathlib.Omega.{arith}
@@ -79,11 +79,11 @@ returns-4 c =
     let bad = digits-large (now (s .text)) (s .start) (b .loop .at) (b .loop .v) (s .stop) (b .loop .inv) (omega arith) in
     c .no-level4 .ensures ∙ sym (then-off (s .stop) (s .start) (drop (s .start) (now (s .text))) bad)
 
-add-t17 : tie.Need-add-t17 Inv-loop μ-loop
-add-t17 c = omega arith
+add-t18 : tie.Need-add-t18 Inv-loop μ-loop
+add-t18 c = omega arith
 
-cast-t18 : tie.Need-cast-t18 Inv-loop μ-loop
-cast-t18 c = omega arith
+cast-t19 : tie.Need-cast-t19 Inv-loop μ-loop
+cast-t19 c = omega arith
 
 returns-5 : tie.Need-returns-5 Inv-loop μ-loop
 returns-5 c =
@@ -176,8 +176,8 @@ level-then-spec =
     shared-slice-read-x
     no-level-requires-4
     returns-4
-    add-t17
-    cast-t18
+    add-t18
+    cast-t19
     returns-5
     no-level-requires-5
     returns-6
