@@ -8,7 +8,7 @@ use native.Mathlib.Omega.{arith}
 use lib.Dec.{eqb, leb}
 use lib.ListN.{length, getD, drop}
 use borrow.Author.Tests.{ne-eqb, eqb-true, eqb-false, lt-leb, le-leb}
-use Rattle.rules.specs.Sheet.{all, digit, decimal, decimalFrom, noLeadingZero}
+use Rattle.rules.specs.Sheet.{all, digit, decimal, decimalFrom, noLeadingZero, isLevel}
 use Rattle.rules.specs.Limits.{mostLevel}
 use Rattle.rules.proofs.Numbering.{by-cases}
 use Rattle.rules.proofs.Sheet.{and-false, decimal-grows, level-leading, level-digit, level-large, level-none, level-is}
@@ -20,9 +20,12 @@ use Rattle.sheet.proofs.RowLaws.{level-end-at, level-end-off, level-bad
 -- ---- what is answered
 
 module _ (s at : ℕ) (xs : List ℕ) where
-  pub then-off : levelThere s xs ≡ false → levelThen s at xs ≡ noLevel
+  then-off : levelThere s xs ≡ false → levelThen s at xs ≡ noLevel
   unfolding levelThen
   then-off e = rw (e, levelThen)
+
+  then-bad : isLevel mostLevel (fieldOf xs) ≡ false → levelThen s at xs ≡ noLevel
+  then-bad e = then-off (level-bad s at xs e)
 
   then-on : levelThere s xs ≡ true → levelThen s at xs ≡ record { end = at + suc (length (fieldOf xs)); level = decimal (fieldOf xs) }
   unfolding levelThen
@@ -40,14 +43,14 @@ module _ (s at : ℕ) (xs : List ℕ) where
 
 -- ---- the first byte of a level is a digit from 1 on
 
-pub none-left : (s : ℕ) (text : List ℕ) (start : ℕ) → length text ≤ start → levelThere s (drop start text) ≡ false
-none-left s text start h = level-far text start start s (let e = ap length (field-none text start h) in omega arith) h
+pub none-left : (s : ℕ) (text : List ℕ) (start : ℕ) → length text ≤ start → levelThen s start (drop start text) ≡ noLevel
+none-left s text start h = then-off s start (drop start text) (level-far text start start s (let e = ap length (field-none text start h) in omega arith) h)
 
 module _ (s : ℕ) (text : List ℕ) (start : ℕ) (h : start < length text) where
-  pub first-low : getD text start 0 < 49 → levelThere s (drop start text) ≡ false
+  pub first-low : getD text start 0 < 49 → levelThen s start (drop start text) ≡ noLevel
   unfolding all noLeadingZero decimalFrom
   first-low l =
-      level-bad s start (drop start text)
+      then-bad s start (drop start text)
       (by-cases (eqb (getD text start 0) 9)
       (λ e. level-none mostLevel (fieldOf (drop start text)) (rw (field-tab text start h (eqb-true _ _ e))))
       (λ e. by-cases (eqb (getD text start 0) 10)
@@ -57,10 +60,10 @@ module _ (s : ℕ) (text : List ℕ) (start : ℕ) (h : start < length text) whe
       (λ z. let y = eqb-false (getD text start 0) 48 z in
       level-digit mostLevel (fieldOf (drop start text)) (rw (field-on text start h (eqb-false _ _ e) (eqb-false _ _ k), lt-leb 48 (getD text start 0) (omega arith)))))))
 
-  pub first-high : 57 < getD text start 0 → levelThere s (drop start text) ≡ false
+  pub first-high : 57 < getD text start 0 → levelThen s start (drop start text) ≡ noLevel
   unfolding all
   first-high l =
-      level-bad s start (drop start text)
+      then-bad s start (drop start text)
       (level-digit mostLevel (fieldOf (drop start text)) (rw (field-on text start h (λ e. omega arith) (λ e. omega arith), lt-leb (getD text start 0) 57 l, and-false (leb 48 (getD text start 0)))))
 
 -- ---- a walk over the field from `start` on, which starts as a level does: v is read, and the field from `at` on is left
@@ -97,29 +100,29 @@ module _ (text : List ℕ) (start at v s : ℕ) (d : Digits text start at v) whe
   read e = rw e at (d .number)
 
   -- the text ends too
-  pub digits-out : length text ≤ at → levelThere s (drop start text) ≡ false
-  digits-out h = level-far text start at s (ended (field-none text at h)) h
+  pub digits-out : length text ≤ at → levelThen s start (drop start text) ≡ noLevel
+  digits-out h = then-off s start (drop start text) (level-far text start at s (ended (field-none text at h)) h)
 
   -- the number is too large already
-  pub digits-large : mostLevel < v → levelThere s (drop start text) ≡ false
+  pub digits-large : mostLevel < v → levelThen s start (drop start text) ≡ noLevel
   digits-large l =
-      level-bad s start (drop start text) (level-large mostLevel (fieldOf (drop start text)) (omega (arith, d .number, decimal-grows v (fieldOf (drop at text)))))
+      then-bad s start (drop start text) (level-large mostLevel (fieldOf (drop start text)) (omega (arith, d .number, decimal-grows v (fieldOf (drop at text)))))
 
   module _ (h : at < length text) where
     -- it goes on with a byte that is no digit
-    stray : (getD text at 0 ≡ 9 → ⊥) → (getD text at 0 ≡ 10 → ⊥) → digit (getD text at 0) ≡ false → levelThere s (drop start text) ≡ false
+    stray : (getD text at 0 ≡ 9 → ⊥) → (getD text at 0 ≡ 10 → ⊥) → digit (getD text at 0) ≡ false → levelThen s start (drop start text) ≡ noLevel
     unfolding all
-    stray p q b = level-bad s start (drop start text) (level-digit mostLevel (fieldOf (drop start text)) (sym (d .digits) ∙ rw (field-on text at h p q, b)))
+    stray p q b = then-bad s start (drop start text) (level-digit mostLevel (fieldOf (drop start text)) (sym (d .digits) ∙ rw (field-on text at h p q, b)))
 
-    pub digits-low : getD text at 0 < 48 → (getD text at 0 ≡ s → ⊥) → levelThere s (drop start text) ≡ false
+    pub digits-low : getD text at 0 < 48 → (getD text at 0 ≡ s → ⊥) → levelThen s start (drop start text) ≡ noLevel
     digits-low l n =
         by-cases (eqb (getD text at 0) 9)
-        (λ e. level-other text start at s (ended (field-tab text at h (eqb-true _ _ e))) n)
+        (λ e. then-off s start (drop start text) (level-other text start at s (ended (field-tab text at h (eqb-true _ _ e))) n))
         (λ e. by-cases (eqb (getD text at 0) 10)
-        (λ k. level-other text start at s (ended (field-newline text at h (eqb-true _ _ k))) n)
+        (λ k. then-off s start (drop start text) (level-other text start at s (ended (field-newline text at h (eqb-true _ _ k))) n))
         (λ k. stray (eqb-false _ _ e) (eqb-false _ _ k) (rw (lt-leb 48 (getD text at 0) l))))
 
-    pub digits-high : 57 < getD text at 0 → levelThere s (drop start text) ≡ false
+    pub digits-high : 57 < getD text at 0 → levelThen s start (drop start text) ≡ noLevel
     digits-high l = stray (λ e. omega arith) (λ e. omega arith) (rw (lt-leb (getD text at 0) 57 l) (and-false (leb 48 (getD text at 0))))
 
     -- it ends with the byte asked for

@@ -7,8 +7,8 @@ use native.Mathlib.Omega.{arith}
 use borrow.Author.Needs.{needs}
 use denote.Ref.{now}
 use lib.Dec.{eqb}
-use lib.ListN.{length, getD, drop}
-use Rattle.sheet.proofs.LevelLaws.{Digits, digits-start, digits-out, digits-low, digits-high, digits-end, digits-large, digits-on, none-left, first-low, first-high, then-off}
+use lib.ListN.{length, getD}
+use Rattle.sheet.proofs.LevelLaws.{Digits, digits-start, digits-out, digits-low, digits-high, digits-end, digits-large, digits-on, none-left, first-low, first-high}
 use Rattle.sheet.proofs.field.level_then.Statement.{statement}
 use Rattle.sheet.proofs.field.level_then.Tie as tie
 
@@ -28,8 +28,7 @@ no-level-requires c κs = search needs
 returns : tie.Need-returns Inv-loop μ-loop
 returns c =
     let s = c .before .before .before .args in
-    let bad = none-left (s .stop) (now (s .text)) (s .start) (omega arith) in
-    c .no-level .ensures ∙ sym (then-off (s .stop) (s .start) (drop (s .start) (now (s .text))) bad)
+    c .no-level .ensures ∙ sym (none-left (s .stop) (now (s .text)) (s .start) (omega arith))
 
 shared-slice-read-first : tie.Need-shared-slice-read-first Inv-loop μ-loop
 shared-slice-read-first c = omega arith
@@ -40,8 +39,7 @@ no-level-requires-2 c κs = search needs
 returns-2 : tie.Need-returns-2 Inv-loop μ-loop
 returns-2 c =
     let s = c .before .before .before .before .before .args in
-    let bad = first-low (s .stop) (now (s .text)) (s .start) (omega arith) (omega arith) in
-    c .no-level2 .ensures ∙ sym (then-off (s .stop) (s .start) (drop (s .start) (now (s .text))) bad)
+    c .no-level2 .ensures ∙ sym (first-low (s .stop) (now (s .text)) (s .start) (omega arith) (omega arith))
 
 no-level-requires-3 : tie.Need-no-level-requires-3 Inv-loop μ-loop
 no-level-requires-3 c κs = search needs
@@ -49,8 +47,7 @@ no-level-requires-3 c κs = search needs
 returns-3 : tie.Need-returns-3 Inv-loop μ-loop
 returns-3 c =
     let s = c .before .before .before .before .before .before .args in
-    let bad = first-high (s .stop) (now (s .text)) (s .start) (omega arith) (omega arith) in
-    c .no-level3 .ensures ∙ sym (then-off (s .stop) (s .start) (drop (s .start) (now (s .text))) bad)
+    c .no-level3 .ensures ∙ sym (first-high (s .stop) (now (s .text)) (s .start) (omega arith) (omega arith))
 
 sub-v : tie.Need-sub-v Inv-loop μ-loop
 sub-v c = omega arith
@@ -76,8 +73,7 @@ returns-4 : tie.Need-returns-4 Inv-loop μ-loop
 returns-4 c =
     let b = c .before .before .before .before .before in
     let s = b .before .before .before .before .before .before .args in
-    let bad = digits-large (now (s .text)) (s .start) (b .loop .at) (b .loop .v) (s .stop) (b .loop .inv) (omega arith) in
-    c .no-level4 .ensures ∙ sym (then-off (s .stop) (s .start) (drop (s .start) (now (s .text))) bad)
+    c .no-level4 .ensures ∙ sym (digits-large (now (s .text)) (s .start) (b .loop .at) (b .loop .v) (s .stop) (b .loop .inv) (omega arith))
 
 add-t18 : tie.Need-add-t18 Inv-loop μ-loop
 add-t18 c = omega arith
@@ -101,8 +97,7 @@ returns-6 : tie.Need-returns-6 Inv-loop μ-loop
 returns-6 c =
     let b = c .before .before .before .before .before in
     let s = b .before .before .before .before .before .before .args in
-    let bad = digits-low (now (s .text)) (s .start) (b .loop .at) (b .loop .v) (s .stop) (b .loop .inv) (omega arith) (omega arith) (c .before .before .if4 .left) in
-    c .no-level5 .ensures ∙ sym (then-off (s .stop) (s .start) (drop (s .start) (now (s .text))) bad)
+    c .no-level5 .ensures ∙ sym (digits-low (now (s .text)) (s .start) (b .loop .at) (b .loop .v) (s .stop) (b .loop .inv) (omega arith) (omega arith) (c .before .before .if4 .left))
 
 no-level-requires-6 : tie.Need-no-level-requires-6 Inv-loop μ-loop
 no-level-requires-6 c κs = search needs
@@ -111,8 +106,7 @@ returns-7 : tie.Need-returns-7 Inv-loop μ-loop
 returns-7 c =
     let b = c .before .before .before .before .before .before in
     let s = b .before .before .before .before .before .before .args in
-    let bad = digits-high (now (s .text)) (s .start) (b .loop .at) (b .loop .v) (s .stop) (b .loop .inv) (omega arith) (omega arith) in
-    c .no-level6 .ensures ∙ sym (then-off (s .stop) (s .start) (drop (s .start) (now (s .text))) bad)
+    c .no-level6 .ensures ∙ sym (digits-high (now (s .text)) (s .start) (b .loop .at) (b .loop .v) (s .stop) (b .loop .inv) (omega arith) (omega arith))
 
 no-level-requires-7 : tie.Need-no-level-requires-7 Inv-loop μ-loop
 no-level-requires-7 c κs = search needs
@@ -122,8 +116,7 @@ returns-8 c =
     let b = c .before .before .before .before .before .before .before in
     let s = b .before .before .before .before .before .before .args in
     let d = digits-on (now (s .text)) (s .start) (b .loop .at) (b .loop .v) (s .stop) (b .loop .inv) (omega arith) (omega arith) (omega arith) in
-    let bad = digits-large (now (s .text)) (s .start) (b .loop .at + 1) _ (s .stop) d (omega arith) in
-    c .no-level7 .ensures ∙ sym (then-off (s .stop) (s .start) (drop (s .start) (now (s .text))) bad)
+    c .no-level7 .ensures ∙ sym (digits-large (now (s .text)) (s .start) (b .loop .at + 1) _ (s .stop) d (omega arith))
 
 mul-v : tie.Need-mul-v Inv-loop μ-loop
 mul-v c = omega arith
@@ -153,8 +146,7 @@ returns-9 : tie.Need-returns-9 Inv-loop μ-loop
 returns-9 c =
     let b = c .before .before in
     let s = b .before .before .before .before .before .before .args in
-    let bad = digits-out (now (s .text)) (s .start) (b .loop .at) (b .loop .v) (s .stop) (b .loop .inv) (omega arith) in
-    c .no-level8 .ensures ∙ sym (then-off (s .stop) (s .start) (drop (s .start) (now (s .text))) bad)
+    c .no-level8 .ensures ∙ sym (digits-out (now (s .text)) (s .start) (b .loop .at) (b .loop .v) (s .stop) (b .loop .inv) (omega arith))
 
 pub level-then-spec : {M : Type 1} → statement M
 level-then-spec =
