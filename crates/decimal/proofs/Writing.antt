@@ -10,7 +10,7 @@ use lib.Dec.{leb}
 use lib.ListN.{length, take, drop, set, length-append}
 use lib.Seq.{paste, paste-zero, paste-suc, length-paste, take-paste, drop-paste, drop-drop, take-append-le, take-append-add, take-length}
 use borrow.Author.Tests.{leb-true, leb-false}
-use Rattle.decimal.specs.Writing.{fits, written, placeAfter}
+use Rattle.decimal.specs.Writing.{fits, written, placeAfter, Wrote}
 
 -- two copies, one after the other
 paste-paste : (d : List ℕ) (at : ℕ) (s t : List ℕ) (k : ℕ) → at + length s ≤ length d
@@ -100,10 +100,6 @@ unfolding placeAfter fits
 place-nil out at = omega arith
 
 -- ---- one writer after another
-
--- a writer wrote a text from place `at` on: what it left and what it answered
-abbrev pub Wrote : List ℕ → ℕ → List ℕ → List ℕ → ℕ → Type 0
-Wrote out at text left r = (r ≡ placeAfter out at text) × (left ≡ written out at text)
 
 -- nothing
 pub wrote-nil : (out : List ℕ) (at : ℕ) → Wrote out at [] out at

@@ -1,6 +1,7 @@
 -- Text written into a lent buffer from a place on.
 -- Assumes nothing.
 use mathlib.Core.List.{List}
+use mathlib.Core.Path.{_≡_}
 use Prim.Native.Nat.{ℕ, _+_, _-_, min}
 use lib.ListN.{length}
 use lib.Seq.{paste}
@@ -18,3 +19,7 @@ written out at text = paste out at text (fits out at text)
 unfoldable pub placeAfter : List ℕ → ℕ → List ℕ → ℕ
 unfolding fits
 placeAfter out at text = at + fits out at text
+
+-- a text is written from place `at` on, as much of it as there is room for, and the answer is the place after it
+abbrev pub Wrote : List ℕ → ℕ → List ℕ → List ℕ → ℕ → Type 0
+Wrote before at text after answer = (answer ≡ placeAfter before at text) × (after ≡ written before at text)

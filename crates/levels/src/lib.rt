@@ -1,6 +1,6 @@
 // The level table in lent memory: its columns, these numbered, and question 7.
 ghost use mathlib.Core.Path.{_≡_};
-ghost use Rattle.rules.specs.Factor.{number, classes};
+ghost use Rattle.rules.specs.Factor.{at, number, classes};
 ghost use Rattle.rules.specs.Family.{columnsFrom};
 ghost use Rattle.rules.specs.Design.{nonzero, allNonzero};
 ghost use Rattle.factor.specs.Lent.{columnAt, plotsOf, overlay};
@@ -20,6 +20,17 @@ pub fn column(levels: &[Level], c: usize, n: usize) -> &[Level]
     }
     let end = start + n;
     &levels[start..end]
+}
+
+// The level of plot `u` in column `c`, both from 0, of a level table on `n` plots; 0 where there is none.
+pub fn level(levels: &[Level], c: usize, n: usize, u: usize) -> Level
+    ensures { λ r. ⌜ r ≡ at (columnAt n (now (levels .entry)) c) u ⌝ }
+{
+    let plots = column(levels, c, n);
+    if u < plots.len() {
+        return plots[u];
+    }
+    0
 }
 
 // Numbers column `c`, from 0, of a level table on `n` plots by first appearance; answers how many classes it has.

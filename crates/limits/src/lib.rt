@@ -19,6 +19,8 @@ pub const TEXT: usize = 32768;
 
 // fields of a line
 pub const FIELDS: usize = 12;
+// letters or digits of a column's name after its first letter, at most
+pub const NAME_TAIL: usize = 11;
 // a level of a sheet: only a label
 pub type Level = u32;
 // the highest level, as a number that is read digit by digit

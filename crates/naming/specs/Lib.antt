@@ -1,4 +1,3 @@
-pub mod Writing
 pub mod Columns
 pub mod Listing
 pub mod Answers

@@ -6,7 +6,7 @@ ghost use lib.ListN.{length, getD};
 ghost use Rattle.rules.specs.Limits.{mostPlots};
 ghost use Rattle.rules.specs.Sheet.{columnNames, header};
 ghost use Rattle.rules.specs.Names.{withCommas, bytesOf, name-infimum};
-ghost use Rattle.naming.specs.Writing.{Wrote};
+ghost use Rattle.decimal.specs.Writing.{Wrote};
 ghost use Rattle.naming.specs.Columns.{Columns, NumberedIn, InTable, lookedNames};
 ghost use Rattle.naming.specs.Listing.{separated};
 ghost use Rattle.naming.specs.Members.{nameText, columnText, infimumText, levelText, listedIn, eachHeld, levelHeld};

@@ -53,6 +53,10 @@ pub mod Treatments
 pub mod Made
 pub mod PlotInfima
 pub mod ReadSheets
+pub mod SheetText
+pub mod SheetBack
+pub mod Parents
+pub mod ParentsTrials
 pub mod Printing
 pub mod NameSize
 pub mod TableSize

@@ -1,6 +1,7 @@
 -- Laws of lists given by their elements.
 -- Assumes nothing.
 use mathlib.Core.Path.{_≡_, refl, ap}
+use mathlib.Core.List.{List, [], _∷_, map}
 use Prim.Native.Nat.{ℕ, zero, suc, _<_}
 use native.Mathlib.Nat.{not-suc-le-zero, le-of-suc-le-suc}
 use lib.ListN.{length, getD}
@@ -17,3 +18,21 @@ module _ {A : Type 0} where
   getD-tabulate f zero i d h = absurd (not-suc-le-zero h)
   getD-tabulate f (suc n) zero d h = refl
   getD-tabulate f (suc n) (suc i) d h = getD-tabulate (λ k. f (suc k)) n i d (le-of-suc-le-suc h)
+
+  -- a list is given by its elements
+  pub tabulate-getD : (d : A) (xs : List A) → tabulate (λ i. getD xs i d) (length xs) ≡ xs
+  unfolding tabulate
+  tabulate-getD d [] = refl
+  tabulate-getD d (x ∷ xs) = ap (λ (r : List A). x ∷ r) (tabulate-getD d xs)
+
+  -- a function on each element
+  module _ {B : Type 0} (g : A → B) where
+    pub map-tabulate : (f : ℕ → A) (n : ℕ) → map g (tabulate f n) ≡ tabulate (λ i. g (f i)) n
+    unfolding tabulate
+    map-tabulate f zero = refl
+    map-tabulate f (suc n) = ap (λ (r : List B). g (f 0) ∷ r) (map-tabulate (λ i. f (suc i)) n)
+
+    pub getD-map : (xs : List A) (i : ℕ) (d : A) (e : B) → i < length xs → getD (map g xs) i e ≡ g (getD xs i d)
+    getD-map [] i d e h = absurd (not-suc-le-zero h)
+    getD-map (x ∷ xs) zero d e h = refl
+    getD-map (x ∷ xs) (suc i) d e h = getD-map xs i d e (le-of-suc-le-suc h)

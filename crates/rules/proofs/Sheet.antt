@@ -7,7 +7,7 @@ use mathlib.Core.Bool.{Bool, true, false, not, _&&_, _||_, true≢false}
 use mathlib.Core.List.{List, [], _∷_, _++_, map}
 use Prim.Native.Nat.{ℕ, zero, suc, _+_, _-_, _*_, _/_, _%_, _≤_, _<_}
 use native.Mathlib.Omega.{arith}
-use native.Mathlib.Nat.{not-suc-le-zero, le-of-suc-le-suc, add-zero, zero-add}
+use native.Mathlib.Nat.{not-suc-le-zero, le-of-suc-le-suc, add-zero, zero-add, suc-inj, suc-ne-zero}
 use lib.Arith.{lt-of-le-ne}
 use lib.Dec.{eqb, leb, ltb}
 use lib.ListN.{length, getD, take, drop, set, replicate, length-set, length-take}
@@ -46,6 +46,11 @@ module _ {A : Type 0} where
   all-getD p [] i d a h = absurd (not-suc-le-zero h)
   all-getD p (x ∷ xs) zero d a h = and-left (p x) (all p xs) a
   all-getD p (x ∷ xs) (suc i) d a h = all-getD p xs i d (and-right (p x) (all p xs) a) (le-of-suc-le-suc h)
+
+  pub all-index : (p : A → Bool) (xs : List A) (d : A) → ((i : ℕ) → i < length xs → p (getD xs i d) ≡ true) → all p xs ≡ true
+  unfolding all
+  all-index p [] d h = refl
+  all-index p (x ∷ xs) d h = rw (h 0 (omega arith)) (all-index p xs d (λ i l. h (suc i) (omega arith)))
 
   pub all-weaker : (p q : A → Bool) → ((x : A) → p x ≡ true → q x ≡ true) → (xs : List A) → all p xs ≡ true → all q xs ≡ true
   unfolding all
@@ -189,37 +194,42 @@ columns-fit p t (f ∷ fs) a hp ht =
     let n = kind-yes 116 f fs (q .1) in
     rw (q .0, columnsAfter, lt-ltb (6 + t) 12 (omega arith)) (columns-fit p (suc t) fs r (omega arith) (omega arith)))
 
--- what question 3 tells
-pub record HeaderForm (text : List ℕ) : Type 0 where
-  pub ended : has newline text ≡ true
-  pub some : 1 ≤ length (header text)
-  pub few : length (header text) ≤ mostFields
-  pub columns : all isColumn (header text) ≡ true
-  pub plots : countKind plotMark (header text) ≤ mostColumns
-  pub treatments : countKind treatmentMark (header text) ≤ mostColumns
-  pub names : namesDiffer (header text) ≡ true
+-- what the form of the first line tells
+pub record FirstLine (fs : List Field) : Type 0 where
+  pub some : 1 ≤ length fs
+  pub few : length fs ≤ mostFields
+  pub columns : all isColumn fs ≡ true
+  pub plots : countKind plotMark fs ≤ mostColumns
+  pub treatments : countKind treatmentMark fs ≤ mostColumns
+  pub names : namesDiffer fs ≡ true
 
-pub header-form : (text : List ℕ) → question3 text ≡ true → HeaderForm text
-unfolding question3 isHeader
-header-form text e =
-    let fs = header text in
+pub first-line : (fs : List Field) → isHeader fs ≡ true → FirstLine fs
+unfolding isHeader
+first-line fs e =
     let w : Bool = within 1 mostFields (length fs) in
     let p : Bool = leb (countKind plotMark fs) mostColumns in
     let t : Bool = leb (countKind treatmentMark fs) mostColumns in
-    let e1 = and-right (has newline text) (w && all isColumn fs && p && t && namesDiffer fs) e in
-    let e2 = and-left (w && all isColumn fs && p && t) (namesDiffer fs) e1 in
+    let e2 = and-left (w && all isColumn fs && p && t) (namesDiffer fs) e in
     let e3 = and-left (w && all isColumn fs && p) t e2 in
     let e4 = and-left (w && all isColumn fs) p e3 in
     let e5 = and-left w (all isColumn fs) e4 in
     record {
-      ended = and-left (has newline text) (w && all isColumn fs && p && t && namesDiffer fs) e;
       some = leb-true 1 (length fs) (and-left (leb 1 (length fs)) (leb (length fs) mostFields) e5);
       few = leb-true (length fs) mostFields (and-right (leb 1 (length fs)) (leb (length fs) mostFields) e5);
       columns = and-right w (all isColumn fs) e4;
       plots = leb-true (countKind plotMark fs) mostColumns (and-right (w && all isColumn fs) p e3);
       treatments = leb-true (countKind treatmentMark fs) mostColumns (and-right (w && all isColumn fs && p) t e2);
-      names = and-right (w && all isColumn fs && p && t) (namesDiffer fs) e1;
+      names = and-right (w && all isColumn fs && p && t) (namesDiffer fs) e;
     }
+
+-- what question 3 tells
+pub header-ended : (text : List ℕ) → question3 text ≡ true → has newline text ≡ true
+unfolding question3
+header-ended text e = and-left (has newline text) (isHeader (header text)) e
+
+pub header-form : (text : List ℕ) → question3 text ≡ true → FirstLine (header text)
+unfolding question3
+header-form text e = first-line (header text) (and-right (has newline text) (isHeader (header text)) e)
 
 -- ---- questions 1 and 2
 
@@ -244,7 +254,7 @@ module _ (text levels : List ℕ) where
 
 pub record Accepts (text levels : List ℕ) (n p t : ℕ) : Type 0 where
   pub table-fits : tableCells ≤ length levels
-  pub header-good : HeaderForm text
+  pub header-good : FirstLine (header text)
   pub lines-good : all (isPlotLine mostLevel (length (header text))) (laterLines text) ≡ true
   pub plots : n ≡ length (laterLines text)
   pub plots-some : 1 ≤ n
@@ -498,6 +508,22 @@ columns-distinct p t (f ∷ fs) a l =
     past-six : (t s : ℕ) → 6 + t < s → s ≤ 6 → ⊥
     past-six t s h k = omega arith
 
+-- the column that field i takes is one of them, and takes no other field
+has-getD : (cs : List ℕ) (i : ℕ) → i < length cs → has (getD cs i 0) cs ≡ true
+has-getD [] i h = absurd (not-suc-le-zero h)
+has-getD (c ∷ cs) zero h = has-here c cs
+has-getD (c ∷ cs) (suc i) h = has-later (getD cs i 0) c cs (has-getD cs i (le-of-suc-le-suc h))
+
+field-taken : (cs : List ℕ) (fs : List Field) (i : ℕ) → distinct cs ≡ true → length fs ≡ length cs → i < length cs → fieldIn (getD cs i 0) cs fs ≡ getD fs i []
+unfolding distinct fieldIn
+field-taken [] fs i d l h = absurd (not-suc-le-zero h)
+field-taken (c ∷ cs) [] i d l h = absurd (suc-ne-zero _ (sym l))
+field-taken (c ∷ cs) (f ∷ fs) zero d l h = rw (eq-eqb c c refl, fieldIn)
+field-taken (c ∷ cs) (f ∷ fs) (suc i) d l h =
+    by-cases (eqb c (getD cs i 0))
+    (λ e. clash (ap (λ (b : ℕ). has b cs) (eqb-true c (getD cs i 0) e) ∙ has-getD cs i (le-of-suc-le-suc h)) (not-yes (has c cs) (and-left (not (has c cs)) (distinct cs) d)))
+    (λ e. rw (e, fieldIn) (field-taken cs fs i (and-right (not (has c cs)) (distinct cs) d) (suc-inj l) (le-of-suc-le-suc h)))
+
 -- columns whose cells are not zero
 nonzero-all : (F : List ℕ) → ((u : ℕ) → u < length F → 1 ≤ getD F u 0) → nonzero F ≡ true
 unfolding nonzero
@@ -562,18 +588,40 @@ module _ (text levels : List ℕ) (n p t : ℕ) (e : reading text levels ≡ rea
         let r = row-levels mostLevel (length (columnsAfter 0 0 (header text))) line (all-getD (isPlotLine mostLevel (length (columnsAfter 0 0 (header text)))) (laterLines text) u noLine rows-good v) in
         field-in mostLevel (columnsAfter 0 0 (header text)) (fields (line .bytes)) c (r .1) (r .0) (taken c w .0)
 
+  used-column : (c : ℕ) → has c (columnsAfter 0 0 (header text)) ≡ true → Used p t c
+  used-column c m =
+      let a = read-accepts text levels n p t e in
+      ⊎-elim (λ w. inl (omega (arith, a .plot-columns))) (λ w. inr (omega arith, omega (arith, a .treatment-columns)))
+      (columns-only 0 0 (header text) c (a .header-good .columns) m)
+
   -- a cell that no plot or column uses is not touched
   pub cell-kept : (i : ℕ) → ((c u : ℕ) → Used p t c → u < n → i ≡ 240 * c + u → ⊥) → getD table i 0 ≡ getD levels i 0
   cell-kept i h =
       let a = read-accepts text levels n p t e in
       rw after
       (plots-miss (columnsAfter 0 0 (header text)) 0 (laterLines text) levels i
-      (λ c v m l z. h c v (used-column a c m) (omega (arith, a .plots)) (omega arith)))
-    where
-      used-column : Accepts text levels n p t → (c : ℕ) → has c (columnsAfter 0 0 (header text)) ≡ true → Used p t c
-      used-column a c m =
-          ⊎-elim (λ w. inl (omega (arith, a .plot-columns))) (λ w. inr (omega arith, omega (arith, a .treatment-columns)))
-          (columns-only 0 0 (header text) c (a .header-good .columns) m)
+      (λ c v m l z. h c v (used-column c m) (omega (arith, a .plots)) (omega arith)))
+
+  -- the column that field i of the first line takes has the levels that stand in field i of each line
+  module _ (i : ℕ) (h : i < length (header text)) where
+    abbrev column : ℕ
+    column = getD (columnsAfter 0 0 (header text)) i 0
+
+    has-column : has column (columnsAfter 0 0 (header text)) ≡ true
+    has-column = has-getD (columnsAfter 0 0 (header text)) i (rw (length-columns 0 0 (header text)) h)
+
+    pub column-inside : column < 12
+    column-inside = taken column (used-column column has-column) .1
+
+    pub column-read : (u : ℕ) → u < n → getD table (240 * column + u) 0 ≡ decimal (getD (fields (getD (laterLines text) u noLine .bytes)) i [])
+    column-read u l =
+        let a = read-accepts text levels n p t e in
+        let v : u < length (laterLines text) = omega (arith, a .plots) in
+        let line = getD (laterLines text) u noLine in
+        let r = row-levels mostLevel (length (columnsAfter 0 0 (header text))) line (all-getD (isPlotLine mostLevel (length (columnsAfter 0 0 (header text)))) (laterLines text) u noLine rows-good v) in
+        let d = columns-distinct 0 0 (header text) (a .header-good .columns) (omega (arith, a .header-good .plots)) in
+        cell-read column u (used-column column has-column) l
+        ∙ ap decimal (field-taken (columnsAfter 0 0 (header text)) (fields (line .bytes)) i d (r .0) (rw (length-columns 0 0 (header text)) h))
 
   -- the counts are within limits, so of question 6 only the family buffer is left
   pub read-limits : (buffer : ℕ) → withinLimits n p (length table) buffer ≡ leb 7680 buffer

@@ -9,10 +9,10 @@ use native.Mathlib.Omega.{arith}
 use lib.Dec.{eqb, leb}
 use lib.ListN.{length}
 use borrow.Author.Tests.{leb-true}
-use Rattle.rules.specs.Limits.{mostLevel, mostNameTail}
+use Rattle.rules.specs.Limits.{mostPlots, mostLevel, mostNameTail}
 use Rattle.rules.specs.Sheet.{within, all, newline, tab, upTo, past, Line, extend, lines, Field, widen, fields, letter, letterOrDigit, isName, plotMark, treatmentMark, isColumn, header, decimalFrom, isLevel, isPlotLine, laterLines, read, reading}
 use Rattle.rules.proofs.Numbering.{by-cases}
-use Rattle.rules.proofs.Sheet.{and-left, and-right, decimal-grows, fields-some, row-levels, level-most, read-accepts}
+use Rattle.rules.proofs.Sheet.{and-left, and-right, decimal-grows, fields-some, row-levels, level-most, FirstLine, read-accepts}
 use Rattle.rules.proofs.Labels.{level-digits}
 
 -- ---- a line is as long as its fields, each with the byte after it
@@ -113,12 +113,17 @@ line-length n h l e =
     let r = row-levels mostLevel n l e in
     omega (arith, r .0, spread-fields (l .bytes), spread-most 10 (isLevel mostLevel) level-length (fields (l .bytes)) (r .1))
 
--- ---- the bytes of a sheet that is read
+-- ---- the bytes of a sheet
+
+-- of a text whose lines have the form
+pub form-length : (text : List ℕ) → FirstLine (header text) → all (isPlotLine mostLevel (length (header text))) (laterLines text) ≡ true → length (laterLines text) ≤ mostPlots → length text ≤ 31860
+unfolding header laterLines
+form-length text form rows few =
+    let first = spread-most 14 isColumn column-length (header text) (form .columns) in
+    let later = spans-most 132 (isPlotLine mostLevel (length (header text))) (line-length (length (header text)) (form .few)) (laterLines text) rows in
+    omega (arith, first, later, spread-fields (upTo newline text), spans-lines (past newline text), parts-length newline text, form .few, few)
 
 pub sheet-length : (text levels : List ℕ) (n p t : ℕ) → reading text levels ≡ read n p t → length text ≤ 31860
-unfolding header laterLines
 sheet-length text levels n p t e =
     let a = read-accepts text levels n p t e in
-    let first = spread-most 14 isColumn column-length (header text) (a .header-good .columns) in
-    let later = spans-most 132 (isPlotLine mostLevel (length (header text))) (line-length (length (header text)) (a .header-good .few)) (laterLines text) (a .lines-good) in
-    omega (arith, first, later, spread-fields (upTo newline text), spans-lines (past newline text), parts-length newline text, a .header-good .few, a .plots, a .plots-few)
+    form-length text (a .header-good) (a .lines-good) (omega (arith, a .plots, a .plots-few))

@@ -22,3 +22,5 @@ pub mod Trials
 pub mod Naming
 pub mod Table
 pub mod Sample
+pub mod SheetText
+pub mod Parents

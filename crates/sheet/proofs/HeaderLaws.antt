@@ -12,8 +12,8 @@ use lib.Dec.{eqb, leb}
 use lib.ListN.{length, getD, take, drop, set, replicate, length-drop, length-append}
 use lib.Seq.{slice, drop-drop, set-at, append-snoc, take-at}
 use borrow.Author.Tests.{eqb-true, eqb-false, lt-ltb, leb-true, le-leb, lt-leb}
-use Rattle.rules.specs.Sheet.{Field, upTo, has, all, isColumn, countKind, sameBytes, nameOf, newName, namesDiffer, header, columnsAfter, isHeader, question3}
-use Rattle.rules.proofs.Sheet.{and-false, and-left, and-right, fields-some, kind-yes, kind-no, column-plot, column-treatment, kinds-all, HeaderForm, header-form}
+use Rattle.rules.specs.Sheet.{Field, newline, upTo, has, all, isColumn, countKind, sameBytes, nameOf, newName, namesDiffer, header, columnsAfter, isHeader, question3}
+use Rattle.rules.proofs.Sheet.{and-false, and-left, and-right, fields-some, kind-yes, kind-no, column-plot, column-treatment, kinds-all, FirstLine, header-ended, header-form}
 use Rattle.rules.proofs.Members.{clash}
 use Rattle.rules.proofs.Numbering.{by-cases}
 use Rattle.sheet.specs.Walk.{fieldOf, columnThere}
@@ -319,10 +319,10 @@ module _ (text : List ℕ) where
 
   pub refuse-marks : markable 0 0 text ≡ false → question3 text ≡ false
   unfolding markable
-  refuse-marks e = by-cases (question3 text) (λ q. clash (good (header-form text q)) e) (λ q. q)
+  refuse-marks e = by-cases (question3 text) (λ q. clash (good (header-ended text q) (header-form text q)) e) (λ q. q)
     where
-      good : HeaderForm text → markable 0 0 text ≡ true
-      good f = rw (f .ended, f .columns, le-leb (0 + countKind 112 (header text)) 6 (omega (arith, f .plots)), le-leb (0 + countKind 116 (header text)) 6 (omega (arith, f .treatments)))
+      good : has newline text ≡ true → FirstLine (header text) → markable 0 0 text ≡ true
+      good ended f = rw (ended, f .columns, le-leb (0 + countKind 112 (header text)) 6 (omega (arith, f .plots)), le-leb (0 + countKind 116 (header text)) 6 (omega (arith, f .treatments)))
 
   pub refuse-names : namesDiffer (header text) ≡ false → question3 text ≡ false
   refuse-names e = by-cases (question3 text) (λ q. clash (header-form text q .names) e) (λ q. q)

@@ -6,4 +6,5 @@ pub mod StoreLaws
 pub mod ColumnLaws
 pub mod HeaderLaws
 pub mod NameLaws
+pub mod NameForm
 pub mod QuestionLaws

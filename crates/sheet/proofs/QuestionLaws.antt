@@ -12,7 +12,7 @@ use lib.Seq.{take-at}
 use borrow.Author.Tests.{leb-true}
 use Rattle.rules.specs.Limits.{mostLevel}
 use Rattle.rules.specs.Sheet.{Line, upTo, lines, countKind, header, columnsAfter, laterLines, withPlots, question3, question4, question5, Outcome, read, refused, counts, readingFrom3, levelsAfter}
-use Rattle.rules.proofs.Sheet.{and-right, HeaderForm, header-form, kinds-all, length-columns, columns-fit}
+use Rattle.rules.proofs.Sheet.{and-right, FirstLine, header-form, kinds-all, length-columns, columns-fit}
 use Rattle.rules.proofs.Numbering.{by-cases}
 use Rattle.sheet.specs.Walk.{Store, PlotLines}
 use Rattle.sheet.specs.Answers.{firstLine, headed, judged, failing}
@@ -60,7 +60,7 @@ module _ (text : List ℕ) (q : question3 text ≡ true) (h : Header) (is : h �
   abbrev fieldsIn : ℕ
   fieldsIn = h .«plot_columns» + h .«treatment_columns»
 
-  form : HeaderForm text
+  form : FirstLine (header text)
   form = header-form text q
 
   pub fields-all : fieldsIn ≡ length (header text)

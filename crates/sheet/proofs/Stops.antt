@@ -3,7 +3,7 @@
 use mathlib.Core.Path.{_≡_, refl, sym, ap, _∙_, subst}
 use mathlib.Core.Bool.{Bool, true, false, _||_}
 use mathlib.Core.List.{List, [], _∷_}
-use Prim.Native.Nat.{ℕ, zero, suc, _+_, _≤_, _<_}
+use Prim.Native.Nat.{ℕ, zero, suc, _+_, _-_, _≤_, _<_}
 use native.Mathlib.Omega.{arith}
 use native.Mathlib.Nat.{zero-add, suc-add}
 use lib.Dec.{eqb}
@@ -108,6 +108,12 @@ drop-take : (m k : ℕ) (l : List ℕ) → drop m (take (m + k) l) ≡ take k (d
 drop-take zero k l = rw zero-add
 drop-take (suc m) k [] = rw suc-add (sym (take-nil k))
 drop-take (suc m) k (x ∷ l) = rw suc-add (drop-take m k l)
+
+-- a part handed on
+pub part-slice : (a e : ℕ) (l : List ℕ) → a ≤ e → take (e - a) (drop a l) ≡ slice a e l
+part-slice a e l h =
+    let z : a + (e - a) ≡ e = omega arith in
+    sym (drop-take a (e - a) l) ∙ ap (λ (k : ℕ). drop a (take k l)) z
 
 take-field : (xs : List ℕ) → take (length (fieldOf xs)) xs ≡ fieldOf xs
 unfolding fieldOf

@@ -45,7 +45,13 @@ module _ (xs : List ℕ) (from to : ℕ) where
   pub slice-none : to ≤ from → slice from to xs ≡ []
   slice-none h = drop-of-length-le (take to xs) {i = from} (simp length-take (omega arith))
 
-module _ (xs : List ℕ) (a a-to b b-to : ℕ) (h : a < a-to) (k : a-to ≤ length xs) (l : b < b-to) (m : b-to ≤ length xs) where
-  pub same-next : sameBytes (slice a a-to xs) (slice b b-to xs) ≡ eqb (getD xs a 0) (getD xs b 0) && sameBytes (slice (a + 1) a-to xs) (slice (b + 1) b-to xs)
+-- ---- two texts, byte by byte
+
+module _ (xs ys : List ℕ) (i : ℕ) where
+  pub same-next : i < length xs → i < length ys → sameBytes (drop i xs) (drop i ys) ≡ eqb (getD xs i 0) (getD ys i 0) && sameBytes (drop (i + 1) xs) (drop (i + 1) ys)
   unfolding sameBytes
-  same-next = rw (slice-next xs a a-to h k, slice-next xs b b-to l m)
+  same-next h k = rw (add-one, drop-cons xs i 0 h, drop-cons ys i 0 k)
+
+  pub same-end : length xs ≤ i → length ys ≤ i → sameBytes (drop i xs) (drop i ys) ≡ true
+  unfolding sameBytes
+  same-end h k = rw (drop-of-length-le xs h, drop-of-length-le ys k)

@@ -1,14 +1,14 @@
 // Fields: where one ends, whether it is a level, and of which bytes it is made.
 ghost use mathlib.Core.Path.{_≡_};
 ghost use mathlib.Core.Bool.{true, _||_};
-ghost use Prim.Native.Nat.{_+_, _≤_};
+ghost use Prim.Native.Nat.{_+_};
 ghost use lib.Dec.{eqb};
 ghost use lib.ListN.{length, drop};
-ghost use lib.Seq.{slice};
-ghost use Rattle.rules.specs.Sheet.{tab, newline, letter as isLetter, letterOrDigit, sameBytes};
+ghost use Rattle.rules.specs.Sheet.{tab, newline, letter as isLetter, letterOrDigit, sameBytes, isName};
 ghost use Rattle.sheet.specs.Walk.{fieldOf, levelThen, noLevel, isMark};
 use limits::LEVEL;
 use limits::Level;
+use limits::NAME_TAIL;
 
 // The end of the field that starts at `at`: the place of the next byte 9 or 10, or the text's length.
 pub fn end_of(text: &[u8], start: usize) -> usize
@@ -125,17 +125,38 @@ pub fn is_mark(x: u8) -> bool
     x == b't'
 }
 
-// Whether the bytes from `a` on, up to `stop`, are those from `b` on.
-pub fn same_bytes(text: &[u8], a: usize, a_stop: usize, b: usize, b_stop: usize) -> bool
-    requires { ⌜ (a ≤ «a_stop») × («a_stop» ≤ length (now text)) × (b ≤ «b_stop») × («b_stop» ≤ length (now text)) ⌝ }
-    ensures { λ r. ⌜ r ≡ sameBytes (slice a «a_stop» (now (text .entry))) (slice b «b_stop» (now (text .entry))) ⌝ }
+// Whether two texts have the same bytes.
+pub fn same_bytes(a: &[u8], b: &[u8]) -> bool
+    ensures { λ r. ⌜ r ≡ sameBytes (now (a .entry)) (now (b .entry)) ⌝ }
 {
-    let n = a_stop - a;
-    if n != b_stop - b {
+    let n = a.len();
+    if n != b.len() {
         return false;
     }
     for i in 0..n {
-        if text[a + i] != text[b + i] {
+        if a[i] != b[i] {
+            return false;
+        }
+    }
+    true
+}
+
+// Whether a text has the form of a name: a letter and then 1 to 11 letters or digits.
+pub fn is_name(name: &[u8]) -> bool
+    ensures { λ r. ⌜ r ≡ isName (now (name .entry)) ⌝ }
+{
+    let n = name.len();
+    if n < 2 {
+        return false;
+    }
+    if 1 + NAME_TAIL < n {
+        return false;
+    }
+    if !letter(name[0]) {
+        return false;
+    }
+    for i in 1..n {
+        if !letter_or_digit(name[i]) {
             return false;
         }
     }

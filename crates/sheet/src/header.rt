@@ -162,7 +162,7 @@ fn new_name(text: &[u8], start: usize, stop: usize) -> bool
     let mut at = stop + 1;
     loop {
         let e = field::end_of(text, at);
-        if field::same_bytes(text, start + 2, stop, at + 2, e) {
+        if field::same_bytes(&text[start + 2..stop], &text[at + 2..e]) {
             return false;
         }
         if text[e] == b'\n' {

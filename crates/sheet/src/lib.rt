@@ -8,6 +8,9 @@ mod header;
 mod questions;
 mod rows;
 
+pub use field::end_of;
+pub use field::is_name;
+pub use field::same_bytes;
 pub use header::Header;
 pub use header::Span;
 pub use header::column_name;

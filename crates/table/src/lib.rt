@@ -6,7 +6,7 @@ ghost use Rattle.rules.specs.Limits.{mostMembers, nameBytes};
 ghost use Rattle.rules.specs.Table.{tableText, skeletonTable, tableBuffer, firstKind, secondKind};
 ghost use Rattle.design.specs.Answers.{fullNumbers};
 ghost use Rattle.naming.specs.Answers.{startingWith};
-ghost use Rattle.naming.specs.Writing.{Wrote};
+ghost use Rattle.decimal.specs.Writing.{Wrote};
 ghost use Rattle.sheet.specs.Answers.{outcomeOf};
 ghost use Rattle.table.specs.Answers.{printNumbers, printNumbersOf, numberOf};
 ghost use Rattle.table.specs.Designs.{WasRead, BothNameable, Accepted, AcceptedSheet, BothNamed};

@@ -7,7 +7,7 @@ ghost use lib.ListN.{length, take};
 ghost use Rattle.rules.specs.Limits.{mostMembers};
 ghost use Rattle.rules.specs.Table.{rowBytes, rowsBytes, signed, sourceRows, residualRows, stratumRows, strataRows, refusedRow, wordAll, wordTotal};
 ghost use Rattle.rules.specs.Lists.{decimalOf};
-ghost use Rattle.naming.specs.Writing.{Wrote};
+ghost use Rattle.decimal.specs.Writing.{Wrote};
 ghost use Rattle.table.specs.Names.{nameIn, namesIn, among, residualOf, tableOf, NameSlots};
 use decimal::write_byte;
 use decimal::write_bytes;

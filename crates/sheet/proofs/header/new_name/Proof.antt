@@ -9,6 +9,7 @@ use denote.Ref.{now}
 use lib.ListN.{length, drop}
 use lib.Seq.{slice}
 use Rattle.rules.specs.Sheet.{has, all, isColumn, sameBytes, nameOf, newName, header}
+use Rattle.sheet.proofs.Stops.{part-slice}
 use Rattle.sheet.proofs.HeaderLaws.{inside, room, name-part, rest-ended, rest-columns, new-here, new-last, new-on}
 use Rattle.sheet.proofs.header.new_name.Statement.{statement}
 use Rattle.sheet.proofs.header.new_name.Tie as tie
@@ -29,16 +30,6 @@ held c =
       room t (b .loop .at) (c .end-of .result) (c .end-of .ensures) (b .loop .inv .0) (b .loop .inv .1),
     )
 
--- what comparing the bytes says of the names
-compared : (c : tie.After-same-bytes Inv-loop μ-loop) → c .same-bytes .result
-    ≡ sameBytes (nameOf (slice (c .before .before .before .before .args .start) (c .before .before .before .before .args .stop) (now (c .before .before .before .before .args .text))))
-    (nameOf (slice (c .before .before .loop .at) (c .before .end-of .result) (now (c .before .before .before .before .args .text))))
-compared c =
-    let b = c .before .before in
-    let a = b .before .before .args in
-    let t = now (a .text) in
-    c .same-bytes .ensures ∙ ap₂ sameBytes (sym (name-part t (a .start) (a .stop))) (sym (name-part t (b .loop .at) (c .before .end-of .result)))
-
 add-at : tie.Need-add-at Inv-loop μ-loop
 add-at c = omega arith
 
@@ -53,40 +44,70 @@ end-of-requires c κs = search needs
 add-same-bytes : tie.Need-add-same-bytes Inv-loop μ-loop
 add-same-bytes c = omega arith
 
+sub-same-bytes : tie.Need-sub-same-bytes Inv-loop μ-loop
+sub-same-bytes c = omega arith
+
+part-same-bytes-start : tie.Need-part-same-bytes-start Inv-loop μ-loop
+part-same-bytes-start c = omega arith
+
+part-same-bytes-end : tie.Need-part-same-bytes-end Inv-loop μ-loop
+part-same-bytes-end c = omega arith
+
 add-same-bytes-2 : tie.Need-add-same-bytes-2 Inv-loop μ-loop
-add-same-bytes-2 c = let k = held c in omega arith
+add-same-bytes-2 c = let k = held (c .before) in omega arith
+
+sub-same-bytes-2 : tie.Need-sub-same-bytes-2 Inv-loop μ-loop
+sub-same-bytes-2 c = let k = held (c .before) in omega arith
+
+part-same-bytes-start-2 : tie.Need-part-same-bytes-start-2 Inv-loop μ-loop
+part-same-bytes-start-2 c = let k = held (c .before) in omega arith
+
+part-same-bytes-end-2 : tie.Need-part-same-bytes-end-2 Inv-loop μ-loop
+part-same-bytes-end-2 c = let k = held (c .before) in omega arith
 
 same-bytes-requires : tie.Need-same-bytes-requires Inv-loop μ-loop
-same-bytes-requires c κs = let k = held c in (omega arith, omega arith, omega arith, omega arith)
+same-bytes-requires c κs = tt
+
+-- what comparing the bytes says of the names
+compared : (c : tie.After-same-bytes Inv-loop μ-loop) → c .same-bytes .result
+    ≡ sameBytes (nameOf (slice (c .before .before .before .before .before .before .args .start) (c .before .before .before .before .before .before .args .stop) (now (c .before .before .before .before .before .before .args .text))))
+    (nameOf (slice (c .before .before .before .before .loop .at) (c .before .before .before .end-of .result) (now (c .before .before .before .before .before .before .args .text))))
+compared c =
+    let d = c .before .before .before in
+    let a = d .before .before .before .args in
+    let t = now (a .text) in
+    let k = held d in
+    c .same-bytes .ensures
+    ∙ ap₂ sameBytes (part-slice (a .start + 2) (a .stop) t (omega arith) ∙ sym (name-part t (a .start) (a .stop))) (part-slice (d .before .loop .at + 2) (d .end-of .result) t (k .1) ∙ sym (name-part t (d .before .loop .at) (d .end-of .result)))
 
 returns : tie.Need-returns Inv-loop μ-loop
 returns c =
-    let d = c .before .before in
+    let d = c .before .before .before .before in
     let b = d .before in
     let a = b .before .before .args in
     let t = now (a .text) in
     sym (new-here t (b .loop .at) (d .end-of .result) (d .end-of .ensures) (b .loop .inv .0) (b .loop .inv .1) (slice (a .start) (a .stop) t) (sym (compared (c .before)) ∙ c .if1 .taken)) ∙ b .loop .inv .2
 
 shared-slice-read-if2 : tie.Need-shared-slice-read-if2 Inv-loop μ-loop
-shared-slice-read-if2 c = let k = held (c .before .before .before) in omega arith
+shared-slice-read-if2 c = let k = held (c .before .before .before .before .before) in omega arith
 
 returns-2 : tie.Need-returns-2 Inv-loop μ-loop
 returns-2 c =
-    let d = c .before .before .before .before in
+    let d = c .before .before .before .before .before .before in
     let b = d .before in
     let a = b .before .before .args in
     let t = now (a .text) in
     sym (new-last t (b .loop .at) (d .end-of .result) (d .end-of .ensures) (b .loop .inv .0) (b .loop .inv .1) (slice (a .start) (a .stop) t) (c .if2 .taken) (sym (compared (c .before .before .before)) ∙ c .before .before .if1 .left)) ∙ b .loop .inv .2
 
 add-at-2 : tie.Need-add-at-2 Inv-loop μ-loop
-add-at-2 c = let k = held (c .before .before .before .before) in omega arith
+add-at-2 c = let k = held (c .before .before .before .before .before .before) in omega arith
 
 loop-less : tie.Need-loop-less Inv-loop μ-loop
-loop-less c = let k = held (c .before .before .before .before) in omega arith
+loop-less c = let k = held (c .before .before .before .before .before .before) in omega arith
 
 loop-again : tie.Need-loop-again Inv-loop μ-loop
 loop-again c =
-    let d = c .before .before .before .before in
+    let d = c .before .before .before .before .before .before in
     let b = d .before in
     let a = b .before .before .args in
     let t = now (a .text) in
@@ -107,7 +128,13 @@ new-name-spec =
     loop-holds
     end-of-requires
     add-same-bytes
+    sub-same-bytes
+    part-same-bytes-start
+    part-same-bytes-end
     add-same-bytes-2
+    sub-same-bytes-2
+    part-same-bytes-start-2
+    part-same-bytes-end-2
     same-bytes-requires
     returns
     shared-slice-read-if2
