@@ -524,6 +524,19 @@ field-taken (c ∷ cs) (f ∷ fs) (suc i) d l h =
     (λ e. clash (ap (λ (b : ℕ). has b cs) (eqb-true c (getD cs i 0) e) ∙ has-getD cs i (le-of-suc-le-suc h)) (not-yes (has c cs) (and-left (not (has c cs)) (distinct cs) d)))
     (λ e. rw (e, fieldIn) (field-taken cs fs i (and-right (not (has c cs)) (distinct cs) d) (suc-inj l) (le-of-suc-le-suc h)))
 
+-- different fields take different columns
+distinct-places : (cs : List ℕ) (i j : ℕ) → distinct cs ≡ true → i < length cs → j < length cs → getD cs i 0 ≡ getD cs j 0 → i ≡ j
+unfolding distinct
+distinct-places [] i j d h k e = absurd (not-suc-le-zero h)
+distinct-places (c ∷ cs) zero zero d h k e = refl
+distinct-places (c ∷ cs) zero (suc j) d h k e = clash (ap (λ (b : ℕ). has b cs) e ∙ has-getD cs j (le-of-suc-le-suc k)) (not-yes (has c cs) (and-left (not (has c cs)) (distinct cs) d))
+distinct-places (c ∷ cs) (suc i) zero d h k e = clash (ap (λ (b : ℕ). has b cs) (sym e) ∙ has-getD cs i (le-of-suc-le-suc h)) (not-yes (has c cs) (and-left (not (has c cs)) (distinct cs) d))
+distinct-places (c ∷ cs) (suc i) (suc j) d h k e = ap suc (distinct-places cs i j (and-right (not (has c cs)) (distinct cs) d) (le-of-suc-le-suc h) (le-of-suc-le-suc k) e)
+
+pub columns-differ : (fs : List Field) → FirstLine fs → (i j : ℕ) → i < length fs → j < length fs → getD (columnsAfter 0 0 fs) i 0 ≡ getD (columnsAfter 0 0 fs) j 0 → i ≡ j
+columns-differ fs f i j h k e =
+    distinct-places (columnsAfter 0 0 fs) i j (columns-distinct 0 0 fs (f .columns) (omega (arith, f .plots))) (rw (length-columns 0 0 fs) h) (rw (length-columns 0 0 fs) k) e
+
 -- columns whose cells are not zero
 nonzero-all : (F : List ℕ) → ((u : ℕ) → u < length F → 1 ≤ getD F u 0) → nonzero F ≡ true
 unfolding nonzero

@@ -52,7 +52,6 @@ module _ (b : ℕ) (no-digit : digit b ≡ false) where
       ap not (free-all b digit no-digit f (and-right (noLeadingZero f) (all digit f) (and-left (noLeadingZero f && all digit f) (within 1 mostLevel (decimal f)) e)))
 
 module _ (b : ℕ) (no-digit : digit b ≡ false) (no-letter : letter b ≡ false) (no-colon : eqb 58 b ≡ false) where
-
   -- a name has none
   pub name-free : (name : List ℕ) → isName name ≡ true → has b name ≡ false
   unfolding isName has
@@ -110,7 +109,7 @@ unfolding has past
 past-part b [] xs h = rw (eqb-self b, past)
 past-part b (x ∷ l) xs h = by-cases (eqb x b) (λ e. clash (rw (e, has)) h) (λ e. rw (e, past) (past-part b l xs (rw (e, has) at h)))
 
-fields-back : (fs : List Field) → 1 ≤ length fs → all (free tab) fs ≡ true → fields (joined fs) ≡ fs
+pub fields-back : (fs : List Field) → 1 ≤ length fs → all (free tab) fs ≡ true → fields (joined fs) ≡ fs
 fields-back [] h a = absurd (not-suc-le-zero h)
 fields-back (f ∷ fs) h a = fields-joined f fs a
 

@@ -299,7 +299,7 @@ design-length text n levels a q small t = go (a .refusal) refl
         rw (e, designRows) (omega (arith, r))
 
 -- a reading refuses by 1 to 5
-reading-number : (text levels : List ℕ) (q : ℕ) → reading text levels ≡ refused q → q ≤ 5
+pub reading-number : (text levels : List ℕ) (q : ℕ) → reading text levels ≡ refused q → (1 ≤ q) × (q ≤ 5)
 unfolding readingTo readingFrom3 counts
 reading-number text levels q e =
     by-cases (question1 levels)
@@ -308,16 +308,16 @@ reading-number text levels q e =
     (λ q3. by-cases (question4 mostLevel text)
     (λ q4. by-cases (question5 text)
     (λ q5. not-read (length (laterLines text)) (countKind plotMark (header text)) (countKind treatmentMark (header text)) q (sym (rw (q1, q2, q3, q4, q5, readingTo, readingFrom3)) ∙ e))
-    (λ q5. number 5 q (omega arith) (sym (rw (q1, q2, q3, q4, q5, readingTo, readingFrom3)) ∙ e)))
-    (λ q4. number 4 q (omega arith) (sym (rw (q1, q2, q3, q4, readingTo, readingFrom3)) ∙ e)))
-    (λ q3. number 3 q (omega arith) (sym (rw (q1, q2, q3, readingTo, readingFrom3)) ∙ e)))
-    (λ q2. number 2 q (omega arith) (sym (rw (q1, q2, readingTo)) ∙ e)))
-    (λ q1. number 1 q (omega arith) (sym (rw (q1, readingTo)) ∙ e))
+    (λ q5. number 5 q (omega arith) (omega arith) (sym (rw (q1, q2, q3, q4, q5, readingTo, readingFrom3)) ∙ e)))
+    (λ q4. number 4 q (omega arith) (omega arith) (sym (rw (q1, q2, q3, q4, readingTo, readingFrom3)) ∙ e)))
+    (λ q3. number 3 q (omega arith) (omega arith) (sym (rw (q1, q2, q3, readingTo, readingFrom3)) ∙ e)))
+    (λ q2. number 2 q (omega arith) (omega arith) (sym (rw (q1, q2, readingTo)) ∙ e)))
+    (λ q1. number 1 q (omega arith) (omega arith) (sym (rw (q1, readingTo)) ∙ e))
   where
-    number : (a b : ℕ) → a ≤ 5 → refused a ≡ refused b → b ≤ 5
-    number a b h z = let w : a ≡ b = cc in omega arith
+    number : (a b : ℕ) → 1 ≤ a → a ≤ 5 → refused a ≡ refused b → (1 ≤ b) × (b ≤ 5)
+    number a b g h z = let w : a ≡ b = cc in (omega arith, omega arith)
 
-    not-read : (a b c d : ℕ) → read a b c ≡ refused d → d ≤ 5
+    not-read : (a b c d : ℕ) → read a b c ≡ refused d → (1 ≤ d) × (d ≤ 5)
     not-read a b c d z = let w : _≡_ {A = ℕ} 0 1 = cc in absurd (suc-ne-zero 0 (sym w))
 
 -- ---- every sheet
@@ -328,7 +328,7 @@ unfolding tableText tableRows outcomeRows
 table-length text = go (reading text emptyTable) refl
   where
     go : (o : Outcome) → reading text emptyTable ≡ o → length (rowsBytes (outcomeRows text o)) ≤ 12482
-    go (refused q) e = omega (arith, refused-length q dash dash (omega (arith, reading-number text emptyTable q e)) (omega arith) (omega arith))
+    go (refused q) e = omega (arith, refused-length q dash dash (omega (arith, reading-number text emptyTable q e .1)) (omega arith) (omega arith))
     go (read n p t) e =
         let levels : List ℕ = levelsAfter (read n p t) text emptyTable in
         design-length text n levels (fullDesign n p t 6 levels 7680 7680) (read-questions text emptyTable n p t e .1) (read-accepts text emptyTable n p t e .plots-few) (full-tells n p t 6 levels 7680 7680)

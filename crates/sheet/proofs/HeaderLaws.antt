@@ -71,11 +71,11 @@ module _ (text : List ℕ) (at e : ℕ) (d : e ≡ at + length (fieldOf (drop at
 
   module _ (h : e < length text) where
     -- the fields of the line from here on
-    line-last : getD text e 0 ≡ 10 → header (drop at text) ≡ fieldOf (drop at text) ∷ []
+    pub line-last : getD text e 0 ≡ 10 → header (drop at text) ≡ fieldOf (drop at text) ∷ []
     unfolding header
     line-last b = newline-here h b .parts
 
-    line-on : (getD text e 0 ≡ 10 → ⊥) → header (drop at text) ≡ fieldOf (drop at text) ∷ header (drop (e + 1) text)
+    pub line-on : (getD text e 0 ≡ 10 → ⊥) → header (drop at text) ≡ fieldOf (drop at text) ∷ header (drop (e + 1) text)
     unfolding header
     line-on b = rw (field-next text at e d) at (tab-here h b .parts)
 

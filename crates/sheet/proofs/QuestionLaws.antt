@@ -80,7 +80,7 @@ module _ (text : List ℕ) (q : question3 text ≡ true) (h : Header) (is : h �
 
   later : lines (drop (h .end) text) ≡ laterLines text
   unfolding firstLine laterLines
-  later = rw is (ap lines (sym (past-drop text)))
+  later = rw is (ap lines (sym (past-drop 10 text)))
 
   -- each field has a column of the level table
   pub columns-placed : (cells : ℕ) → 2880 ≤ cells → Store (take fieldsIn (h .columns)) fieldsIn cells

@@ -196,7 +196,7 @@ stop-known (suc m) = refl
 -- the first line, and the others
 pub lines-turn : (text : List ℕ) (at : ℕ) → at < length text
     → lines (drop at text) ≡ record { bytes = upTo 10 (drop at text); ended = has 10 (drop at text) } ∷ lines (drop (at + suc (length (upTo 10 (drop at text)))) text)
-lines-turn text at h = start ∙ ap (λ (r : List ℕ). record { bytes = upTo 10 (drop at text); ended = has 10 (drop at text) } ∷ lines r) (past-drop (drop at text) ∙ drop-drop (suc (length (upTo 10 (drop at text)))) at text)
+lines-turn text at h = start ∙ ap (λ (r : List ℕ). record { bytes = upTo 10 (drop at text); ended = has 10 (drop at text) } ∷ lines r) (past-drop 10 (drop at text) ∙ drop-drop (suc (length (upTo 10 (drop at text)))) at text)
   where
     start : lines (drop at text) ≡ record { bytes = upTo 10 (drop at text); ended = has 10 (drop at text) } ∷ lines (past 10 (drop at text))
     start = rw (drop-cons text at 0 h) (lines-cons (getD text at 0) (drop (suc at) text))

@@ -11,6 +11,7 @@ use lib.ListN.{length, getD, take, drop}
 use lib.Seq.{slice, take-nil, drop-drop, getD-take, getD-drop}
 use borrow.Author.Tests.{eqb-true}
 use Rattle.rules.specs.Sheet.{upTo, past, has, fields, widen, lines, extend}
+use Rattle.rules.proofs.Numbering.{by-cases}
 use Rattle.sheet.specs.Walk.{fieldOf}
 
 -- ---- one byte that is neither a tab nor a newline
@@ -141,6 +142,12 @@ module _ (text : List ℕ) (at e : ℕ) (d : e ≡ at + length (fieldOf (drop at
   pub field-part : slice at e text ≡ fieldOf (drop at text)
   field-part = rw d (slice-field text at)
 
+  -- as it is handed on
+  pub field-cut : take (e - at) (drop at text) ≡ fieldOf (drop at text)
+  field-cut =
+      let k : e - at ≡ length (fieldOf (drop at text)) = omega arith in
+      ap (λ (k : ℕ). take k (drop at text)) k ∙ take-field (drop at text)
+
   pub field-next : drop (suc (length (fieldOf (drop at text)))) (drop at text) ≡ drop (e + 1) text
   field-next =
       let k : at + suc (length (fieldOf (drop at text))) ≡ e + 1 = omega arith in
@@ -148,14 +155,11 @@ module _ (text : List ℕ) (at e : ℕ) (d : e ≡ at + length (fieldOf (drop at
 
 -- ---- lines
 
-pub past-drop : (xs : List ℕ) → past 10 xs ≡ drop (suc (length (upTo 10 xs))) xs
+-- what stands after the first b
+pub past-drop : (b : ℕ) (xs : List ℕ) → past b xs ≡ drop (suc (length (upTo b xs))) xs
 unfolding past upTo
-past-drop [] = refl
-past-drop (x ∷ xs) = go (eqb x 10) refl (past-drop xs)
-  where
-    go : (b : Bool) → eqb x 10 ≡ b → past 10 xs ≡ drop (suc (length (upTo 10 xs))) xs → past 10 (x ∷ xs) ≡ drop (suc (length (upTo 10 (x ∷ xs)))) (x ∷ xs)
-    go true p e = rw (p, past, upTo)
-    go false p e = rw (p, past, upTo) e
+past-drop b [] = refl
+past-drop b (x ∷ xs) = by-cases (eqb x b) (λ e. rw (e, past, upTo)) (λ e. rw (e, past, upTo) (past-drop b xs))
 
 pub lines-cons : (x : ℕ) (xs : List ℕ) → lines (x ∷ xs) ≡ record { bytes = upTo 10 (x ∷ xs); ended = has 10 (x ∷ xs) } ∷ lines (past 10 (x ∷ xs))
 unfolding lines extend upTo has past

@@ -1,0 +1,6 @@
+mod Slashes
+mod FirstLine
+mod Headings
+mod TableLaws
+mod PlainLaws
+mod ConvertLaws

@@ -1,0 +1,3 @@
+pub mod Plain
+pub mod Table
+pub mod Answers
