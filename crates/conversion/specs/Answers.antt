@@ -1,10 +1,14 @@
 -- The enum that the entry answers, by the rules' definitions.
 -- Assumes nothing.
 use mathlib.Core.Bool.{Bool, true, false}
-use Prim.Native.Nat.{ℕ}
+use mathlib.Core.List.{List}
+use mathlib.Core.Path.{_≡_}
+use Prim.Native.Nat.{ℕ, _≤_}
 use lib.Dec.{eqb}
-use lib.ListN.{length}
+use lib.ListN.{length, take}
+use Rattle.rules.specs.Limits.{tableCells}
 use Rattle.rules.specs.SheetText.{SheetAnswer}
+use Rattle.rules.specs.Parents.{conversion, Converted}
 use Rattle.conversion.specs.declared.Conversion.{Conversion}
 use Rattle.conversion.specs.declared.Conversion.the-variants.{Written, Refused}
 
@@ -22,3 +26,9 @@ conversionNumbers (Refused q) = record { accepted = false; refusal = q; size = 0
 -- an answer of the rules
 unfoldable pub answerNumbers : SheetAnswer → SheetNumbers
 answerNumbers a = record { accepted = eqb (a .refusal) 0; refusal = a .refusal; size = length (a .sheet) }
+
+-- "Converting the result again changes nothing.": what an output that begins with a converted sheet holds, for any
+-- level table that it may be read into
+abbrev pub HoldsConverted : List ℕ → ℕ → List ℕ → Type 0
+HoldsConverted old outLength out =
+    conversion old outLength .refusal ≡ 0 → (levels : List ℕ) → tableCells ≤ length levels → Converted old (take (length (conversion old outLength .sheet)) out) levels

@@ -3,7 +3,7 @@ ghost use mathlib.Core.Path.{_≡_};
 ghost use lib.ListN.{length};
 ghost use Rattle.rules.specs.SheetText.{sheetBuffer};
 ghost use Rattle.rules.specs.Parents.{conversion, conversionFrom3};
-ghost use Rattle.conversion.specs.Answers.{conversionNumbers, answerNumbers};
+ghost use Rattle.conversion.specs.Answers.{conversionNumbers, answerNumbers, HoldsConverted};
 ghost use Rattle.conversion.specs.Plain.{Formed, PlainRead};
 
 mod columns;
@@ -27,6 +27,7 @@ pub enum Conversion {
 pub fn convert(old: &[u8], out: &mut [u8]) -> Conversion
     ensures answer { λ r. ⌜ conversionNumbers r ≡ answerNumbers (conversion (now (old .entry)) (length (now (out .entry)))) ⌝ }
     ensures sheet { λ _. ⌜ now (out .exit) ≡ sheetBuffer (now (out .entry)) (conversion (now (old .entry)) (length (now (out .entry)))) ⌝ }
+    ensures converted { λ _. ⌜ HoldsConverted (now (old .entry)) (length (now (out .entry))) (now (out .exit)) ⌝ }
 {
     if out.len() < TEXT {
         return Conversion::Refused(6);

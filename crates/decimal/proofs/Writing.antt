@@ -157,3 +157,8 @@ module _ (out : List ℕ) (at : ℕ) (whole : List ℕ) where
 -- writing keeps the buffer's length
 pub wrote-length : (out : List ℕ) (at : ℕ) (text : List ℕ) {left : List ℕ} {r : ℕ} → Wrote out at text left r → length left ≡ length out
 wrote-length out at text w = ap length (w .1) ∙ length-written out at text
+
+-- what was written from the start on is within the buffer
+pub wrote-within : (out text : List ℕ) {left : List ℕ} {r : ℕ} → Wrote out 0 text left r → r ≤ length left
+unfolding placeAfter fits
+wrote-within out text w = omega (arith, w .0, wrote-length out 0 text w)

@@ -14,6 +14,7 @@ use Rattle.rules.specs.Relation.{RelationAnswer}
 use Rattle.rules.specs.Strata.{StrataAnswer}
 use Rattle.rules.specs.Naming.{Kind, plot, treatment, NameAnswer}
 use Rattle.rules.specs.Table.{TableAnswer}
+use Rattle.rules.specs.SheetText.{SheetAnswer}
 
 -- the number of the refusal, 0 for none
 abbrev pub readingRefusal : Outcome → ℕ
@@ -52,6 +53,10 @@ namingNumbers a = length (a .name) ∷ []
 -- how many bytes the text has
 abbrev pub textNumbers : TableAnswer → List ℕ
 textNumbers a = length (a .text) ∷ []
+
+-- how many bytes the sheet has
+abbrev pub sheetNumbers : SheetAnswer → List ℕ
+sheetNumbers a = length (a .sheet) ∷ []
 
 -- signed numbers of 64 bits
 abbrev pub AllFit : List ℤ → Type 0

@@ -9,11 +9,14 @@ ghost use Rattle.rules.specs.Degrees.{degreesOfFreedom};
 ghost use Rattle.rules.specs.Strata.{strata};
 ghost use Rattle.rules.specs.Naming.{naming, nameBuffer};
 ghost use Rattle.rules.specs.Table.{skeletonTable, tableBuffer};
+ghost use Rattle.rules.specs.SheetText.{sheetBuffer};
+ghost use Rattle.rules.specs.Parents.{conversion};
 ghost use Rattle.naming.specs.Answers.{kindOf};
-ghost use Rattle.rachdoum.specs.Numbers.{readingRefusal, readingNumbers, plotDesignNumbers, fullDesignNumbers, relationNumbers, strataNumbers, statedKind, namingNumbers, textNumbers};
+ghost use Rattle.rachdoum.specs.Numbers.{readingRefusal, readingNumbers, plotDesignNumbers, fullDesignNumbers, relationNumbers, strataNumbers, statedKind, namingNumbers, textNumbers, sheetNumbers};
 
 mod gather;
 
+use conversion::Conversion;
 use design::FullDesign;
 use design::PlotDesign;
 use limits::Level;
@@ -246,6 +249,26 @@ pub extern "C" fn rachdoum_skeleton(text: &[u8], out: &mut [u8], answer: &mut [u
         Printed::Refused(question) => {
             *answer = [0];
             question
+        }
+    }
+}
+
+// Questions 6, 2 to 5 and 23 of an old sheet, numbered within a parent. The answer: how many bytes the converted sheet has.
+#[no_mangle]
+pub extern "C" fn rachdoum_convert(old: &[u8], sheet: &mut [u8], answer: &mut [u64; 1]) -> u32
+    ensures refusal { λ r. ⌜ r ≡ conversion (now (old .entry)) (length (now (sheet .entry))) .refusal ⌝ }
+    ensures buffer { λ _. ⌜ now (sheet .exit) ≡ sheetBuffer (now (sheet .entry)) (conversion (now (old .entry)) (length (now (sheet .entry)))) ⌝ }
+    ensures numbers { λ _. ⌜ now (answer .exit) ≡ sheetNumbers (conversion (now (old .entry)) (length (now (sheet .entry)))) ⌝ }
+{
+    let found = conversion::convert(old, sheet);
+    match found {
+        Conversion::Written(size) => {
+            *answer = [size as u64];
+            0
+        }
+        Conversion::Refused(refusal) => {
+            *answer = [0];
+            refusal
         }
     }
 }

@@ -180,12 +180,12 @@ module _ (text : List ℕ) where
   unfolding sheetColumns
   length-columns = length-tabulate (fieldColumn (laterLines text)) (length (header text))
 
-  -- 01's form of the first line has none, so 01's reader goes on refusing a slash with 3
+  -- the first line of a sheet that is read has none
   pub no-slash : question3 text ≡ true → all (free slash) (header text) ≡ true
   no-slash q = all-weaker isColumn (free slash) (column-free slash refl refl refl) (header text) (header-form text q .columns)
 
   module _ (a : all (free slash) (header text) ≡ true) where
-    -- then the old sheet's questions are 01's
+    -- then the old sheet's questions are the reader's
     pub unslashed-3 : oldQuestion3 text ≡ question3 text
     unfolding oldQuestion3 question3 slashForm
     unslashed-3 =
@@ -272,7 +272,7 @@ conversion-takes text outLength h old =
     let five : question5 text ≡ true = rw (le-leb 1 (length (laterLines text)) (old .plots-some), le-leb (length (laterLines text)) mostPlots (old .plots-few)) in
     rw (le-leb mostText outLength h, old .size, conversion) (rw (three, old .rows, five, old .parents, conversionFrom3))
 
--- a sheet of 01's, whose questions 2 to 5 hold, comes back byte for byte
+-- a sheet without a slash, whose questions 2 to 5 hold, comes back byte for byte
 pub unslashed : (text : List ℕ) (outLength : ℕ) → mostText ≤ outLength → question2 text ≡ true → question3 text ≡ true → question4 mostLevel text ≡ true → question5 text ≡ true
     → conversion text outLength ≡ record { refusal = 0; sheet = text }
 unfolding conversion conversionFrom3
@@ -281,7 +281,7 @@ unslashed text outLength h q2 q3 q4 q5 =
     rw (le-leb mostText outLength h, q2, conversion)
     (rw (unslashed-3 text a ∙ q3, q4, q5, unslashed-23 text a, conversionFrom3, unslashed-sheet text a (header-ended text q3) q4))
 
--- so does every sheet that 01's reader reads
+-- so does every sheet that is read
 pub read-unchanged : (text levels : List ℕ) (n p t outLength : ℕ) → reading text levels ≡ read n p t → mostText ≤ outLength → conversion text outLength ≡ record { refusal = 0; sheet = text }
 unfolding question4 question5
 read-unchanged text levels n p t outLength e h =
@@ -426,7 +426,7 @@ conversion-fits text outLength =
     (λ r. rw (r .1) (omega arith))
     (conversion-answers text outLength)
 
--- ---- texts without a slash are answered as 01's reader answers them
+-- ---- texts without a slash are answered as the reader answers them
 
 -- the number of a refusal, 0 for none
 abbrev pub refusalOf : Outcome → ℕ
@@ -447,7 +447,7 @@ unslashed-refusal text levels outLength a h room =
     (λ q3. rw (le-leb mostText outLength room, le-leb tableCells (length levels) h, q2, unslashed-3 text a, q3, conversion, readingTo, conversionFrom3, readingFrom3)))
     (λ q2. rw (le-leb mostText outLength room, le-leb tableCells (length levels) h, q2, conversion, readingTo))
 
--- "01's reader goes on refusing a slash with 3"
+-- the reader "goes on refusing a slash with 3"
 pub slash-3 : (text levels : List ℕ) → all (free slash) (header text) ≡ false → tableCells ≤ length levels → question2 text ≡ true → reading text levels ≡ refused 3
 unfolding readingTo readingFrom3
 slash-3 text levels a h q2 =
@@ -474,7 +474,7 @@ with-parent f (x ∷ y ∷ own) q c k n =
       q ∙ ap₂ (λ (a b : ℕ). a ∷ b ∷ own ++ slash ∷ past slash f) (eqb-true x plotMark kx) (eqb-true y 58 (and-right m (eqb y 58) (and-left (m && eqb y 58) (isName own) c))),
     )
 
--- 3: each field is a column of 01's, or a plot column, a slash and a name
+-- 3: each field is a column as the reader takes it, or a plot column, a slash and a name
 pub old-field : (f : Field) → ((slashForm f && isColumn (withoutParent f)) ≡ true) ↔ ((isColumn f ≡ true) ⊎ WithParent f)
 unfolding slashForm isColumn isKind
 old-field f = (to, ⊎-elim own-form with-form)

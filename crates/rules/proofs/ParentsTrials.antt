@@ -24,7 +24,7 @@ oldTrials =
     ∷ gives (112 ∷ 58 ∷ 72 ∷ 117 ∷ 116 ∷ 9 ∷ 112 ∷ 58 ∷ 80 ∷ 105 ∷ 101 ∷ 114 ∷ 47 ∷ 72 ∷ 117 ∷ 116 ∷ 10 ∷ 54 ∷ 53 ∷ 53 ∷ 51 ∷ 53 ∷ 9 ∷ 57 ∷ 10 ∷ 55 ∷ 9 ∷ 56 ∷ 10 ∷ 54 ∷ 53 ∷ 53 ∷ 51 ∷ 53 ∷ 9 ∷ 57 ∷ 10 ∷ []) 32768 0 (112 ∷ 58 ∷ 72 ∷ 117 ∷ 116 ∷ 9 ∷ 112 ∷ 58 ∷ 80 ∷ 105 ∷ 101 ∷ 114 ∷ 10 ∷ 54 ∷ 53 ∷ 53 ∷ 51 ∷ 53 ∷ 9 ∷ 49 ∷ 10 ∷ 55 ∷ 9 ∷ 50 ∷ 10 ∷ 54 ∷ 53 ∷ 53 ∷ 51 ∷ 53 ∷ 9 ∷ 49 ∷ 10 ∷ [])
     -- a column that needs no parent is numbered too: p:Hut→p:Pier/Hut|1→4|1→3|2→2|2→1| gives p:Hut→p:Pier|1→1|1→2|2→3|2→4|
     ∷ gives (112 ∷ 58 ∷ 72 ∷ 117 ∷ 116 ∷ 9 ∷ 112 ∷ 58 ∷ 80 ∷ 105 ∷ 101 ∷ 114 ∷ 47 ∷ 72 ∷ 117 ∷ 116 ∷ 10 ∷ 49 ∷ 9 ∷ 52 ∷ 10 ∷ 49 ∷ 9 ∷ 51 ∷ 10 ∷ 50 ∷ 9 ∷ 50 ∷ 10 ∷ 50 ∷ 9 ∷ 49 ∷ 10 ∷ []) 32768 0 (112 ∷ 58 ∷ 72 ∷ 117 ∷ 116 ∷ 9 ∷ 112 ∷ 58 ∷ 80 ∷ 105 ∷ 101 ∷ 114 ∷ 10 ∷ 49 ∷ 9 ∷ 49 ∷ 10 ∷ 49 ∷ 9 ∷ 50 ∷ 10 ∷ 50 ∷ 9 ∷ 51 ∷ 10 ∷ 50 ∷ 9 ∷ 52 ∷ 10 ∷ [])
-    -- a sheet of 01's: p:Hut→t:Gain|1→1|1→2|2→1|2→2| gives p:Hut→t:Gain|1→1|1→2|2→1|2→2|
+    -- a sheet without a slash: p:Hut→t:Gain|1→1|1→2|2→1|2→2| gives p:Hut→t:Gain|1→1|1→2|2→1|2→2|
     ∷ gives (112 ∷ 58 ∷ 72 ∷ 117 ∷ 116 ∷ 9 ∷ 116 ∷ 58 ∷ 71 ∷ 97 ∷ 105 ∷ 110 ∷ 10 ∷ 49 ∷ 9 ∷ 49 ∷ 10 ∷ 49 ∷ 9 ∷ 50 ∷ 10 ∷ 50 ∷ 9 ∷ 49 ∷ 10 ∷ 50 ∷ 9 ∷ 50 ∷ 10 ∷ []) 32768 0 (112 ∷ 58 ∷ 72 ∷ 117 ∷ 116 ∷ 9 ∷ 116 ∷ 58 ∷ 71 ∷ 97 ∷ 105 ∷ 110 ∷ 10 ∷ 49 ∷ 9 ∷ 49 ∷ 10 ∷ 49 ∷ 9 ∷ 50 ∷ 10 ∷ 50 ∷ 9 ∷ 49 ∷ 10 ∷ 50 ∷ 9 ∷ 50 ∷ 10 ∷ [])
     -- no such column: p:Hut→p:Pier/Hat|1→1| refused by 23
     ∷ gives (112 ∷ 58 ∷ 72 ∷ 117 ∷ 116 ∷ 9 ∷ 112 ∷ 58 ∷ 80 ∷ 105 ∷ 101 ∷ 114 ∷ 47 ∷ 72 ∷ 97 ∷ 116 ∷ 10 ∷ 49 ∷ 9 ∷ 49 ∷ 10 ∷ []) 32768 23 []
@@ -57,7 +57,7 @@ pub old-trials-hold : map (observedBy conversion) oldTrials ≡ oldTrials
 unfolding conversion oldTrials
 old-trials-hold = refl
 
--- "01's reader goes on refusing a slash with 3"
+-- the reader "goes on refusing a slash with 3"
 slash-refused : reading anewInEachHut (replicate 2880 0) ≡ refused 3
 unfolding readingTo
 slash-refused = refl

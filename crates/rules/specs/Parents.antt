@@ -30,7 +30,7 @@ unfoldable pub plainHeader : List ℕ → List Field
 unfolding upTo header
 plainHeader text = map withoutParent (header text)
 
--- 3, "asked of the old sheet with this one addition to its header": without the slash parts it is 01's
+-- 3, "asked of the old sheet with this one addition to its header": without the slash parts it is that of any sheet
 unfoldable pub oldQuestion3 : List ℕ → Bool
 unfolding has all slashForm isHeader header plainHeader
 oldQuestion3 text = has newline text && all slashForm (header text) && isHeader (plainHeader text)
@@ -71,7 +71,7 @@ unfoldable pub convertedColumns : List ℕ → List Column
 unfolding convertedAfter plainHeader header sheetColumns
 convertedColumns text = convertedAfter (plainHeader text) [] (header text) (sheetColumns text)
 
--- "Convert them to 01's edition"
+-- the converted sheet
 unfoldable pub convertedSheet : List ℕ → List ℕ
 unfolding sheetText laterLines plainHeader convertedColumns
 convertedSheet text = sheetText (length (laterLines text)) (plainHeader text) (convertedColumns text)
@@ -107,7 +107,7 @@ pub data Above (fs : List Field) : ℕ → ℕ → Type 0 where
 -- of an old sheet's text, what it is converted to, and a level table
 pub record Converted (text sheet levels : List ℕ) : Type 0 where
   pub fits : length sheet ≤ mostText
-  -- "Convert them to 01's edition": 01's reader reads it, as many plots and columns as the old sheet has
+  -- it is read, as many plots and columns as the old sheet has
   pub is-read : reading sheet levels ≡ read (length (laterLines text)) (countKind plotMark (plainHeader text)) (countKind treatmentMark (plainHeader text))
   pub first-line : header sheet ≡ plainHeader text
   -- and finds the converted columns

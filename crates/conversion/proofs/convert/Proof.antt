@@ -1,20 +1,34 @@
 -- `convert`: 6, 2 and half of 3 are asked first.
 -- Assumes nothing.
 use Prim.Native.Nat.{ℕ, _≤_, _<_}
-use mathlib.Core.Path.{_≡_, refl, sym, ap, _∙_}
+use mathlib.Core.Path.{_≡_, refl, sym, ap, _∙_, subst}
+use mathlib.Core.List.{List}
 use mathlib.Core.Bool.{true, false, _&&_}
 use native.Mathlib.Omega.{arith}
 use borrow.Author.Needs.{needs}
 use borrow.Author.Tests.{not-true, not-false, le-leb}
 use denote.Ref.{now}
-use lib.ListN.{length}
+use lib.ListN.{length, take}
 use Rattle.rules.specs.Sheet.{newline, has, all, header}
-use Rattle.rules.specs.Parents.{slashForm}
+use Rattle.rules.specs.SheetText.{sheetBuffer}
+use Rattle.rules.specs.Parents.{slashForm, conversion, Converted}
 use Rattle.rules.proofs.Sheet.{and-left, and-right}
-use Rattle.conversion.specs.Answers.{conversionNumbers, answerNumbers}
+use Rattle.rules.proofs.SheetText.{buffer-sheet}
+use Rattle.rules.proofs.Parents.{conversion-converted}
+use Rattle.conversion.specs.Answers.{conversionNumbers, answerNumbers, HoldsConverted}
+use Rattle.conversion.specs.declared.Conversion.{Conversion}
+use Rattle.conversion.specs.declared.Conversion.the-variants.{Refused}
 use Rattle.conversion.proofs.PlainLaws.{short-6, empty-2, long-2, unformed-3, from-3}
 use Rattle.conversion.proofs.convert.Statement.{statement}
 use Rattle.conversion.proofs.convert.Tie as tie
+
+-- the last clause follows from the others
+whole : (old out after : List ℕ) (r : Conversion) → (conversionNumbers r ≡ answerNumbers (conversion old (length out))) × (after ≡ sheetBuffer out (conversion old (length out)))
+    → (conversionNumbers r ≡ answerNumbers (conversion old (length out))) × ((after ≡ sheetBuffer out (conversion old (length out))) × HoldsConverted old (length out) after)
+whole old out after r p = (
+  p .0,
+  (p .1, λ e levels h. subst (λ (t : List ℕ). Converted old t levels) (sym (ap (take (length (conversion old (length out) .sheet))) (p .1) ∙ buffer-sheet out (conversion old (length out)))) (conversion-converted old (length out) levels e h)),
+)
 
 returns : tie.Need-returns
 unfolding conversionNumbers answerNumbers
@@ -22,7 +36,7 @@ returns c =
     let a = c .before .before .before .args in
     let o = now (a .old) in
     let l = length (now (a .out)) in
-    rw (short-6 o l (omega arith)) (refl, refl)
+    whole o (now (a .out)) (now (a .out)) (Refused 6) (rw (short-6 o l (omega arith)) (refl, refl))
 
 returns-2 : tie.Need-returns-2
 unfolding conversionNumbers answerNumbers
@@ -30,7 +44,7 @@ returns-2 c =
     let a = c .before .before .before .before .args in
     let o = now (a .old) in
     let l = length (now (a .out)) in
-    rw (empty-2 o l (omega arith) (omega arith)) (refl, refl)
+    whole o (now (a .out)) (now (a .out)) (Refused 2) (rw (empty-2 o l (omega arith) (omega arith)) (refl, refl))
 
 returns-3 : tie.Need-returns-3
 unfolding conversionNumbers answerNumbers
@@ -38,7 +52,7 @@ returns-3 c =
     let a = c .before .before .before .before .before .args in
     let o = now (a .old) in
     let l = length (now (a .out)) in
-    rw (long-2 o l (omega arith) (omega arith) (omega arith)) (refl, refl)
+    whole o (now (a .out)) (now (a .out)) (Refused 2) (rw (long-2 o l (omega arith) (omega arith) (omega arith)) (refl, refl))
 
 slashes-formed-requires : tie.Need-slashes-formed-requires
 slashes-formed-requires c κs = search needs
@@ -49,7 +63,7 @@ returns-4 c =
     let a = c .before .before .before .before .before .before .before .args in
     let o = now (a .old) in
     let l = length (now (a .out)) in
-    rw (unformed-3 o l (omega arith) (omega arith) (omega arith) (sym (c .before .slashes-formed .ensures) ∙ not-true _ (c .if4 .taken))) (refl, refl)
+    whole o (now (a .out)) (now (a .out)) (Refused 3) (rw (unformed-3 o l (omega arith) (omega arith) (omega arith) (sym (c .before .slashes-formed .ensures) ∙ not-true _ (c .if4 .taken))) (refl, refl))
 
 convert-formed-requires : tie.Need-convert-formed-requires
 convert-formed-requires c κs =
@@ -72,7 +86,8 @@ returns-5 c =
     let a = c .before .before .before .before .before .before .before .before .before .before .before .args in
     let o = now (a .old) in
     let l = length (now (a .out)) in
-    rw (from-3 o l (omega arith) (omega arith) (omega arith)) (c .before .before .convert-formed .ensures)
+    let k = c .before .before .convert-formed in
+    whole o (now (a .out)) (k .last .1 .0) (k .result) (rw (from-3 o l (omega arith) (omega arith) (omega arith)) (k .ensures))
 
 pub convert-spec : {M : Type 1} → statement M
 convert-spec =
