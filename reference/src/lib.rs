@@ -29,8 +29,10 @@ pub const FAMILY: usize = 7_680;
 pub const NAME: usize = 96;
 /// Bytes that the buffer for the printed table has to hold.
 pub const TABLE: usize = 32_768;
+/// Bytes that the buffer for a converted sheet has to hold.
+pub const SHEET: usize = 32_768;
 /// The last question's number: refusals are numbered from 1 to this.
-pub const QUESTIONS: usize = 16;
+pub const QUESTIONS: usize = 23;
 
 /// The list of entries, handed to another macro: an entry's name and its shape. The name is that of its module and of its function,
 /// both in [`literal`] and in [`fast`].
@@ -59,6 +61,9 @@ macro_rules! entries {
             /// A column of levels, 0 being one like any other, a stop, numbers; never a refusal, and the number of classes of the
             /// plots before the stop. The library's header does not have it.
             number: fn(&[Level], usize, &mut [u8; PLOTS]) -> (u32, [u64; 1]),
+            /// A sheet numbered within parents, buffer for the sheet that it is converted to; refusal and that sheet's length (6, 2 to
+            /// 5, 23).
+            convert: fn(&[u8], &mut [u8]) -> (u32, [u64; 1]),
         }
     };
 }

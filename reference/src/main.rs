@@ -1,20 +1,31 @@
 //! Reads a text on standard input and prints what a program makes of it: `reference [--fast] [PROGRAM]`. Without a program's name a
 //! trial sheet is read and its skeleton table printed; with `--fast` by the fast implementation.
 
-use reference::{Entries, FAST, LITERAL, TABLE, TEXT};
+use reference::{Entries, FAST, LITERAL, SHEET, TABLE, TEXT};
 use std::io::{self, Read, Write};
 
 /// From the text that is read to the text that is printed.
 type Program = fn(&Entries, &[u8]) -> Vec<u8>;
 
 /// The programs by name; the first is run where none is named.
-const PROGRAMS: [(&str, Program); 1] = [("skeleton", skeleton)];
+const PROGRAMS: [(&str, Program); 2] = [("skeleton", skeleton), ("convert", convert)];
 
 fn skeleton(entries: &Entries, text: &[u8]) -> Vec<u8> {
     let mut table = vec![0; TABLE];
     let (_, length) = (entries.skeleton)(text, &mut table);
     table.truncate(length as usize);
     table
+}
+
+/// The sheet that one numbered within parents is converted to, or the line of its refusal.
+fn convert(entries: &Entries, text: &[u8]) -> Vec<u8> {
+    let mut sheet = vec![0; SHEET];
+    let (refusal, [length]) = (entries.convert)(text, &mut sheet);
+    if refusal != 0 {
+        return format!("refused\t{refusal}\t-\t-\n").into_bytes();
+    }
+    sheet.truncate(length as usize);
+    sheet
 }
 
 /// Standard input to its end. Only one byte more than the longest text is kept: any text above it is refused alike.

@@ -29,8 +29,17 @@ fn both_print_the_sample_sheet() {
 }
 
 #[test]
+fn both_convert_a_sheet_numbered_within_a_parent() {
+    for arguments in [&["convert"][..], &["--fast", "convert"]] {
+        let converted = prints(b"p:Bench\tp:Section/Bench\n1\t1\n1\t2\n2\t1\n2\t2\n", arguments);
+        assert_eq!(converted, lines(&["p:Bench p:Section", "1 1", "1 2", "2 3", "2 4"]));
+        assert_eq!(prints(b"p:Section/Bench\tp:Bench\n1\t1\n", arguments), lines(&["refused 23 - -"]));
+    }
+}
+
+#[test]
 fn any_length_of_input_is_read() {
-    for arguments in [&[][..], &["--fast"]] {
+    for arguments in [&[][..], &["--fast"], &["convert"], &["--fast", "convert"]] {
         for length in [0, 32_769, 1_000_000] {
             assert_eq!(prints(&vec![b'1'; length], arguments), lines(&["refused 2 - -"]));
         }

@@ -17,16 +17,18 @@ pub struct Header<'a> {
 }
 
 impl<'a> Header<'a> {
+    const EMPTY: Header<'static> = Header {
+        fields: 0,
+        names: [&[]; 2 * COLUMNS],
+        columns: [0; 2 * COLUMNS],
+        plot_columns: 0,
+        treatment_columns: 0,
+        length: 0,
+    };
+
     /// Question 3.
     pub fn read(text: &'a [u8]) -> Option<Header<'a>> {
-        let mut header = Header {
-            fields: 0,
-            names: [&[]; 2 * COLUMNS],
-            columns: [0; 2 * COLUMNS],
-            plot_columns: 0,
-            treatment_columns: 0,
-            length: 0,
-        };
+        let mut header = Header::EMPTY;
         loop {
             let end = header.field(text)?;
             header.length = end + 1;
@@ -38,12 +40,31 @@ impl<'a> Header<'a> {
         }
     }
 
-    /// Takes the field that begins at `length`; answers where it ends.
+    /// Question 3 of a sheet numbered within parents. For each field the name of its parent too, which is empty where it has none.
+    pub fn read_old(text: &'a [u8]) -> Option<(Header<'a>, [&'a [u8]; 2 * COLUMNS])> {
+        let (mut header, mut parents): (Header, [&[u8]; 2 * COLUMNS]) = (Header::EMPTY, [&[]; 2 * COLUMNS]);
+        loop {
+            let mut end = header.field(text)?;
+            let last = header.fields - 1;
+            if text[end] == b'/' && usize::from(header.columns[last]) < COLUMNS {
+                parents[last] = name(&text[end + 1..])?;
+                end += 1 + parents[last].len();
+            }
+            header.length = end + 1;
+            match text[end] {
+                TAB => {}
+                LINE_END => return Some((header, parents)),
+                _ => return None,
+            }
+        }
+    }
+
+    /// Takes the field that begins at `length`; answers where its name ends.
+    #[inline]
     fn field(&mut self, text: &'a [u8]) -> Option<usize> {
         let rest = &text[self.length..];
-        let name = rest.get(2..)?;
-        let letters = name.iter().take(13).position(|byte| !byte.is_ascii_alphanumeric())?;
-        if rest[1] != b':' || !(2..=12).contains(&letters) || !name[0].is_ascii_alphabetic() {
+        let name = name(rest.get(2..)?)?;
+        if rest[1] != b':' {
             return None;
         }
         let (count, first) = match rest[0] {
@@ -51,7 +72,6 @@ impl<'a> Header<'a> {
             b't' => (&mut self.treatment_columns, COLUMNS),
             _ => return None,
         };
-        let name = &name[..letters];
         if *count == COLUMNS || self.names[..self.fields].contains(&name) {
             return None;
         }
@@ -59,7 +79,12 @@ impl<'a> Header<'a> {
         self.columns[self.fields] = (first + *count) as u8;
         *count += 1;
         self.fields += 1;
-        Some(self.length + 2 + letters)
+        Some(self.length + 2 + name.len())
+    }
+
+    /// The name of a field.
+    pub fn name(&self, field: usize) -> &'a [u8] {
+        self.names[field]
     }
 
     /// The names of one kind in column order.
@@ -98,6 +123,13 @@ impl<'a> Header<'a> {
             Err(5)
         }
     }
+}
+
+/// A name at the beginning; a byte that no name has follows it.
+#[inline]
+fn name(text: &[u8]) -> Option<&[u8]> {
+    let letters = text.iter().take(13).position(|byte| !byte.is_ascii_alphanumeric())?;
+    ((2..=12).contains(&letters) && text[0].is_ascii_alphabetic()).then(|| &text[..letters])
 }
 
 /// Digits of the highest level.

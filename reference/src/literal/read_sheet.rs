@@ -21,7 +21,7 @@ fn plot_line(line: &[u8], columns: usize) -> Option<Vec<Level>> {
 }
 
 /// "Does every later line have it?" (question 4) The levels of all plot lines, or None.
-fn plot_lines(mut rest: &[u8], columns: usize) -> Option<Vec<Vec<Level>>> {
+pub fn plot_lines(mut rest: &[u8], columns: usize) -> Option<Vec<Vec<Level>>> {
     let mut lines = Vec::new();
     while !rest.is_empty() {
         let (line, after) = first_line(rest)?;

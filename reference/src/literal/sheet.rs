@@ -37,13 +37,13 @@ pub fn fields(line: &[u8]) -> Vec<&[u8]> {
 }
 
 /// "A name is a letter and then 1 to 11 letters or digits, all ASCII"
-fn is_name(bytes: &[u8]) -> bool {
+pub fn is_name(bytes: &[u8]) -> bool {
     let letter_first = bytes.first().is_some_and(|byte| byte.is_ascii_alphabetic());
     letter_first && (2..=12).contains(&bytes.len()) && bytes.iter().all(|byte| byte.is_ascii_alphanumeric())
 }
 
 /// "each `p:` (plot) or `t:` (treatment) and a name"
-fn heading(field: &[u8]) -> Option<Heading> {
+pub fn heading(field: &[u8]) -> Option<Heading> {
     let kind = match field.get(..2)? {
         b"p:" => Kind::Plot,
         b"t:" => Kind::Treatment,
@@ -56,11 +56,15 @@ fn heading(field: &[u8]) -> Option<Heading> {
 pub fn headings(text: &[u8]) -> Option<(Vec<Heading>, &[u8])> {
     let (line, rest) = first_line(text)?;
     let found: Option<Vec<Heading>> = fields(line).into_iter().map(heading).collect();
-    let headings = found?;
+    found.filter(|headings| stand_together(headings)).map(|headings| (headings, rest))
+}
+
+/// "The first line has 1 to 12 fields", "At most 6 are of one kind", "no two names are equal"
+pub fn stand_together(headings: &[Heading]) -> bool {
     let few = (1..=2 * COLUMNS).contains(&headings.len());
-    let few_of_a_kind = [Kind::Plot, Kind::Treatment].iter().all(|&kind| of_kind(&headings, kind).len() <= COLUMNS);
+    let few_of_a_kind = [Kind::Plot, Kind::Treatment].iter().all(|&kind| of_kind(headings, kind).len() <= COLUMNS);
     let differ = (0..headings.len()).all(|i| (0..i).all(|j| headings[i].name != headings[j].name));
-    (few && few_of_a_kind && differ).then_some((headings, rest))
+    few && few_of_a_kind && differ
 }
 
 /// The names of the columns of one kind, in sheet order.
