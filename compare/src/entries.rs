@@ -78,6 +78,7 @@ entries! {
     name,
     skeleton,
     number,
+    convert,
 }
 
 /// The entry of this name.

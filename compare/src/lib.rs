@@ -10,6 +10,7 @@ pub mod entries;
 pub mod family;
 pub mod levels;
 pub mod memory;
+pub mod old_sheet;
 pub mod random;
 pub mod sheet;
 pub mod shrink;

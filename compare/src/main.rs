@@ -174,8 +174,10 @@ fn print_table(tallies: &[Tally]) {
         let cells: String = cells.iter().map(|cell| format!("{cell:>8}")).collect();
         println!("{title:<17}{calls:>9}{literal:>9}{cells}");
     };
-    let cells = |numbers: &Seen| numbers.map(|number| if number == 0 { ".".to_string() } else { number.to_string() });
-    row("refusal", "calls", "literal", &std::array::from_fn::<String, { QUESTIONS + 1 }, _>(|number| number.to_string()));
+    let numbers: Vec<usize> = (0..=QUESTIONS).filter(|&number| has_column(tallies, number)).collect();
+    let shown = |times: u64| if times == 0 { ".".to_string() } else { times.to_string() };
+    let cells = |seen: &Seen| numbers.iter().map(|&number| shown(seen[number])).collect::<Vec<String>>();
+    row("refusal", "calls", "literal", &numbers.iter().map(usize::to_string).collect::<Vec<String>>());
     for tally in tallies {
         row(tally.entry.title, &tally.calls.to_string(), &tally.literal.to_string(), &cells(&tally.refusals));
         if tally.entry.printed.is_some() {
@@ -185,6 +187,12 @@ fn print_table(tallies: &[Tally]) {
     let sum = |field: fn(&Tally) -> u64| tallies.iter().map(field).sum::<u64>();
     let (calls, literal, differences) = (sum(|tally| tally.calls), sum(|tally| tally.literal), sum(|tally| tally.differences));
     println!("compare: {calls} calls, {calls} with the fast version, {literal} with the literal one, {differences} differences");
+}
+
+/// Whether a refusal has a column in the table: 0 for none has, and those that an entry can give or that were seen.
+fn has_column(tallies: &[Tally], number: usize) -> bool {
+    let given = |tally: &Tally| tally.entry.refusals.contains(&(number as u32)) || tally.refusals[number] + tally.printed[number] > 0;
+    number == 0 || tallies.iter().any(given)
 }
 
 /// Whether each entry gave each refusal that it has, and each that its printed text can tell was printed.

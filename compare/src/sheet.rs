@@ -90,17 +90,20 @@ fn many_digits(random: &mut Random) -> String {
 fn lengthen(random: &mut Random, text: &mut Vec<u8>, line: usize) {
     let copy = text[(line + 1).min(text.len())..].to_vec();
     if !copy.is_empty() && random.once_in(3) {
-        let wanted = TEXT - 1 + random.below(4);
-        while text.len() < wanted {
-            text.extend_from_slice(&copy);
-        }
-        text.truncate(wanted);
-        text[wanted - 1] = 10;
-        return;
+        return fill(text, &copy, TEXT - 1 + random.below(4));
     }
     for _ in 0..1 + random.below(40) {
         text.extend_from_slice(&copy);
     }
+}
+
+/// Adds these lines over and over until the text has so many bytes; the last one may be cut, but is ended.
+pub fn fill(text: &mut Vec<u8>, lines: &[u8], wanted: usize) {
+    while text.len() < wanted {
+        text.extend_from_slice(lines);
+    }
+    text.truncate(wanted);
+    text[wanted - 1] = 10;
 }
 
 /// Bytes from a small alphabet: texts near the form, of any length.

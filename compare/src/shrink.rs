@@ -1,7 +1,7 @@
 //! Makes a call that shows a difference smaller, as long as it still shows one.
 
 use crate::call::Call;
-use reference::{Level, COLUMNS, FAMILY, LEVELS, MEMBERS, NAME, PLOTS, TABLE};
+use reference::{Level, COLUMNS, FAMILY, LEVELS, MEMBERS, NAME, PLOTS, SHEET, TABLE};
 
 /// So many smaller calls are tried at most.
 const TRIES: usize = 5000;
@@ -192,7 +192,7 @@ pub fn lent(_: &Call) -> Vec<Step> {
             Some(())
         })
     };
-    [0, NAME, FAMILY, LEVELS, TABLE].into_iter().flat_map(|length| [shorter(0, length), shorter(1, length)]).collect()
+    [0, NAME, FAMILY, LEVELS, TABLE, SHEET].into_iter().flat_map(|length| [shorter(0, length), shorter(1, length)]).collect()
 }
 
 /// Another length of a table, rows of it set to 0, cells past the plots set to 0.
