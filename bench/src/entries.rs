@@ -1,8 +1,8 @@
 //! The entries that are timed. Each takes a sheet that was read and designed, and gives a call that owns all that it reads and writes.
 //! A new entry is a function here and its line in the list.
 
-use crate::sheets::Sheet;
-use reference::{Entries, Level, COLUMNS, FAMILY, FAST, INTERACTIONS, LEVELS, NAME, PLOTS, TABLE};
+use crate::sheets::{with_parents, Sheet};
+use reference::{Entries, Level, COLUMNS, FAMILY, FAST, INTERACTIONS, LEVELS, NAME, PLOTS, SHEET, TABLE};
 use std::fmt::Debug;
 
 /// A call that can be made again and again, of either implementation; its answer and its memory are handed to `keep`.
@@ -26,6 +26,7 @@ pub static ALL: &[Entry] = &[
     Entry { title: "strata", call: strata },
     Entry { title: "name", call: name },
     NUMBER,
+    Entry { title: "convert", call: convert },
 ];
 
 /// Numbering alone, of a sheet's first column.
@@ -127,4 +128,10 @@ fn name(trial: &Trial) -> Call {
 fn number(trial: &Trial) -> Call {
     let (column, mut numbers) = (trial.first_column().to_vec(), [0; PLOTS]);
     Box::new(move |entries, keep| keep(&((entries.number)(&column, column.len(), &mut numbers), &column, &numbers)))
+}
+
+/// The sheet with a parent for each plot column but the first.
+fn convert(trial: &Trial) -> Call {
+    let (old, mut sheet) = (with_parents(&trial.text), vec![0; SHEET]);
+    Box::new(move |entries, keep| keep(&((entries.convert)(&old, &mut sheet), &old, &sheet)))
 }

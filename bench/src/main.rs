@@ -20,7 +20,7 @@ const USAGE: &str = "usage: bench [--seconds S] [--only WORD] [--entries]   the 
        bench [--seconds S] --numbering                how the time of numbering one column grows with plots
        bench --once SHEET library|reference [CALLS [ENTRY]]   one entry on one sheet, a title or a file, so many times
        bench --instructions                           each sheet once by each, for bench/instructions.sh
-       bench --write FOLDER                           the sheets as files";
+       bench --write FOLDER                           the sheets as files, and as they are numbered within parents";
 
 /// The ratio that no sheet may pass.
 const WORST: f64 = 1.3;
@@ -138,12 +138,16 @@ fn instructions() -> io::Result<bool> {
     Ok(true)
 }
 
-/// The sheets as files whose names are the titles.
+/// The sheets as files whose names are the titles; where parents can be given to its columns, each with these too.
 fn write(folder: &str) -> io::Result<bool> {
     fs::create_dir_all(folder)?;
     for sheet in sheets::all()? {
         let name: String = sheet.title.chars().map(|c| if c.is_ascii_alphanumeric() { c } else { '-' }).collect();
-        fs::write(Path::new(folder).join(name + ".sheet"), &sheet.text)?;
+        fs::write(Path::new(folder).join(name.clone() + ".sheet"), &sheet.text)?;
+        let old = sheets::with_parents(&sheet.text);
+        if old != sheet.text {
+            fs::write(Path::new(folder).join(name + ".old"), old)?;
+        }
     }
     Ok(true)
 }

@@ -33,6 +33,22 @@ pub fn crossed(sizes: &[usize], u: usize, f: usize) -> usize {
     u / step % sizes[f]
 }
 
+/// The sheet as one that is numbered within parents: each plot column after the first has the one before it as its parent.
+pub fn with_parents(text: &[u8]) -> Vec<u8> {
+    let end = text.iter().position(|&byte| byte == b'\n').unwrap_or(text.len());
+    let (mut line, mut last) = (Vec::new(), None);
+    for field in text[..end].split_inclusive(|&byte| byte == b'\t') {
+        let title = field.strip_suffix(b"\t").unwrap_or(field);
+        line.extend_from_slice(title);
+        if let Some(name) = title.strip_prefix(b"p:") {
+            line.extend(last.replace(name).into_iter().flat_map(|parent: &[u8]| [&b"/"[..], parent].concat()));
+        }
+        line.extend_from_slice(&field[title.len()..]);
+    }
+    line.extend_from_slice(&text[end..]);
+    line
+}
+
 /// Every file of a folder whose name ends so, in the order of the names.
 pub fn folder(path: &Path, ending: &str) -> io::Result<Vec<Sheet>> {
     let entries: Result<Vec<_>, _> = fs::read_dir(path)?.collect();

@@ -18,6 +18,7 @@ macro_rules! entries {
 }
 
 entries! {
+    convert,
     skeleton,
     read_sheet,
     plot_design,

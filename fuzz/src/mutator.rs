@@ -60,9 +60,9 @@ impl Sheet {
 /// One change of a sheet that has a plot.
 type Change = fn(&mut Sheet, &mut Chance);
 
-const CHANGES: [Change; 15] = [
+const CHANGES: [Change; 17] = [
     copy_level, copy_level, exchange_levels, exchange_plots, regular_column, regular_column, combined_column, merged_levels, raised_level,
-    add_column, remove_column, other_kind, repeat_plots, copy_plot, remove_plot,
+    add_column, remove_column, other_kind, other_parent, no_parent, repeat_plots, copy_plot, remove_plot,
 ];
 
 /// A plot takes another's level.
@@ -163,6 +163,24 @@ fn other_kind(sheet: &mut Sheet, chance: &mut Chance) {
         Some(name) => format!("t:{name}"),
         None => format!("p:{}", heading.get(2..).unwrap_or("")),
     };
+}
+
+/// A heading without its slash part.
+fn without_parent(heading: &str) -> &str {
+    heading.split('/').next().unwrap_or("")
+}
+
+/// A column gets a parent, mostly one further left.
+fn other_parent(sheet: &mut Sheet, chance: &mut Chance) {
+    let (_, c) = sheet.place(chance);
+    let parent = if chance.below(8) == 0 { sheet.place(chance).1 } else { chance.below(c) };
+    let name = without_parent(&sheet.headings[parent]).get(2..).unwrap_or("").to_string();
+    sheet.headings[c] = format!("{}/{name}", without_parent(&sheet.headings[c]));
+}
+
+fn no_parent(sheet: &mut Sheet, chance: &mut Chance) {
+    let (_, c) = sheet.place(chance);
+    sheet.headings[c] = without_parent(&sheet.headings[c]).to_string();
 }
 
 /// All plots twice, three or five times; in one column with new levels each time.

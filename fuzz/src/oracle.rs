@@ -1,6 +1,6 @@
 //! What the reference prints for a sheet, and the fault that can be planted.
 
-use reference::{FAST, LITERAL, TABLE};
+use reference::{Entries, FAST, LITERAL, SHEET, TABLE};
 
 /// Longest text that is also given to the literal part, which takes long on large sheets.
 const SMALL: usize = 256;
@@ -16,6 +16,29 @@ pub fn printed(text: &[u8]) -> Vec<u8> {
         assert_eq!(out, literal[..length as usize], "the two parts of the reference differ");
     }
     out
+}
+
+/// The sheet that a text is converted to, or the line of its refusal. Both parts have to agree on small texts.
+pub fn converted(text: &[u8]) -> Vec<u8> {
+    let by = |entries: &Entries| {
+        let mut sheet = vec![0; SHEET];
+        let (number, [length]) = (entries.convert)(text, &mut sheet);
+        sheet.truncate(length as usize);
+        if number == 0 { sheet } else { format!("refused\t{number}\t-\t-\n").into_bytes() }
+    };
+    let out = by(&FAST);
+    if text.len() <= SMALL {
+        assert_eq!(out, by(&LITERAL), "the two parts of the reference differ");
+    }
+    out
+}
+
+/// What the program that FUZZ_PRINTS names prints, `skeleton` or `convert`.
+pub fn of_program() -> fn(&[u8]) -> Vec<u8> {
+    match std::env::var("FUZZ_PRINTS").as_deref() {
+        Ok("convert") => converted,
+        _ => printed,
+    }
 }
 
 /// A fault for trying out the fuzzer: where the printed text has the words of FUZZ_FAULT, one bit of it is turned.

@@ -1,4 +1,4 @@
-//! The program against the reference: a process for each text, which arrives in pieces; its output, whole, and how it ended.
+//! A program against the reference: a process for each text, which arrives in pieces; its output, whole, and how it ended.
 
 #![no_main]
 
@@ -27,7 +27,7 @@ fn check(text: &[u8]) {
     let length = ended.output.len();
     oracle::plant(&mut ended.output, length);
     assert_eq!(ended.status, 0, "DIFFERENCE: the program did not end with 0");
-    assert!(ended.output == oracle::printed(text), "DIFFERENCE in the output: {}", String::from_utf8_lossy(&ended.output));
+    assert!(ended.output == oracle::of_program()(text), "DIFFERENCE in the output: {}", String::from_utf8_lossy(&ended.output));
 }
 
 #[no_mangle]
