@@ -1,4 +1,5 @@
-/* Prints the table of a sheet and, after an empty line, against what each treatment is tested. Exits with 1 after a refusal.
+/* Prints the table of a sheet and, after an empty line, against what each treatment is tested. Exits with 1 after a refusal. A sheet that
+ * is numbered within parents (`p:Section/Bench`) is converted first.
  *
  *     cc -Iinclude -o library examples/library.c target/staticlib/librachdoum.a
  *     ./library examples/huts.sheet */
@@ -6,6 +7,7 @@
 
 #include <inttypes.h>
 #include <stdio.h>
+#include <string.h>
 
 enum { PLOT, TREATMENT };
 
@@ -16,6 +18,20 @@ static rachdoum_level levels[RACHDOUM_LEVELS];
 static uint8_t families[2][RACHDOUM_FAMILY];
 static size_t sizes[2];
 static size_t plots;
+
+/* Converts a sheet that is numbered within parents; any other comes back as it is. Answers the refusal, 0 for none. */
+static uint32_t convert(void) {
+  static uint8_t sheet[RACHDOUM_SHEET];
+  uint64_t length;
+  uint32_t refusal = rachdoum_convert(text, text_len, sheet, sizeof sheet, &length);
+  if (refusal != RACHDOUM_ACCEPTED) {
+    printf("refused\t%" PRIu32 "\t-\t-\n", refusal);
+    return refusal;
+  }
+  memcpy(text, sheet, length);
+  text_len = length;
+  return refusal;
+}
 
 static void print_table(void) {
   static uint8_t table[RACHDOUM_TABLE];
@@ -81,9 +97,12 @@ int main(int count, char **arguments) {
     return 2;
   }
   fclose(file);
-  print_table();
+  refusal = convert();
+  if (refusal == RACHDOUM_ACCEPTED) {
+    print_table();
+    refusal = design();
+  }
   printf("\n");
-  refusal = design();
   if (refusal != RACHDOUM_ACCEPTED) {
     printf("Question %" PRIu32 " fails (docs/REFUSALS.md).\n", refusal);
     return 1;

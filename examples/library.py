@@ -1,4 +1,5 @@
 """Prints the table of a sheet and, after an empty line, against what each treatment is tested. Exits with 1 after a refusal.
+A sheet that is numbered within parents (`p:Section/Bench`) is converted first.
 
     cc -shared -o librachdoum.so -Wl,--whole-archive target/staticlib/librachdoum.a -Wl,--no-whole-archive
     python3 examples/library.py ./librachdoum.so examples/huts.sheet
@@ -14,6 +15,7 @@ LEVELS = 2880
 FAMILY = 7680
 NAME = 96
 TABLE = 32768
+SHEET = 32768
 level = c_uint32
 
 PLOT, TREATMENT = c_uint32(0), c_uint32(1)
@@ -29,6 +31,13 @@ def ask(function, *arguments):
             handed.append(c_size_t(argument) if isinstance(argument, int) else argument)
     function.restype = c_uint32
     return function(*handed, arguments[-1])
+
+
+def convert(library, text):
+    """The refusal, 0 for none, and the sheet that one numbered within parents is converted to; any other comes back as it is."""
+    sheet, length = (c_uint8 * SHEET)(), (c_uint64 * 1)()
+    refusal = ask(library.rachdoum_convert, text, sheet, length)
+    return refusal, (c_uint8 * length[0])(*sheet[: length[0]])
 
 
 def table(library, text):
@@ -81,9 +90,12 @@ def main():
     except OSError as error:
         print(f"library.py: {error}", file=sys.stderr)
         return 2
-    text = (c_uint8 * len(sheet))(*sheet)
-    print(table(library, text))
-    refusal, rows = tests(library, text)
+    refusal, text = convert(library, (c_uint8 * len(sheet))(*sheet))
+    if refusal != 0:
+        print(f"refused\t{refusal}\t-\t-\n")
+    else:
+        print(table(library, text))
+        refusal, rows = tests(library, text)
     if refusal != 0:
         print(f"Question {refusal} fails (docs/REFUSALS.md).")
         return 1

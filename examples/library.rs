@@ -1,4 +1,5 @@
-//! Prints the table of a sheet and, after an empty line, against what each treatment is tested. Exits with 1 after a refusal.
+//! Prints the table of a sheet and, after an empty line, against what each treatment is tested. Exits with 1 after a refusal. A sheet
+//! that is numbered within parents (`p:Section/Bench`) is converted first.
 //!
 //!     rustc -O -L target/staticlib -l static=rachdoum examples/library.rs
 //!     ./library examples/huts.sheet
@@ -14,6 +15,7 @@ mod rachdoum {
     pub const FAMILY: usize = 7680;
     pub const NAME: usize = 96;
     pub const TABLE: usize = 32768;
+    pub const SHEET: usize = 32768;
     pub type Level = u32;
 
     extern "C" {
@@ -32,6 +34,7 @@ mod rachdoum {
             plots: usize, size: usize, kind: u32, place: usize, name: *mut u8, name_len: usize, answer: *mut u64,
         ) -> u32;
         pub fn rachdoum_skeleton(text: *const u8, text_len: usize, out: *mut u8, out_len: usize, answer: *mut u64) -> u32;
+        pub fn rachdoum_convert(old: *const u8, old_len: usize, sheet: *mut u8, sheet_len: usize, answer: *mut u64) -> u32;
     }
 }
 
@@ -39,6 +42,14 @@ use rachdoum::*;
 
 // Every pointer below comes from a slice with its own length, and the arrays have the lengths of the header: that is all that the
 // functions ask of their caller.
+
+/// The sheet that one numbered within parents is converted to; any other comes back as it is. Err has the refusal.
+fn convert(old: &[u8]) -> Result<Vec<u8>, u32> {
+    let (mut sheet, mut length) = (vec![0; SHEET], [0; 1]);
+    let refusal = unsafe { rachdoum_convert(old.as_ptr(), old.len(), sheet.as_mut_ptr(), sheet.len(), length.as_mut_ptr()) };
+    sheet.truncate(length[0] as usize);
+    if refusal == 0 { Ok(sheet) } else { Err(refusal) }
+}
 
 /// The printed text of a sheet. Its buffer is long enough, so the entry refuses nothing; a refused sheet gives a line.
 fn table(text: &[u8]) -> Vec<u8> {
@@ -122,11 +133,13 @@ fn main() -> ExitCode {
             return ExitCode::from(2);
         }
     };
-    if std::io::stdout().write_all(&table(&text)).is_err() {
+    let converted = convert(&text);
+    let shown = converted.as_ref().map_or_else(|refusal| format!("refused\t{refusal}\t-\t-\n").into_bytes(), |sheet| table(sheet));
+    if std::io::stdout().write_all(&shown).is_err() {
         return ExitCode::from(2);
     }
     println!();
-    if let Err(refusal) = print_tests(&text) {
+    if let Err(refusal) = converted.and_then(|sheet| print_tests(&sheet)) {
         println!("Question {refusal} fails (docs/REFUSALS.md).");
         return ExitCode::FAILURE;
     }

@@ -34,6 +34,7 @@ extern "C" {
 #define RACHDOUM_FAMILY 7680 /* bytes of a family buffer: 240 for each of 32 members */
 #define RACHDOUM_NAME 96 /* bytes of a name buffer */
 #define RACHDOUM_TABLE 32768 /* bytes for the printed table */
+#define RACHDOUM_SHEET 32768 /* bytes for a converted sheet */
 
 /* A level: only a label. A sheet has levels from 1 to 4294967295; 0 stands for a missing one. */
 typedef uint32_t rachdoum_level;
@@ -56,7 +57,8 @@ enum rachdoum_refusal {
   RACHDOUM_REFUSED_PLOT_AND_TREATMENT_NOT_ORTHOGONAL = 13, /* a plot member and a treatment member */
   RACHDOUM_REFUSED_TOO_MANY_FINAL_MEMBERS = 14, /* in the final treatment family */
   RACHDOUM_REFUSED_FORM_OF_FAMILY = 15, /* a family handed in is none that a design leaves */
-  RACHDOUM_REFUSED_NO_STRATUM = 16 /* a treatment member has no stratum */
+  RACHDOUM_REFUSED_NO_STRATUM = 16, /* a treatment member has no stratum */
+  RACHDOUM_REFUSED_PARENT = 23 /* a parent is no plot column further left */
 };
 
 /* Reads a sheet into a level table: questions 1 to 5. Column c, plot u (from 0) is number 240 * c + u; plot columns take c = 0 to 5,
@@ -97,6 +99,13 @@ uint32_t rachdoum_name(const uint8_t *text, size_t text_len, const rachdoum_leve
 /* What is printed for a sheet's text: the skeleton table with k = 6, or the line of the sheet's refusal. 6: `out` is too short; bytes
  * past the text are not touched. Answer: the length of the text. */
 uint32_t rachdoum_skeleton(const uint8_t *text, size_t text_len, uint8_t *out, size_t out_len, uint64_t answer[1]);
+
+/* Converts a sheet in which plot columns are numbered anew within each level of a parent, written `p:Section/Bench` in the first line, to
+ * one that the other functions read: questions 6 (`sheet` is too short), then 2 to 5 with this addition to the first line, then 23. A
+ * column with a parent gets a level for each combination of itself and its converted parent, from 1 by first appearance; all others are
+ * copied. A sheet without a parent comes back as it is. Bytes of `sheet` past the converted one, and all of them after a refusal, are not
+ * touched. Answer: the length of the converted sheet, at most 31860. */
+uint32_t rachdoum_convert(const uint8_t *old, size_t old_len, uint8_t *sheet, size_t sheet_len, uint64_t answer[1]);
 
 #ifdef __cplusplus
 }

@@ -14,7 +14,7 @@ enum { SHEET = sizeof sheet - 1, PLOTS = 4 };
 static uint8_t text[RACHDOUM_TEXT + 1];
 static rachdoum_level levels[RACHDOUM_LEVELS];
 static uint8_t plot_family[RACHDOUM_FAMILY], treatment_family[RACHDOUM_FAMILY];
-static uint8_t name[RACHDOUM_NAME], table[RACHDOUM_TABLE];
+static uint8_t name[RACHDOUM_NAME], table[RACHDOUM_TABLE], converted[RACHDOUM_SHEET];
 static uint64_t read_counts[3], made[4], length[1];
 static int64_t degrees[RACHDOUM_MEMBERS], strata[2 * RACHDOUM_MEMBERS];
 static uint32_t relation[1 + 3 * RACHDOUM_MEMBERS];
@@ -108,6 +108,25 @@ static void wide_levels(void) {
   answers("levels as they were", levels[0] != UINT32_MAX, RACHDOUM_ACCEPTED);
 }
 
+static uint32_t convert(const char *lines, size_t sheet_len) {
+  return rachdoum_convert((const uint8_t *)lines, strlen(lines), converted, sheet_len, length);
+}
+
+static void parents(void) {
+  static const char old[] = "p:Hut\tp:Pier/Hut\n1\t1\n2\t1\n";
+  static const char wanted[] = "p:Hut\tp:Pier\n1\t1\n2\t2\n";
+  answers("a slash for the reader", read_lines(old), RACHDOUM_REFUSED_FORM_OF_FIRST_LINE);
+  answers("a sheet, one less", convert(old, RACHDOUM_SHEET - 1), RACHDOUM_REFUSED_CALL);
+  answers("nothing written", converted[0] != 0 || length[0] != 0, RACHDOUM_ACCEPTED);
+  answers("no old sheet", convert("", RACHDOUM_SHEET), RACHDOUM_REFUSED_LENGTH_OF_TEXT);
+  answers("no old sheet and one less", convert("", RACHDOUM_SHEET - 1), RACHDOUM_REFUSED_CALL);
+  answers("a parent further right", convert("p:Pier/Hut\tp:Hut\n1\t1\n", RACHDOUM_SHEET), RACHDOUM_REFUSED_PARENT);
+  answers("nothing written after 23", converted[0] != 0 || length[0] != 0, RACHDOUM_ACCEPTED);
+  answers("a converted sheet", convert(old, RACHDOUM_SHEET), RACHDOUM_ACCEPTED);
+  answers("its length", length[0] != sizeof wanted - 1, RACHDOUM_ACCEPTED);
+  answers("its text", memcmp(converted, wanted, sizeof wanted) != 0, RACHDOUM_ACCEPTED);
+}
+
 static uint32_t refusal_of(const char *path) {
   FILE *file = fopen(path, "rb");
   size_t text_len = file != NULL ? fread(text, 1, sizeof text, file) : 0;
@@ -177,6 +196,7 @@ int main(void) {
   lengths();
   families();
   wide_levels();
+  parents();
   names();
   threads();
   return bad;

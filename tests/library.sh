@@ -63,13 +63,14 @@ if [[ $(tests_of "$work/sheets/untested.table" | head -n 1) != 'Filter (1 df) ca
   bad=1
 fi
 
-# tables NAME COMMAND..: the command prints the table of each sheet, an empty line and how each treatment is tested; it ends with 1 after a
-# refusal, and with 2, a message and no table where there is no such file or no file is named
+# tables NAME COMMAND..: the command prints the table of each sheet, an empty line and how each treatment is tested; one numbered within
+# parents (.old) has the table of the sheet that it is converted to. It ends with 1 after a refusal, and with 2, a message and no table
+# where there is no such file or no file is named
 tables() {
   local sheet table status count=0 wrong=0
-  for sheet in examples/*.sheet "$work"/sheets/*.sheet; do
+  for sheet in examples/*.sheet examples/*.old "$work"/sheets/*.sheet; do
     count=$((count + 1))
-    table=${sheet%.sheet}.table
+    table=${sheet%.*}.table
     "${@:2}" "$sheet" >"$work/out" 2>"$work/err"
     status=$?
     if ! sed '/^$/,$d' "$work/out" | cmp -s - "$table"; then
@@ -98,7 +99,7 @@ same_constants() {
   local word value bits
   bits=$(sed -n 's/^typedef uint\([0-9]*\)_t rachdoum_level;$/\1/p' include/rachdoum.h)
   grep -q "^    pub type Level = u$bits;$" examples/library.rs && grep -q "^level = c_uint$bits$" examples/library.py || return 1
-  for word in INTERACTION MEMBERS LEVELS FAMILY NAME TABLE; do
+  for word in INTERACTION MEMBERS LEVELS FAMILY NAME TABLE SHEET; do
     value=$(sed -n "s/^#define RACHDOUM_$word \([0-9]*\).*/\1/p" include/rachdoum.h)
     grep -q "^    pub const $word: usize = $value;$" examples/library.rs && grep -q "^$word = $value$" examples/library.py || return 1
   done

@@ -1,0 +1,108 @@
+# What the tests of a program share. It reads a text on standard input and prints another one.
+# begin NAME PROGRAM comes first: the program's own name, which begins its messages, and its file; $work is a folder of the test's own.
+# finish comes last: it prints how many tests passed and answers whether all did.
+
+begin() {
+  name=$1
+  program=$2
+  passed=0
+  failed=0
+  work=$(mktemp -d) || exit 1
+  trap 'rm -rf "$work"' EXIT
+  printf 'refused\t2\t-\t-\n' >"$work/two"
+  printf 'refused\t3\t-\t-\n' >"$work/three"
+}
+
+finish() {
+  echo "$name: $passed passed, $failed failed"
+  [[ $failed -eq 0 ]]
+}
+
+# verdict NAME: counts the test by the status of the command before
+verdict() {
+  if [[ $? -eq 0 ]]; then
+    passed=$((passed + 1))
+  else
+    failed=$((failed + 1))
+    echo "$name: failed: $1"
+  fi
+}
+
+# run: the program on the input that is given
+run() {
+  "$program" >"$work/out" 2>"$work/err"
+  status=$?
+}
+
+# prints NAME FILE: the program wrote this file, byte for byte, and nothing else
+prints() {
+  [[ $status -eq 0 && ! -s $work/err ]] && cmp -s "$work/out" "$2"
+  verdict "$1"
+}
+
+# complains NAME WHERE: the program wrote nothing, and on standard error a message that says where it failed
+complains() {
+  [[ $status -eq 0 && ! -s $work/out ]] && grep -q "^$name: $2: ." "$work/err"
+  verdict "$1"
+}
+
+# zeros COUNT: so many bytes 0
+zeros() {
+  head -c "$1" /dev/zero
+}
+
+# pieces FILE: its bytes, five at a time
+pieces() {
+  local at=1
+  while [[ $at -le $(wc -c <"$1") ]]; do
+    tail -c "+$at" "$1" | head -c 5
+    sleep 0.05
+    at=$((at + 5))
+  done
+}
+
+# sample FILE: what is printed for $work/sample, at once and in pieces
+sample() {
+  run <"$work/sample"
+  prints 'the sample sheet' "$1"
+  run < <(pieces "$work/sample")
+  prints 'the sample sheet in pieces' "$1"
+}
+
+# input_of_any_length: the number of bytes has to be 1 to 32,768; then every byte from 0 to 255
+input_of_any_length() {
+  run </dev/null
+  prints 'no input' "$work/two"
+  run < <(zeros 32768)
+  prints '32,768 bytes' "$work/three"
+  run < <(zeros 32769)
+  prints '32,769 bytes' "$work/two"
+  run < <(zeros 32768 && sleep 0.2 && zeros 1)
+  prints '32,768 bytes and one that comes late' "$work/two"
+  zeros 1048576 >"$work/megabyte"
+  run <"$work/megabyte"
+  prints 'a megabyte' "$work/two"
+  run < <(cat "$work/megabyte")
+  prints 'a megabyte through a pipe' "$work/two"
+  local byte
+  for ((byte = 0; byte < 256; byte++)); do
+    printf "\\x$(printf '%02x' "$byte")"
+  done >"$work/bytes"
+  run <"$work/bytes"
+  prints 'binary input' "$work/three"
+}
+
+# reads_and_writes_that_fail: each is told, with $work/sample as input where a write fails
+reads_and_writes_that_fail() {
+  run <&-
+  complains 'closed input' 'standard input'
+  run <"$work"
+  complains 'a folder as input' 'standard input'
+  : >"$work/out"
+  "$program" <"$work/sample" 2>"$work/err" >&-
+  status=$?
+  complains 'closed output' 'standard output'
+  "$program" <"$work/sample" 2>"$work/err" >/dev/full
+  status=$?
+  complains 'output that is full' 'standard output'
+}
