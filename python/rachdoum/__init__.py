@@ -21,6 +21,7 @@ from .planning import (
     Relation,
     Source,
     Stratum,
+    convert,
     degrees,
     full_design,
     name,
@@ -39,6 +40,6 @@ __version__ = "1.0.0"
 
 __all__ = [
     "Family", "Levels", "LibraryMissing", "Member", "Note", "Plan", "Refusal", "Relation", "Source", "Stratum", "Table",
-    "WrongCall", "degrees", "full_design", "name", "notes_on", "plan", "plot_design", "read_file", "read_sheet", "relation",
-    "skeleton", "strata",
+    "WrongCall", "convert", "degrees", "full_design", "name", "notes_on", "plan", "plot_design", "read_file", "read_sheet",
+    "relation", "skeleton", "strata",
 ]

@@ -9,7 +9,7 @@ from typing import Any, Dict, List, Optional
 from . import __version__, library
 from .nesting import Pair
 from .notes import Note, notes_on
-from .planning import Plan, plan_of, prepare
+from .planning import Plan, convert, plan_of, prepare
 from .refusals import Refusal
 from .sheets import read_file
 from .show import aligned, as_dictionary, note_as_dictionary, refusal_as_dictionary
@@ -22,6 +22,11 @@ Prints the skeleton analysis-of-variance table of a planned trial: in which stra
 and against how many degrees of freedom. Or it says what is wrong with the plan, where, and what would be right.
 """
 
+CONVERSION = """\
+Prints the sheet of a table, in the form that skeleton and the library read. A plot column that is numbered anew in each level of
+another one, written p:Pier/Hut in the first line or named by --nested, gets consecutive numbers; all other numbers stay.
+"""
+
 EXAMPLES = """\
 A file has one line for each plot below a line that names the columns. p: marks how the plots lie (hut, pier, week),
 t: marks what is done to them (gain, cable). Levels may be numbers or texts. CSV with commas or semicolons and text with
@@ -30,11 +35,12 @@ tabs are told apart by themselves.
 examples:
   rachdoum plan trial.csv
   rachdoum plan trial.csv --plots Hut,Pier --treatments Gain
-  rachdoum plan trial.csv --nested Pier/Hut         the piers are numbered anew in each hut
+  rachdoum plan trial.csv --nested Pier/Hut         the piers are numbered anew in each hut; so does p:Pier/Hut in the file
   rachdoum plan trial.csv --crossed Row,Column      the rows are the same in every column: no note about it
   rachdoum plan trial.csv --tsv > trial.table       for programs: the table separated by tabs
   rachdoum plan --json one.csv two.csv
   cat trial.csv | rachdoum plan -
+  rachdoum convert old.sheet > new.sheet            with consecutive numbers in place of those that start again
 
 In the table, U is the mean of all plots, E is every plot by itself, I(Gain,Cable) the combinations of two columns and
 #2 the second member of its family, one that no column and no combination gives.
@@ -53,12 +59,7 @@ def parser() -> argparse.ArgumentParser:
         "plan", help="print the table of each file", description=DESCRIPTION, epilog=EXAMPLES, formatter_class=form
     )
     plan.add_argument("files", nargs="+", metavar="FILE", help="a table of plots; - for standard input")
-    plan.add_argument("--plots", action="append", metavar="NAMES", help="the plot columns, with commas between")
-    plan.add_argument("--treatments", action="append", metavar="NAMES", help="the treatments, with commas between")
-    plan.add_argument(
-        "--nested", action="append", default=[], metavar="CHILD/PARENT",
-        help="the child's numbers start again in each parent; may be repeated",
-    )
+    _add_columns(plan)
     plan.add_argument(
         "--crossed", action="append", default=[], metavar="ONE,OTHER", help="the two do cross: no note about them"
     )
@@ -70,7 +71,23 @@ def parser() -> argparse.ArgumentParser:
     form_of_table.add_argument("--tsv", action="store_true", help="the table separated by tabs, for programs")
     form_of_table.add_argument("--json", action="store_true", help="everything as JSON, for programs")
     plan.add_argument("--quiet", action="store_true", help="no notes")
+    sheet_of = commands.add_parser(
+        "convert", help="print the sheet of a file, with consecutive numbers in place of those that start again",
+        description=CONVERSION,
+    )
+    sheet_of.add_argument("files", nargs=1, metavar="FILE", help="a table of plots; - for standard input")
+    _add_columns(sheet_of)
     return top
+
+
+def _add_columns(command: argparse.ArgumentParser) -> None:
+    """The arguments that say what the columns are."""
+    command.add_argument("--plots", action="append", metavar="NAMES", help="the plot columns, with commas between")
+    command.add_argument("--treatments", action="append", metavar="NAMES", help="the treatments, with commas between")
+    command.add_argument(
+        "--nested", action="append", default=[], metavar="CHILD/PARENT",
+        help="the child's numbers start again in each parent; may be repeated",
+    )
 
 
 def _names(parts: Optional[List[str]]) -> Optional[str]:
@@ -108,19 +125,31 @@ class Output:
 
 def _plan_table(given: Table, options: argparse.Namespace, output: Output) -> int:
     """Plans one table and answers the exit status."""
-    table = prepare(given, _names(options.plots), _names(options.treatments), options.nested)
+    try:
+        table = prepare(given, _names(options.plots), _names(options.treatments), options.nested, options.tsv)
+    except Refusal as refusal:
+        return _print_refusal(given, refusal, refusal.tsv(), options, output)
     crossed = _crossed(options.crossed, table) if table.columns else []
     if table.unused and not options.quiet:
         output.message(f"{table.source}: not used: {row_of(table.unused)}")
     try:
         plan = plan_of(table, options.k, strict=options.tsv)
     except Refusal as refusal:
-        _print_refusal(table, refusal, options, output)
-        return REFUSED
+        line = _printed(table) if options.tsv and options.k == library.INTERACTIONS else refusal.tsv()
+        return _print_refusal(table, refusal, line, options, output)
     notes = [] if options.quiet else notes_on(plan, crossed)
     _print_plan(plan, notes, options, output)
     for note in notes:
         _print_note(note, f"{table.source}: " if len(options.files) > 1 else "", output)
+    return TABLE_GIVEN
+
+
+def _convert_table(given: Table, options: argparse.Namespace, output: Output) -> int:
+    """Prints the sheet of one table and answers the exit status."""
+    try:
+        output.table(convert(given, plots=_names(options.plots), treatments=_names(options.treatments), nested=options.nested))
+    except Refusal as refusal:
+        return _tell_refusal(given, refusal, output)
     return TABLE_GIVEN
 
 
@@ -140,16 +169,19 @@ def _printed(table: Table) -> str:
     return library.skeleton(sheet(table, strict=True).text)[1].decode("ascii")
 
 
-def _print_refusal(table: Table, refusal: Refusal, options: argparse.Namespace, output: Output) -> None:
-    if options.tsv and options.k == library.INTERACTIONS:
-        output.table(_printed(table))
-    elif options.tsv:
-        names = (list(refusal.names) + ["-", "-"])[:2]
-        output.table(f"refused\t{refusal.number}\t{names[0]}\t{names[1]}\n")
+def _print_refusal(table: Table, refusal: Refusal, line: str, options: argparse.Namespace, output: Output) -> int:
+    """Prints a refusal, for programs by the rules' line, and answers the exit status."""
+    if options.tsv:
+        output.table(line)
     elif options.json:
         output.documents.append({"file": table.source, "refused": refusal_as_dictionary(refusal)})
+    return _tell_refusal(table, refusal, output)
+
+
+def _tell_refusal(table: Table, refusal: Refusal, output: Output) -> int:
     output.message(f"rachdoum: {table.source}: refused ({refusal.number}): {refusal.what}")
     output.message(f"  Remedy: {refusal.remedy[:1].upper()}{refusal.remedy[1:]}")
+    return REFUSED
 
 
 def _print_note(note: Note, heading: str, output: Output) -> None:
@@ -161,6 +193,7 @@ def _print_note(note: Note, heading: str, output: Output) -> None:
 
 def _run(options: argparse.Namespace, output: Output) -> int:
     status = TABLE_GIVEN
+    work = _plan_table if options.command == "plan" else _convert_table
     for path in options.files:
         try:
             table = read_file(path)
@@ -169,11 +202,11 @@ def _run(options: argparse.Namespace, output: Output) -> int:
             status = WRONG_CALL
             continue
         try:
-            status = max(status, _plan_table(table, options, output))
+            status = max(status, work(table, options, output))
         except (WrongCall, library.LibraryMissing) as error:
             output.message(f"rachdoum: {error}")
             return WRONG_CALL
-    if options.json and output.documents:
+    if output.documents:
         import json
 
         whole = output.documents[0] if len(options.files) == 1 else output.documents

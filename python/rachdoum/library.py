@@ -22,9 +22,11 @@ MEMBERS = 32
 INTERACTIONS = 6
 TEXT_BYTES = 32_768
 TABLE_BYTES = 32_768
+SHEET_BYTES = 32_768
 NAME_BYTES = 96
 NAME_LENGTHS = (2, 12)
 LEVEL = c_uint32
+HIGHEST_LEVEL = 2 ** (8 * ctypes.sizeof(LEVEL)) - 1
 LEVEL_CELLS = 2 * COLUMNS * PLOTS
 FAMILY_BYTES = MEMBERS * PLOTS
 
@@ -49,6 +51,7 @@ _SIGNATURES = {
     "strata": (_SLICE + [c_size_t]) * 2 + [c_size_t, POINTER(c_int64)],
     "name": _SLICE + _TABLE + _SLICE + [c_size_t] * 2 + [c_uint32, c_size_t] + _OUT + [POINTER(c_uint64)],
     "skeleton": _SLICE + _OUT + [POINTER(c_uint64)],
+    "convert": _SLICE + _OUT + [POINTER(c_uint64)],
 }
 
 
@@ -213,4 +216,17 @@ def skeleton(text: bytes) -> Tuple[int, bytes]:
     """
     out, answer = (c_uint8 * TABLE_BYTES)(), (c_uint64 * 1)()
     number = load().rachdoum_skeleton(text, len(text), out, TABLE_BYTES, answer)
+    return number, bytes(out)[: answer[0]]
+
+
+def convert(text: bytes) -> Tuple[int, bytes]:
+    """Converts a sheet numbered within parents (`p:Section/Bench`). Answers the number and the sheet, which is empty after a refusal.
+
+    >>> convert(b"p:Bench\\tp:Section/Bench\\n1\\t1\\n2\\t1\\n")
+    (0, b'p:Bench\\tp:Section\\n1\\t1\\n2\\t2\\n')
+    >>> convert(b"p:Section/Bench\\tp:Bench\\n1\\t1\\n2\\t1\\n")
+    (23, b'')
+    """
+    out, answer = (c_uint8 * SHEET_BYTES)(), (c_uint64 * 1)()
+    number = load().rachdoum_convert(text, len(text), out, SHEET_BYTES, answer)
     return number, bytes(out)[: answer[0]]

@@ -6,7 +6,7 @@ from typing import Iterable, List, Optional
 
 from .nesting import Pair, plural, starting_again, words
 from .planning import Plan, plan_of
-from .tables import nest, shown
+from .tables import WITHIN, Table, nest, shown
 
 MOST_TABLES = 3
 
@@ -36,7 +36,7 @@ def notes_on(plan: Plan, crossed: Iterable[Pair] = ()) -> List[Note]:
     >>> for note in notes_on(make(table)):
     ...     print(note.text)
     ...     print(note.option, "->", note.other.source("Gain").test)
-    Pier 1 is taken as one pier that both huts share. If these are different piers, number them consecutively or add --nested Pier/Hut.
+    Pier 1 is taken as one pier that both huts share. If these are different piers, number them consecutively, write p:Pier/Hut in the first line or add --nested Pier/Hut.
     --nested Pier/Hut -> 1 df of E
     """
     pairs = starting_again(plan.table, list(crossed))
@@ -50,8 +50,15 @@ def _note(plan: Plan, pair: Pair, whole: bool) -> Note:
     first = shown(table.cells(table.column(child))[0])
     parents = len(set(table.cells(table.column(parent))))
     all_of_them = "both" if parents == 2 else f"all {parents}"
+    ways = ", write p:{0} in the first line or add --nested {0}." if _may_be_written(table, pair) else " or add --nested {0}."
     text = (
         f"{child} {first} is taken as one {one} that {all_of_them} {plural(parent)[1]} share. If these are different "
-        f"{several}, number them consecutively or add --nested {words(pair)}."
+        f"{several}, number them consecutively{ways.format(words(pair))}"
     )
     return Note(child, parent, text, plan_of(nest(table, [pair]), plan.k) if whole else None)
+
+
+def _may_be_written(table: Table, pair: Pair) -> bool:
+    """Whether the child's title may name the parent: it stands further left, and the child has no parent yet."""
+    child, parent = (table.column(name) for name in pair)
+    return parent.place < child.place and not any(WITHIN in cell for cell in table.cells(child))

@@ -12,7 +12,7 @@ from typing import Any, List, Sequence, Tuple, Union
 from . import library, nesting, refusals
 from .refusals import Refusal
 from .sheets import read_table
-from .tables import Sheet, Table, choose, nest, sheet, slashes
+from .tables import Sheet, Table, choose, converted, nest, sheet, slashes
 
 Nested = Union[str, Sequence[Any]]
 MEAN = "U"
@@ -163,15 +163,28 @@ class Plan:
         return aligned(self).rstrip("\n")
 
 
-def prepare(table: Any, plots: Any = None, treatments: Any = None, nested: Nested = ()) -> Table:
-    """The table of whatever a caller has, with its kinds of columns, and nested columns converted."""
+def prepare(
+    table: Any, plots: Any = None, treatments: Any = None, nested: Nested = (), strict: bool = False
+) -> Table:
+    """The table of whatever a caller has, with its kinds of columns, and nested columns converted. A wrong parent is a `Refusal`."""
     read = read_table(table)
     if not read.columns:
         return read
-    chosen, pairs = slashes(choose(read, plots, treatments))
+    ready = _without_parents(slashes(choose(read, plots, treatments)), strict)
+    pairs = []
     for part in [nested] if isinstance(nested, str) else nested:
         pairs += nesting.parse(part) if isinstance(part, str) else [tuple(part)]
-    return nest(chosen, pairs) if pairs else chosen
+    return nest(ready, pairs) if pairs else ready
+
+
+def _without_parents(table: Table, strict: bool) -> Table:
+    """The table with the columns that have a parent as the library converts them."""
+    if all(column.parent is None for column in table.columns):
+        return table
+    number, text = library.convert(sheet(table, strict).text)
+    if number:
+        raise refusals.of_text(table, number, strict)
+    return converted(table, text)
 
 
 def plan(
@@ -398,5 +411,27 @@ def skeleton(table: Any, *, plots: Any = None, treatments: Any = None, nested: N
     >>> skeleton({"p:Hut": [1, 1, 1, 2, 2]})
     'refused\\t9\\tHut\\t-\\n'
     """
-    made = sheet(prepare(table, plots, treatments, nested), strict=True)
+    try:
+        made = sheet(prepare(table, plots, treatments, nested, strict=True), strict=True)
+    except Refusal as refusal:
+        return refusal.tsv()
     return library.skeleton(made.text)[1].decode("ascii")
+
+
+def convert(table: Any, *, plots: Any = None, treatments: Any = None, nested: Nested = ()) -> str:
+    """The sheet of a table as the rules have it: columns with a parent (`p:Section/Bench`), and nested ones, numbered consecutively.
+
+    Numbers of other columns stay as they are; where a column has texts, its levels are numbered.
+
+    >>> print(convert("p:Bench,p:Section/Bench\\n7,1\\n7,2\\n3,1\\n3,2\\n").replace("\\t", " "), end="")
+    p:Bench p:Section
+    7 1
+    7 2
+    3 3
+    3 4
+    """
+    ready = prepare(table, plots, treatments, nested, strict=True)
+    number, text = library.convert(sheet(ready, strict=True, keep=True).text)
+    if number:
+        raise refusals.of_text(ready, number, strict=True)
+    return text.decode("ascii")

@@ -39,6 +39,11 @@ class Refusal(Exception):
         self.places, self.names, self.line, self.column = tuple(places), tuple(names), line, column
         super().__init__(f"{source}: refused ({number}): {what} Remedy: {remedy}")
 
+    def tsv(self) -> str:
+        """The line that the rules print for it."""
+        first, second = (list(self.names) + ["-", "-"])[:2]
+        return f"refused\t{self.number}\t{first}\t{second}\n"
+
 
 class Member(NamedTuple):
     """A member at fault: its name as it is shown, the user's columns in it, and the class of each plot."""
@@ -62,14 +67,16 @@ def listed(names: Sequence[str]) -> str:
     return " and ".join([", ".join(names[:-1]), names[-1]] if len(names) > 1 else names)
 
 
-# The sheet's text: 2 to 5
+# The sheet's text: 2 to 5, and 23
 
 
 def of_text(table: Table, number: int, strict: bool) -> Refusal:
     """The refusal of a text, with the first place that breaks its form."""
     if table.fault:
         return Refusal(number, f"{table.fault[0]}.", f"{table.fault[1]}.", source=table.source)
-    finders = {2: (_empty, _many_plots, _titles, _rows), 3: (_titles,), 4: (_rows,)}.get(number, (_no_plot, _many_plots))
+    finders = {
+        2: (_empty, _many_plots, _titles, _rows), 3: (_titles,), 4: (_rows,), 5: (_no_plot, _many_plots), 23: (_parents,),
+    }.get(number, ())
     for finder in finders:
         found = finder(table, number, strict)
         if found:
@@ -99,16 +106,21 @@ def _many_plots(table: Table, number: int, strict: bool) -> Optional[Refusal]:
 
 def _titles(table: Table, number: int, strict: bool) -> Optional[Refusal]:
     for column in table.columns:
-        fault = _title_fault(table, column, strict)
+        fault = _title_fault(table, column, strict) or _slash_fault(column, strict)
         if fault:
-            where = f"line {table.first_line}, field {column.place}" if table.first_line else f"column {column.place}"
-            line = table.first_line or None
-            return Refusal(number, f"{where}: {fault[0]}", fault[1], source=table.source, line=line, column=column.name)
+            return _of_title(table, number, column, fault)
     return None
 
 
+def _of_title(table: Table, number: int, column: Column, fault: Tuple[str, str]) -> Refusal:
+    """The refusal of a title: what is wrong with it, and what would be right."""
+    where = f"line {table.first_line}, field {column.place}" if table.first_line else f"column {column.place}"
+    line = table.first_line or None
+    return Refusal(number, f"{where}: {fault[0]}", fault[1], source=table.source, line=line, column=column.name)
+
+
 def _title_fault(table: Table, column: Column, strict: bool) -> Optional[Tuple[str, str]]:
-    """What is wrong with a column's title, and what would be right."""
+    """What is wrong with a column's name and kind, and what would be right."""
     name, before = quoted(column.name), [c for c in table.columns if c.place < column.place]
     if not column.name:
         return "a column has no name.", "give it a name, or take the column out."
@@ -120,13 +132,56 @@ def _title_fault(table: Table, column: Column, strict: bool) -> Optional[Tuple[s
         kind = "plot column" if column.kind == PLOT else "treatment"
         most = library.COLUMNS
         return f"{name} is {kind} number {most + 1}, and at most {most} are taken.", f"leave out a {kind}."
-    reason = cannot_be_shown(column.name)
+    return _name_fault(column.name, strict)
+
+
+def _name_fault(name: str, strict: bool) -> Optional[Tuple[str, str]]:
+    """What is wrong with a name, and what would be right."""
+    reason = cannot_be_shown(name)
     if reason:
-        return f"{name} cannot be a name: {reason}.", "rename the column."
-    if strict and not rules_take(column.name):
+        return f"{quoted(name)} cannot be a name: {reason}.", "rename the column."
+    if strict and not rules_take(name):
         remedy = "rename the column; without --tsv the table is printed with the names as they are."
-        return f"{name} cannot stand in this form of the table: {NAME_FORM}.", remedy
+        return f"{quoted(name)} cannot stand in this form of the table: {NAME_FORM}.", remedy
     return None
+
+
+def _slash_fault(column: Column, strict: bool) -> Optional[Tuple[str, str]]:
+    """What is wrong with the part after a slash, and what would be right."""
+    if column.parent is None:
+        return None
+    title = quoted(f"{column.name}/{column.parent}")
+    if not column.parent:
+        return f"{title} names no column after the slash.", f"write p:{brief(column.name)}, or name the parent, such as p:Pier/Hut."
+    if "/" in column.parent:
+        parent = brief(column.parent.split("/")[0].strip())
+        return f"{title} has two slashes.", f"write p:{brief(column.name)}/{parent}; the parent may have one of its own."
+    return _name_fault(column.parent, strict)
+
+
+def _parents(table: Table, number: int, strict: bool) -> Optional[Refusal]:
+    for column in table.columns:
+        left = [c.name for c in table.of_kind(PLOT) if c.place < column.place]
+        if column.parent is not None and column.parent not in left:
+            return _of_title(table, number, column, _parent_fault(table, column, left))
+    return None
+
+
+def _parent_fault(table: Table, column: Column, left: Sequence[str]) -> Tuple[str, str]:
+    """What is wrong with a parent that is no plot column further left, and what would be right."""
+    name, parent = brief(column.name), brief(column.parent or "")
+    title = quoted(f"{column.name}/{column.parent}")
+    choice = f"name a plot column to its left ({row_of(left)})" if left else "put the plot column that it lies in to its left"
+    other = f"{choice}, or write p:{name} if its numbers do not start again."
+    if column.parent == column.name:
+        return f"{title} is numbered anew in itself.", other
+    kind = next((c.kind for c in table.columns if c.name == column.parent), "")
+    if kind == TREATMENT:
+        return f"{title} is numbered anew in {parent}, which is a treatment.", other
+    if kind == PLOT:
+        remedy = f"put the column {parent} to the left of {name}; or write p:{name} and add --nested {name}/{parent}, which takes any order."
+        return f"{title} is numbered anew in {parent}, which stands to its right.", remedy
+    return f"{title} is numbered anew in {parent}, and there is no such plot column.", other
 
 
 def _no_kind(table: Table, column: Column) -> Tuple[str, str]:

@@ -31,11 +31,15 @@ class WrongCall(ValueError):
 
 @dataclass(frozen=True)
 class Column:
-    """A column: the user's name without its mark, its kind, and its place in the user's table (from 1)."""
+    """A column: the user's name without its mark, its kind, its place in the user's table (from 1), and its parent.
+
+    A plot column with a parent (`p:Pier/Hut`) is numbered anew in each of the parent's levels.
+    """
 
     name: str
     kind: str
     place: int
+    parent: Optional[str] = None
 
 
 @dataclass(frozen=True)
@@ -152,17 +156,47 @@ def choose(table: Table, plots: Any = None, treatments: Any = None) -> Table:
     return replace(table, columns=tuple(c for c in marked if c.kind), unused=unused, given=table.width())
 
 
-def slashes(table: Table) -> Tuple[Table, List[Tuple[str, str]]]:
-    """Takes `Pier/Hut` in the name of a plot column as Pier nested in Hut, where there is a plot column Hut."""
-    names = {column.name.split("/")[0] for column in table.of_kind(PLOT)}
-    columns, pairs = [], []
+def slashes(table: Table) -> Table:
+    """Takes `Pier/Hut` in the title of a plot column as the column Pier with the parent Hut.
+
+    >>> table = slashes(Table("t", columns_of(["p:Hut", "p:Pier/Hut", "t:km/h"]), ()))
+    >>> [(column.name, column.parent) for column in table.columns]
+    [('Hut', None), ('Pier', 'Hut'), ('km/h', None)]
+    """
+    columns = []
     for column in table.columns:
-        child, _, parent = column.name.partition("/")
-        if column.kind == PLOT and child and parent in names and child != parent:
-            pairs.append((child, parent))
-            column = replace(column, name=child)
+        if column.kind == PLOT and "/" in column.name:
+            child, _, parent = column.name.partition("/")
+            column = replace(column, name=child.strip(), parent=parent.strip())
         columns.append(column)
-    return replace(table, columns=tuple(columns)), pairs
+    return replace(table, columns=tuple(columns))
+
+
+def converted(table: Table, text: bytes) -> Table:
+    """The table with the levels of a converted sheet, and no column with a parent.
+
+    A level is called by what its first plot has: the column's own level in that of the parent.
+
+    >>> table = slashes(Table("t", columns_of(["p:Hut", "p:Pier/Hut"]), (("a", "1"), ("b", "1"), ("a", "1"))))
+    >>> [shown(row[1]) for row in converted(table, b"p:Hut\\tp:Pier\\n1\\t1\\n2\\t2\\n1\\t1\\n").rows]
+    ['1 in Hut a', '1 in Hut b', '1 in Hut a']
+    """
+    levels = [line.split("\t") for line in text.decode("ascii").splitlines()[1:]]
+    rows = [list(row) for row in table.rows]
+    for place, column in enumerate(table.columns):
+        if column.parent is not None:
+            parent = table.column(column.parent)
+            words: Dict[str, str] = {}
+            for row, fields in zip(rows, levels):
+                own = _within(row[column.place - 1], parent, row[parent.place - 1])
+                row[column.place - 1] = words.setdefault(fields[place], own)
+    columns = tuple(replace(column, parent=None) for column in table.columns)
+    return replace(table, columns=columns, rows=tuple(tuple(row) for row in rows))
+
+
+def _within(own: str, parent: Column, above: str) -> str:
+    """A level that is counted within a level of the parent."""
+    return f"{own}{WITHIN}{parent.name} {above}"
 
 
 def _parents(table: Table, pairs: Iterable[Tuple[str, str]]) -> Dict[str, List[str]]:
@@ -210,7 +244,7 @@ def _combine(rows: List[List[str]], child: Column, parent: Column) -> None:
         if max(child.place, parent.place) <= len(row):
             own, above = row[child.place - 1], row[parent.place - 1]
             if not is_missing(own) and not is_missing(above):
-                row[child.place - 1] = f"{own}{WITHIN}{parent.name} {above}"
+                row[child.place - 1] = _within(own, parent, above)
 
 
 def shown(cell: str) -> str:
@@ -262,16 +296,27 @@ class Sheet:
         return f"{name[:2]}{','.join(self.own.get(part, part) for part in name[2:-1].split(','))})"
 
 
-def _handed_names(table: Table, strict: bool) -> List[str]:
-    """A name for each column that the rules take, where the user's can be shown; a name with a fault stays as it is."""
+def _handed_names(table: Table, strict: bool) -> Dict[str, str]:
+    """For each name of a column or a parent one that the rules take, if the user's can be shown; a name with a fault stays as it is."""
     names = [column.name for column in table.columns]
+    unmarked = [column.name for column in table.columns if not column.kind]
+    parents = [column.parent for column in table.columns if column.parent is not None]
+    handed = {name: name for name in names + parents}
     if strict or len(names) > 2 * library.COLUMNS:
-        return names
-    free = (f"Column{i}" for i in range(1, 4 * library.COLUMNS + 1) if f"Column{i}" not in names)
-    return [
-        next(free) if column.kind and not _is_fit(column.name) and names.count(column.name) == 1 else column.name
-        for column in table.columns
-    ]
+        return handed
+    free = (f"Column{i}" for i in range(1, 4 * library.COLUMNS + 1) if f"Column{i}" not in names + parents)
+    for name in handed:
+        if not _is_fit(name) and names.count(name) <= 1 and name not in unmarked:
+            handed[name] = next(free)
+    return handed
+
+
+def _title(column: Column, handed: Dict[str, str]) -> str:
+    """A column's title in the form of the rules. A parent with a slash of its own stays as it is: the library refuses it."""
+    mark = f"{column.kind}:" if column.kind else ""
+    if column.parent is None:
+        return mark + handed[column.name]
+    return f"{mark}{handed[column.name]}/{column.parent if '/' in column.parent else handed[column.parent]}"
 
 
 def _is_fit(name: str) -> bool:
@@ -279,28 +324,43 @@ def _is_fit(name: str) -> bool:
     return rules_take(name) or bool(cannot_be_shown(name))
 
 
-def sheet(table: Table, strict: bool = False) -> Sheet:
+def sheet(table: Table, strict: bool = False, keep: bool = False) -> Sheet:
     """The sheet of a table, in the form of the rules: labels by first appearance, 0 for a missing level.
 
-    A name that the rules do not take gets one that they do; with `strict` it stays, and the library refuses the sheet.
+    A name that the rules do not take gets one that they do; with `strict` it stays, and the library refuses the sheet. With `keep` a
+    column whose levels are all numbers that the rules take has these.
 
     >>> table = Table("t", columns_of(["p:Hut", "t:Gain setting"]), (("north", "10"), ("south", "20")))
     >>> sheet(table).text, sheet(table).own
     (b'p:Hut\\tt:Column1\\n1\\t1\\n2\\t2\\n', {'Column1': 'Gain setting'})
+    >>> sheet(table, keep=True).text
+    b'p:Hut\\tt:Column1\\n1\\t10\\n2\\t20\\n'
     """
     if table.raw is not None:
         return Sheet(table.raw)
     if not table.columns and not table.rows:
         return Sheet(b"")
-    names = _handed_names(table, strict)
-    titles = [f"{column.kind}:{name}" if column.kind else name for column, name in zip(table.columns, names)]
-    lines = ["\t".join(titles)] + _labelled(table)
-    own = {name: column.name for column, name in zip(table.columns, names) if name != column.name}
+    handed = _handed_names(table, strict)
+    lines = ["\t".join(_title(column, handed) for column in table.columns)] + _labelled(table, keep)
+    own = {handed[column.name]: column.name for column in table.columns if handed[column.name] != column.name}
     return Sheet(("\n".join(lines) + "\n").encode("utf-8", "replace"), own)
 
 
-def _labelled(table: Table) -> List[str]:
-    labels: List[Dict[str, str]] = [{} for _ in table.columns]
+def _is_level(cell: str) -> bool:
+    """Whether the rules take a level as it is: a whole number without leading zeros, and not too high."""
+    digits = cell.isascii() and cell.isdigit() and cell[0] != "0" and len(cell) <= len(str(library.HIGHEST_LEVEL))
+    return digits and int(cell) <= library.HIGHEST_LEVEL
+
+
+def _own_labels(table: Table, column: Column) -> Dict[str, str]:
+    """Each level of a column by itself, where all of them are numbers that the rules take."""
+    cells = {row[column.place - 1] for row in table.rows if column.place <= len(row)}
+    levels = [cell for cell in cells if not is_missing(cell)]
+    return {cell: cell for cell in levels} if all(_is_level(cell) for cell in levels) else {}
+
+
+def _labelled(table: Table, keep: bool) -> List[str]:
+    labels = [_own_labels(table, column) if keep else {} for column in table.columns]
     places = [column.place - 1 for column in table.columns]
     lines = []
     for row in table.rows:
