@@ -3,7 +3,7 @@
 use crate::random::Random;
 use crate::sheet::{damage_text, fill, sheet_text};
 use crate::trial::trial_with_columns;
-use reference::TEXT;
+use reference::{PLOTS, TEXT};
 
 /// A sheet, a damaged one, or scribbled bytes.
 pub fn text(random: &mut Random) -> Vec<u8> {
@@ -15,8 +15,10 @@ pub fn text(random: &mut Random) -> Vec<u8> {
     if !random.once_in(12) {
         put_parents(random, &mut text);
     }
-    if random.once_in(30) {
-        to_the_limit(random, &mut text);
+    match random.below(40) {
+        0 => to_the_limit(random, &mut text),
+        1 | 2 => other_count(random, &mut text),
+        _ => (),
     }
     if random.once_in(8) {
         damage_title(random, &mut text);
@@ -37,7 +39,7 @@ fn put_titles(text: &mut Vec<u8>, titles: &[String]) {
     text.splice(..end, titles.join("\t").into_bytes());
 }
 
-/// Gives plot columns a parent: some or, now and then, each that has one to its left. Mostly it is one of these, so that there are chains.
+/// Gives plot columns a parent: some, or each that has one to its left. Mostly it is one of these, so that there are chains.
 fn put_parents(random: &mut Random, text: &mut Vec<u8>) {
     let mut titles = titles(text);
     let names: Vec<String> = titles.iter().map(|title| title.chars().skip(2).collect()).collect();
@@ -47,7 +49,7 @@ fn put_parents(random: &mut Random, text: &mut Vec<u8>) {
         if !titles[field].starts_with('p') || !(all || random.once_in(2)) {
             continue;
         }
-        let parent = match random.below(40) {
+        let parent = match random.below(30) {
             0 => random.pick(&names),
             1 => random.pick(&["Nobody", "Hu", "Hutt", "hut", "Longestname2"]).to_string(),
             _ if left.is_empty() => continue,
@@ -59,10 +61,23 @@ fn put_parents(random: &mut Random, text: &mut Vec<u8>) {
     put_titles(text, &titles);
 }
 
+/// The plot lines of a text.
+fn lines(text: &[u8]) -> &[u8] {
+    let line = text.iter().position(|&byte| byte == 10).map_or(text.len(), |end| end + 1);
+    &text[line..]
+}
+
+/// Another number of plots: none, or the same plots again and again until there are as many as there may be, or a few less or more.
+fn other_count(random: &mut Random, text: &mut Vec<u8>) {
+    let each: Vec<Vec<u8>> = lines(text).split_inclusive(|&byte| byte == 10).map(<[u8]>::to_vec).collect();
+    let wanted = random.pick(&[0, PLOTS - 1, PLOTS, PLOTS + 1, PLOTS + 1, PLOTS + 2]);
+    text.truncate(text.len() - lines(text).len());
+    text.extend(each.iter().cycle().take(if each.is_empty() { 0 } else { wanted }).flatten());
+}
+
 /// Adds plot lines until the text, with its parents or but for them, has as many bytes as it may have, or a few less or more.
 fn to_the_limit(random: &mut Random, text: &mut Vec<u8>) {
-    let line = text.iter().position(|&byte| byte == 10).map_or(text.len(), |end| end + 1);
-    let lines = text[line..].to_vec();
+    let lines = lines(text).to_vec();
     let slash_parts: usize = titles(text).iter().filter_map(|title| title.find('/').map(|at| title.len() - at)).sum();
     let more = if random.once_in(2) { slash_parts } else { 0 };
     if !lines.is_empty() {

@@ -183,7 +183,7 @@ pub mod library {
         if sheet.len() != SHEET - 1 {
             return (LIBRARY.convert)(old, sheet);
         }
-        let mut longer = [sheet, &[0]].concat();
+        let mut longer = [&sheet[..], &[0]].concat();
         let found = (LIBRARY.convert)(old, &mut longer);
         sheet.copy_from_slice(&longer[..SHEET - 1]);
         found
