@@ -141,8 +141,7 @@ def _name_fault(name: str, strict: bool) -> Optional[Tuple[str, str]]:
     if reason:
         return f"{quoted(name)} cannot be a name: {reason}.", "rename the column."
     if strict and not rules_take(name):
-        remedy = "rename the column; without --tsv the table is printed with the names as they are."
-        return f"{quoted(name)} cannot stand in this form of the table: {NAME_FORM}.", remedy
+        return f"{quoted(name)} is no name of the rules: {NAME_FORM}.", "rename the column; plan without --tsv takes any name."
     return None
 
 

@@ -134,10 +134,18 @@ def _listed(names: Any) -> List[str]:
     return [split_mark(part.strip())[1] for part in parts if part.strip()]
 
 
+def _named(table: Table, name: str) -> Column:
+    """The column of a name or, where there is none, the one whose name has this before its slash."""
+    known = any(column.name == name for column in table.columns)
+    before = [column for column in table.columns if column.name.partition("/")[0].strip() == name]
+    return before[0] if not known and len(before) == 1 else table.column(name)
+
+
 def choose(table: Table, plots: Any = None, treatments: Any = None) -> Table:
     """The table with the columns that are named as plots and as treatments.
 
-    A column that is not named keeps its mark; one without a mark is left out. Without any name the table stays as it is.
+    A column that is not named keeps its mark; one without a mark is left out. Without any name the table stays as it is. Of a name with
+    a slash the part before it is enough.
 
     >>> table = Table("t", columns_of(["Hut", "Gain", "Note"]), (("1", "2", "x"),))
     >>> [(c.name, c.kind) for c in choose(table, "Hut", ["Gain"]).columns]
@@ -145,8 +153,8 @@ def choose(table: Table, plots: Any = None, treatments: Any = None) -> Table:
     """
     kinds: Dict[str, str] = {}
     for kind, names in ((PLOT, _listed(plots)), (TREATMENT, _listed(treatments))):
-        for name in names:
-            table.column(name)
+        for given in names:
+            name = _named(table, given).name
             if kinds.setdefault(name, kind) != kind:
                 raise WrongCall(f"column {name!r} is named as a plot column and as a treatment")
     if not kinds:

@@ -1,6 +1,5 @@
 """What the tests share: the command run inside this process, and random designs."""
 import contextlib
-import ctypes
 import io
 import os
 import random
@@ -11,7 +10,6 @@ from rachdoum.command import main
 
 ROOT = os.path.dirname(os.path.dirname(os.path.dirname(os.path.abspath(__file__))))
 EXAMPLES = os.path.join(ROOT, "examples")
-HIGHEST_LEVEL = 2 ** (8 * ctypes.sizeof(library.LEVEL)) - 1
 
 
 class _Stream(io.TextIOWrapper):
@@ -112,6 +110,19 @@ def design(seed):
 def _numbered(chance, column):
     """A column with its labels replaced by different whole numbers: any that a level can be, or some that lie 65,536 apart."""
     labels = sorted(set(column))
-    levels = range(1, HIGHEST_LEVEL + 1) if chance.random() < 0.5 else range(chance.randint(1, 65536), HIGHEST_LEVEL + 1, 65536)
+    levels = range(1, library.HIGHEST_LEVEL + 1) if chance.random() < 0.5 else range(chance.randint(1, 65536), library.HIGHEST_LEVEL + 1, 65536)
     numbers = chance.sample(levels, len(labels))
     return [dict(zip(labels, numbers))[label] for label in column]
+
+
+def with_parents(seed, titles):
+    """The titles with a parent for some plot columns: mostly one further left, now and then any column or none of them."""
+    chance, made = random.Random(seed), []
+    for place, title in enumerate(titles):
+        left = [other[2:] for other in titles[:place] if other.startswith("p:")]
+        if title.startswith("p:") and chance.random() < 0.8:
+            others = [other[2:] for other in titles] + ["Nobody"]
+            parent = chance.choice(others if chance.random() < 0.1 else left or [""])
+            title += f"/{parent}" if parent else ""
+        made.append(title)
+    return made

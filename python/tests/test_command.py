@@ -37,8 +37,8 @@ E        Gain       2  4 df of E
 all      total      9
 """
 NOTE = (
-    "note: Pier 1 is taken as one pier that all 3 huts share. If these are different piers, number them consecutively or add "
-    "--nested Pier/Hut. (--crossed Pier,Hut leaves this note out.)\n  With --nested Pier/Hut the table is:\n"
+    "note: Pier 1 is taken as one pier that all 3 huts share. If these are different piers, number them consecutively, write "
+    "p:Pier/Hut in the first line or add --nested Pier/Hut. (--crossed Pier,Hut leaves this note out.)\n  With --nested Pier/Hut the table is:\n"
     + "".join(f"    {line}\n" for line in NESTED_TABLE.decode().splitlines())
 )
 
@@ -218,7 +218,16 @@ class Notes(unittest.TestCase):
 
     def test_the_slower_column_is_the_parent(self):
         data = b"p:Pier,p:Hut\n" + b"".join(b"%d,%d\n" % (pier, hut) for hut in (1, 2, 3) for pier in (1, 2, 3))
-        self.assertIn("note: Pier 1 is taken as one pier that all 3 huts share.", run("plan", "-", data=data)[2])
+        err = run("plan", "-", data=data)[2]
+        self.assertIn("note: Pier 1 is taken as one pier that all 3 huts share.", err)
+        self.assertIn("different piers, number them consecutively or add --nested Pier/Hut.", err)
+
+    def test_a_column_that_has_a_parent_already(self):
+        rows = [(hut, pier, week) for hut in (1, 2) for pier in (1, 2) for week in (1, 2)]
+        data = b"p:Hut,p:Pier/Hut,p:Week\n" + b"".join(b"%d,%d,%d\n" % row for row in rows)
+        err = run("plan", "-", data=data)[2]
+        self.assertIn("write p:Week/Pier in the first line or add --nested Week/Pier.", err)
+        self.assertNotIn("p:Pier/", err)
 
     def test_combinations_with_a_column_of_their_own(self):
         err = run("plan", os.path.join(EXAMPLES, "example-4.sheet"))[2]
@@ -248,6 +257,68 @@ class Notes(unittest.TestCase):
     def test_columns_that_are_not_used(self):
         err = run("plan", "-", "--plots", "Hut", "--treatments", "Gain", data=LATIN)[2]
         self.assertEqual(err, "standard input: not used: Pier\n")
+
+
+class Parents(unittest.TestCase):
+    """Numbers that start again, told by the first line."""
+
+    OLD = os.path.join(EXAMPLES, "sections.old")
+    LATIN = LATIN.replace(b"Hut,Pier,Gain", b"p:Hut,p:Pier/Hut,t:Gain")
+    RIGHT = b"p:Pier/Hut,p:Hut,t:Gain\n1,1,1\n2,1,2\n1,2,2\n2,2,1\n"
+
+    def test_the_other_reading(self):
+        self.assertEqual(run("plan", "-", data=self.LATIN), (0, NESTED_TABLE, ""))
+        self.assertEqual(run("plan", "-", *KINDS, data=self.LATIN), (0, NESTED_TABLE, ""))
+
+    def test_the_rules_table(self):
+        self.assertEqual(run("plan", "--tsv", self.OLD), (0, bytes_of(os.path.join(EXAMPLES, "sections.table")), ""))
+        path = os.path.join(EXAMPLES, "refused-23.old")
+        status, out, err = run("plan", "--tsv", path)
+        self.assertEqual((status, out), (1, bytes_of(os.path.join(EXAMPLES, "refused-23.table"))))
+        self.assertIn(f"{path}: refused (23): line 1, field 1: ", err)
+
+    def test_a_refusal_of_the_converted_sheet(self):
+        data = b"p:Hut,p:Pier/Hut,t:Gain\n1,1,1\n1,2,1\n2,1,1\n2,2,2\n2,2,2\n"
+        self.assertEqual(run("plan", "--tsv", "-", data=data)[:2], (1, b"refused\t9\tHut\t-\n"))
+
+    def test_a_name_that_the_rules_do_not_take(self):
+        data = b"p:A,p:Pier no./A,t:Gain\n1,1,1\n1,2,2\n2,1,2\n2,2,1\n"
+        self.assertEqual(run("plan", "--tsv", "-", data=data)[:2], (1, b"refused\t3\t-\t-\n"))
+        self.assertEqual(run("plan", "-", data=data)[::2], (0, ""))
+
+    def test_a_refusal_as_json(self):
+        status, out, err = run("plan", "--json", "-", data=self.RIGHT)
+        refused = json.loads(out)["refused"]
+        self.assertEqual((status, refused["number"], refused["line"], refused["column"]), (1, 23, 1, "Pier"))
+
+    def test_the_remedy_for_a_parent_to_the_right(self):
+        self.assertEqual(run("plan", "-", data=self.RIGHT)[0], 1)
+        self.assertEqual(run("plan", "-", "--nested", "Pier/Hut", data=self.RIGHT.replace(b"/Hut", b""))[0], 0)
+
+    def test_convert(self):
+        new = bytes_of(os.path.join(EXAMPLES, "sections.sheet"))
+        self.assertEqual(run("convert", self.OLD), (0, new, ""))
+        self.assertEqual(run("convert", "-", data=new), (0, new, ""))
+        self.assertEqual(run("plan", "--tsv", "-", data=new)[:2], (0, bytes_of(os.path.join(EXAMPLES, "sections.table"))))
+
+    def test_convert_with_options(self):
+        expected = b"p:Hut\tp:Pier\tt:Gain\n1\t1\t1\n1\t2\t2\n1\t3\t3\n2\t4\t2\n2\t5\t3\n2\t6\t1\n3\t7\t3\n3\t8\t1\n3\t9\t2\n"
+        self.assertEqual(run("convert", "-", *KINDS, "--nested", "Pier/Hut", data=LATIN), (0, expected, ""))
+        self.assertEqual(run("convert", "-", data=self.LATIN), (0, expected, ""))
+
+    def test_convert_refuses(self):
+        for data, number in (
+            (b"", 2), (b"p:Hut,p:Pier no.\n1,1\n", 3), (b"p:Hut,t:Gain/Hut\n1,1\n", 3), (b"p:Hut\n0\n", 4), (b"p:Hut\n", 5), (self.RIGHT, 23),
+        ):
+            status, out, err = run("convert", "-", data=data)
+            self.assertEqual((status, out), (1, b""))
+            self.assertTrue(err.startswith(f"rachdoum: standard input: refused ({number}): "), err)
+
+    def test_each_example_as_the_library_converts_it(self):
+        for path in sorted(glob.glob(os.path.join(EXAMPLES, "*.sheet")) + glob.glob(os.path.join(EXAMPLES, "*.old"))):
+            with self.subTest(os.path.basename(path)):
+                number, expected = library.convert(bytes_of(path))
+                self.assertEqual(run("convert", path)[:2], (int(number > 0), expected))
 
 
 class Documents(unittest.TestCase):
@@ -306,6 +377,9 @@ class WrongCalls(unittest.TestCase):
         self.refuses(message="required: COMMAND")
         self.refuses("plan", message="required: FILE")
         self.refuses("plot", message="invalid choice: 'plot'")
+        self.refuses("convert", message="required: FILE")
+        self.refuses("convert", "-", "--tsv", message="unrecognized arguments: --tsv")
+        self.refuses("convert", "/nowhere", message="rachdoum: /nowhere: No such file or directory")
         self.refuses("plan", "-", "--k", "7", message="argument --k: invalid choice: 7")
         self.refuses("plan", "-", "--tsv", "--json", message="not allowed with argument")
         self.refuses("plan", "/nowhere", message="rachdoum: /nowhere: No such file or directory")

@@ -86,8 +86,45 @@ FILES = {
     ),
     "a name with a blank, for the table of the rules": (
         b"p:Hut,t:Gain setting\n1,1\n1,2\n", ["--tsv"], 3,
-        f"line 1, field 2: `Gain setting` cannot stand in this form of the table: {FORM}.",
-        "Rename the column; without --tsv the table is printed with the names as they are.",
+        f"line 1, field 2: `Gain setting` is no name of the rules: {FORM}.",
+        "Rename the column; plan without --tsv takes any name.",
+    ),
+    "nothing after a slash": (
+        b"p:Hut,p:Pier/\n1,1\n1,2\n", [], 3, "line 1, field 2: `Pier/` names no column after the slash.",
+        "Write p:Pier, or name the parent, such as p:Pier/Hut.",
+    ),
+    "two slashes": (
+        b"p:Hut,p:Pier/Hut,p:Sensor/Pier/Hut\n1,1,1\n", [], 3, "line 1, field 3: `Sensor/Pier/Hut` has two slashes.",
+        "Write p:Sensor/Pier; the parent may have one of its own.",
+    ),
+    "two columns with one name before the slash": (
+        b"p:Hut,p:Pier/Hut,p:Pier\n1,1,1\n", [], 3, "line 1, field 3: two columns are called `Pier`.", "Rename one of them.",
+    ),
+    "a zero below a wrong parent": (
+        b"p:Pier/Hut,p:Hut\n1,1\n0,1\n", [], 4, "line 3, Pier: `0` stands for a missing level.", LEVEL,
+    ),
+    "241 plots below a wrong parent": (
+        table("p:Pier/Hut,p:Hut", ["1,1"] * 241), [], 5, "it has 241 plots, and at most 240 are taken.",
+        "Look whether each line is one plot; split a larger trial.",
+    ),
+    "a parent to the right": (
+        b"p:Pier/Hut,p:Hut\n1,1\n2,1\n1,2\n2,2\n", [], 23,
+        "line 1, field 1: `Pier/Hut` is numbered anew in Hut, which stands to its right.",
+        "Put the column Hut to the left of Pier; or write p:Pier and add --nested Pier/Hut, which takes any order.",
+    ),
+    "a parent that is a treatment": (
+        b"p:Hut,t:Gain,p:Pier/Gain\n1,1,1\n2,1,2\n", [], 23,
+        "line 1, field 3: `Pier/Gain` is numbered anew in Gain, which is a treatment.",
+        "Name a plot column to its left (Hut), or write p:Pier if its numbers do not start again.",
+    ),
+    "a column that is its own parent": (
+        b"p:Hut,p:Week,p:Pier/Pier\n1,1,1\n2,1,2\n", [], 23, "line 1, field 3: `Pier/Pier` is numbered anew in itself.",
+        "Name a plot column to its left (Hut, Week), or write p:Pier if its numbers do not start again.",
+    ),
+    "a parent that is not there": (
+        b"p:Pier/Hat,t:Gain\n1,1\n2,1\n", [], 23,
+        "line 1, field 1: `Pier/Hat` is numbered anew in Hat, and there is no such plot column.",
+        "Put the plot column that it lies in to its left, or write p:Pier if its numbers do not start again.",
     ),
     "a zero": (
         b"p:Hut,t:Cable\n1,1\n1,0\n2,1\n2,0\n", [], 4, "line 3, Cable: `0` stands for a missing level.", LEVEL,

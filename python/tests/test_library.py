@@ -85,6 +85,20 @@ class Entries(unittest.TestCase):
     def test_skeleton(self):
         self.assertEqual(library.skeleton(b"p:Hut\n1\n"), (0, b"stratum\tsource\tdf\nU\tU\t1\nU\t=total\t1\n=all\t=total\t1\n"))
 
+    def test_convert(self):
+        old = b"p:Hut\tt:Gain\tp:Pier/Hut\tp:Sensor/Pier\n7\t4294967295\t1\t1\n3\t1\t1\t1\n7\t1\t2\t1\n7\t1\t1\t1\n"
+        new = b"p:Hut\tt:Gain\tp:Pier\tp:Sensor\n7\t4294967295\t1\t1\n3\t1\t2\t2\n7\t1\t3\t3\n7\t1\t1\t1\n"
+        self.assertEqual(library.convert(old), (0, new))
+        self.assertEqual(library.convert(new), (0, new))
+        self.assertEqual(library.read_sheet(old)[0], 3)
+
+    def test_convert_refusals(self):
+        for text, number in [
+            (b"", 2), (b"x" * 32769, 2), (b"p:Hut\tt:Gain/Hut\n1\t1\n", 3), (b"p:Pier/Hut\n0\n", 4), (b"p:Pier/Hut\n", 5),
+            (b"p:Pier/Hut\n1\n", 23), (b"p:Pier/Hut\tp:Hut\n1\t1\n", 23), (b"t:Hut\tp:Pier/Hut\n1\t1\n", 23),
+        ]:
+            self.assertEqual(library.convert(text), (number, b""))
+
     def test_bytes_with_a_zero_in_them(self):
         self.assertEqual(library.skeleton(b"p:Hut\n1\0\n"), (0, b"refused\t4\t-\t-\n"))
 
@@ -102,7 +116,7 @@ class Header(unittest.TestCase):
         own = {
             "PLOTS": library.PLOTS, "COLUMNS": library.COLUMNS, "INTERACTION": library.INTERACTIONS, "MEMBERS": library.MEMBERS,
             "TEXT": library.TEXT_BYTES, "LEVELS": library.LEVEL_CELLS, "FAMILY": library.FAMILY_BYTES, "NAME": library.NAME_BYTES,
-            "TABLE": library.TABLE_BYTES,
+            "TABLE": library.TABLE_BYTES, "SHEET": library.SHEET_BYTES,
         }
         for name, number in re.findall(r"#define RACHDOUM_(\w+) (\d+)", self.text):
             self.assertEqual((name, int(number)), (name, own[name]))

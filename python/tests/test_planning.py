@@ -136,6 +136,16 @@ class Refusals(unittest.TestCase):
         table = [["p:Hut", "p:Pier"]] + [[1, 1], [1, 1], [1, 2], [2, 1], [2, 2], [2, 2]]
         refusal = self.refusal(table, nested="Pier/Hut")
         self.assertEqual(refusal.what, "Pier 1 in Hut 1 has 2 plots, Pier 2 in Hut 1 has 1.")
+        refusal = self.refusal([["p:Hut", "p:Pier/Hut"]] + table[1:])
+        self.assertEqual(refusal.what, "Pier 1 in Hut 1 has 2 plots, Pier 2 in Hut 1 has 1.")
+
+    def test_a_wrong_parent(self):
+        table = {"p:Pier/Hut": [1, 1], "p:Hut": [1, 2]}
+        refusal = self.refusal(table)
+        self.assertEqual((refusal.number, refusal.places, refusal.names, refusal.line, refusal.column), (23, (0, 0), (), None, "Pier"))
+        self.assertEqual(refusal.what, "column 1: `Pier/Hut` is numbered anew in Hut, which stands to its right.")
+        self.assertEqual(refusal.tsv(), "refused\t23\t-\t-\n")
+        self.assertEqual(rachdoum.skeleton(table), "refused\t23\t-\t-\n")
 
 
 class Entries(unittest.TestCase):
@@ -167,6 +177,16 @@ class Entries(unittest.TestCase):
         with self.assertRaises(Refusal) as caught:
             rachdoum.plot_design({"p:Hut": [1, 1, 2], "t:Gain": [1, 2, 1]})
         self.assertEqual((caught.exception.number, caught.exception.names), (9, ("Hut",)))
+
+    def test_convert(self):
+        table = {"p:Hut": [7, 7, 3, 3], "p:Pier/Hut": ["a", "b", "a", "a"], "t:Gain": [10, 20, 20, 10]}
+        self.assertEqual(rachdoum.convert(table), "p:Hut\tp:Pier\tt:Gain\n7\t1\t10\n7\t2\t20\n3\t3\t20\n3\t3\t10\n")
+        nested = {"p:Hut": [7, 7, 3, 3], "p:Pier": [1, 2, 1, 1]}
+        self.assertEqual(rachdoum.convert(nested, nested="Pier/Hut"), "p:Hut\tp:Pier\n7\t1\n7\t2\n3\t3\n3\t3\n")
+        for wrong, number in (({}, 2), ({"p:A": [1]}, 3), ({"p:Hut": [0]}, 4), ({"p:Hut": []}, 5), ({"p:Pier/Hut": [1]}, 23)):
+            with self.assertRaises(Refusal) as caught:
+                rachdoum.convert(wrong)
+            self.assertEqual(caught.exception.number, number)
 
     def test_levels(self):
         levels = rachdoum.read_sheet({"Hut": ["n", "s"], "Gain": [5, 5]}, plots=["Hut"], treatments=["Gain"])

@@ -12,24 +12,24 @@ import unittest
 
 from rachdoum import library
 from rachdoum.groupings import uneven
-from support import design, run, sheet_bytes
+from support import design, run, sheet_bytes, with_parents
 
 DESIGNS = int(os.environ.get("RACHDOUM_DESIGNS", "2000"))
 SEED = int(os.environ.get("RACHDOUM_SEED", "1"))
 REFERENCE = os.environ.get("RACHDOUM_REFERENCE")
 
 
-def direct(text):
-    """The table by the entry itself, called with a declaration and memory of this test's own."""
-    entry = ctypes.CDLL(library._find()).rachdoum_skeleton
+def direct(text, name="skeleton"):
+    """What an entry prints, called with a declaration and memory of this test's own; for a refusal the line of it."""
+    entry = getattr(ctypes.CDLL(library._find()), f"rachdoum_{name}")
     entry.restype = ctypes.c_uint32
     out, length = (ctypes.c_ubyte * 32768)(), (ctypes.c_uint64 * 1)()
-    entry(ctypes.c_char_p(text), ctypes.c_size_t(len(text)), out, ctypes.c_size_t(32768), length)
-    return bytes(out)[: length[0]]
+    number = entry(ctypes.c_char_p(text), ctypes.c_size_t(len(text)), out, ctypes.c_size_t(32768), length)
+    return b"refused\t%d\t-\t-\n" % number if number else bytes(out)[: length[0]]
 
 
-def second_source(text):
-    return subprocess.run([REFERENCE, "--fast"], input=text, stdout=subprocess.PIPE, check=True).stdout
+def second_source(text, name="skeleton"):
+    return subprocess.run([REFERENCE, "--fast", name], input=text, stdout=subprocess.PIPE, check=True).stdout
 
 
 def as_csv(titles, rows):
@@ -103,6 +103,30 @@ class RandomDesigns(unittest.TestCase):
         self.assertGreaterEqual(self.tried, DESIGNS // 100)
         self.assertGreater(refused, DESIGNS // 10)
         self.assertGreater(DESIGNS - refused, DESIGNS // 10)
+
+
+class RandomParents(unittest.TestCase):
+    """Random designs with parents in the first line: the command prints the table of the converted sheet, and that sheet."""
+
+    def check(self, seed):
+        titles, rows = design(seed)
+        titles = with_parents(seed, titles)
+        text = sheet_bytes(titles, rows)
+        sheet = direct(text, "convert")
+        if REFERENCE:
+            self.assertEqual(second_source(text, "convert"), sheet, "the library and the second implementation differ")
+        refused = sheet.startswith(b"refused")
+        expected = sheet if refused else direct(sheet)
+        for data in (text, as_csv(titles, rows)):
+            status, out, err = run("plan", "--tsv", "--quiet", "-", data=data)
+            self.assertEqual((status, out), (int(expected.startswith(b"refused")), expected), err)
+        self.assertEqual(run("convert", "-", data=text)[:2], (1, b"") if refused else (0, sheet))
+        return refused, "/" in "".join(titles)
+
+    def test_designs(self):
+        seen = [self.check(seed) for seed in range(SEED, SEED + max(DESIGNS // 4, 50))]
+        self.assertGreater(sum(refused for refused, _ in seen), len(seen) // 50)
+        self.assertGreater(sum(parents and not refused for refused, parents in seen), len(seen) // 8)
 
 
 def orthogonal(first, second):

@@ -1,9 +1,9 @@
 """Reading: whatever way a trial is saved, it is the same trial."""
 import unittest
 
-from rachdoum import planning
+from rachdoum import library, planning
 from rachdoum.sheets import read_bytes, read_table
-from rachdoum.tables import WrongCall, choose, nest, sheet
+from rachdoum.tables import WrongCall, choose, converted, nest, sheet, shown, slashes
 from support import run
 
 TITLES = ["p:Hut", "p:Pier", "t:Gain"]
@@ -147,10 +147,66 @@ class Nesting(unittest.TestCase):
         with self.assertRaisesRegex(WrongCall, "only plot columns can be nested, and 'Gain' is none"):
             nest(read_bytes(SHEET), [("Gain", "Hut")])
 
-    def test_a_slash_in_the_first_line(self):
-        rows = [["p:Hut", "p:Pier/Hut"]] + [row[:2] for row in self.rows]
-        self.assertEqual(planning.plot_design(rows).names, ("U", "Hut", "Pier", "E"))
-        self.assertEqual(planning.plot_design([["p:Hut", "p:km/h"]] + rows[1:]).names, ("U", "Hut", "km/h", "I(Hut,km/h)", "E"))
+
+
+class Parents(unittest.TestCase):
+    """`p:Pier/Hut` in the first line: the library converts it."""
+
+    rows = Nesting.rows
+
+    def names(self, *titles, **options):
+        return planning.plot_design([list(titles)] + [row[: len(titles)] for row in self.rows], **options).names
+
+    def test_a_parent(self):
+        self.assertEqual(self.names("p:Hut", "p:Pier/Hut"), ("U", "Hut", "Pier", "E"))
+        self.assertEqual(self.names("p:Hut", "p: Pier / Hut"), ("U", "Hut", "Pier", "E"))
+
+    def test_a_chain(self):
+        self.assertEqual(self.names("p:Hut", "p:Pier/Hut", "p:Sensor/Pier"), ("U", "Hut", "Pier", "E"))
+        self.assertEqual(
+            self.names("p:Hut", "p:Pier", "p:Sensor/Pier"), ("U", "Hut", "Pier", "I(Hut,Pier)", "Sensor", "E")
+        )
+
+    def test_names_that_the_rules_do_not_take(self):
+        self.assertEqual(self.names("p:A", "p:Pier no./A", "p:Größe/Pier no."), ("U", "A", "Pier no.", "E"))
+        rows = [["p:A", "p:Pier no./A", "p:Column1/h"]] + self.rows
+        handed = sheet(slashes(read_table(rows))).text.split(b"\n")[0]
+        self.assertEqual(handed, b"p:Column2\tp:Column3/Column2\tp:Column1/Column4")
+
+    def test_a_parent_beside_the_option(self):
+        self.assertEqual(self.names("p:Hut", "p:Pier/Hut", "p:Sensor", nested="Sensor/Pier"), ("U", "Hut", "Pier", "E"))
+
+    def test_columns_named_in_the_call(self):
+        for titles in (("Hut", "Pier/Hut"), ("Hut", "p:Pier/Hut")):
+            for plots in ("Hut,Pier/Hut", "Hut,Pier", ["Pier", "Hut"]):
+                self.assertEqual(self.names(*titles, plots=plots), ("U", "Hut", "Pier", "E"))
+
+    def test_a_treatment_may_have_a_slash_in_its_name(self):
+        rows = [["p:Hut", "t:km/h"]] + [row[:2] for row in self.rows]
+        self.assertEqual(planning.plan(rows).source("km/h").test, "5 df of E")
+
+    def test_levels_in_a_message(self):
+        table = _converted([["p:Hut", "p:Pier/Hut", "p:Sensor/Pier"]] + self.rows)
+        self.assertEqual([shown(cell) for cell in table.rows[5]], ["b", "1 in Hut b", "y in Pier 1 in Hut b"])
+
+    def test_the_library_and_the_option_agree(self):
+        table = [["p:Hut", "p:Pier/Hut", "p:Sensor/Pier"]] + self.rows
+        nested = nest(Nesting.table, [("Pier", "Hut"), ("Sensor", "Pier")])
+        self.assertEqual(sheet(_converted(table)).text, sheet(nested).text)
+
+
+def _converted(table):
+    read = slashes(read_table(table))
+    return converted(read, library.convert(sheet(read).text)[1])
+
+
+class KeptLevels(unittest.TestCase):
+    def test_numbers_stay_and_texts_are_numbered(self):
+        table = read_bytes(b"p:Hut,p:Pier,t:Gain,t:Cable\n20417731,a,01,4294967295\n7,b,1,4294967296\n7,a,2,1\n")
+        self.assertEqual(sheet(table, keep=True).text.split(b"\n")[1:4], [b"20417731\t1\t1\t1", b"7\t2\t2\t2", b"7\t1\t3\t3"])
+
+    def test_a_missing_level_is_refused(self):
+        self.assertEqual(sheet(read_bytes(b"p:Hut\n5\nNA\n"), keep=True).text, b"p:Hut\n5\n0\n")
 
 
 if __name__ == "__main__":
