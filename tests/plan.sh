@@ -30,9 +30,9 @@ shown "$work/table" 'what ./plan prints'
 shown examples/huts.table 'what skeleton prints'
 
 count=0
-for sheet in examples/*.sheet; do
+for sheet in examples/*.sheet examples/*.old; do
   count=$((count + 1))
-  table=${sheet%.sheet}.table
+  table=${sheet%.*}.table
   ./plan --tsv "$sheet" >"$work/out" 2>"$work/err"
   status=$?
   if grep -q '^refused' "$table"; then
