@@ -19,7 +19,7 @@ pub struct Call {
     pub place: usize,
     /// The sizes of the families that are handed over.
     pub sizes: [usize; 2],
-    /// The lengths of what is lent for writing: level table, family, both families, name or table.
+    /// The lengths of what is lent for writing: level table, family, both families, name, table or sheet.
     pub lent: [usize; 2],
     pub text: Vec<u8>,
     pub levels: Vec<Level>,

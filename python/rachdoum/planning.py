@@ -171,7 +171,7 @@ def prepare(
     if not read.columns:
         return read
     ready = _without_parents(slashes(choose(read, plots, treatments)), strict)
-    pairs = []
+    pairs: List[nesting.Pair] = []
     for part in [nested] if isinstance(nested, str) else nested:
         pairs += nesting.parse(part) if isinstance(part, str) else [tuple(part)]
     return nest(ready, pairs) if pairs else ready

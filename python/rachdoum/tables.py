@@ -368,7 +368,7 @@ def _own_labels(table: Table, column: Column) -> Dict[str, str]:
 
 
 def _labelled(table: Table, keep: bool) -> List[str]:
-    labels = [_own_labels(table, column) if keep else {} for column in table.columns]
+    labels: List[Dict[str, str]] = [_own_labels(table, column) if keep else {} for column in table.columns]
     places = [column.place - 1 for column in table.columns]
     lines = []
     for row in table.rows:

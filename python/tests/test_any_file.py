@@ -62,6 +62,9 @@ LARGE = {
     "one marked name": b"p:" + b"x" * (MILLION - 2),
     "one name in many columns": b"p:A," * (MILLION // 4),
     "many names": b",".join(b"p:A %d" % number for number in range(90000)),
+    "many parents": b",".join(b"p:A%d/A %d" % (number, number) for number in range(60000)),
+    "one long parent": b"p:A/" + b"x" * (MILLION - 4),
+    "many slashes": b"p:A" + b"/" * (MILLION - 3),
     "many columns without a mark": b",".join(b"A%d" % number for number in range(90000)),
     "many plots": b"p:A,t:B\n" + b"1,2\n" * 200000,
     "many levels": b"p:A\n" + b"\n".join(b"%d" % number for number in range(1, 120000)),
@@ -82,23 +85,34 @@ class AnyFile(unittest.TestCase):
                     self.assertLess(len(err), 2000)
                     self.assertLess(time.process_time() - start, 10)
 
-    def test_no_traceback(self):
+    def ended(self, command, data, options):
+        """Runs a command on a file, looks at what it prints, and answers its exit status."""
+        status, out, err = run(command, "-", *options, data=data)
+        if status == 0:
+            self.assertTrue(out)
+        elif status == 1:
+            self.assertRegex(err, r"rachdoum: standard input: refused \(\d+\): .+\n  Remedy: .+\n$")
+        else:
+            self.assertRegex(err, r"rachdoum: .+\n$")
+            self.assertEqual(out, b"")
+        self.assertTrue(all(c.isprintable() or c == "\n" for c in err), err)
+        self.assertTrue(all(c.isprintable() or c in "\n\t" for c in out.decode("utf-8")), out)
+        return status
+
+    def no_traceback(self, command, files, choice):
         chance, known, seen = random.Random(SEED), list(sheets()), {0: 0, 1: 0, 2: 0}
-        for number in range(FILES):
-            data, options = anything(chance, known), chance.choice(OPTIONS)
+        for number in range(files):
+            data, options = anything(chance, known), chance.choice(choice)
             with self.subTest(number=number, data=data, options=options):
-                status, out, err = run("plan", "-", *options, data=data)
-                seen[status] += 1
-                if status == 0:
-                    self.assertTrue(out)
-                elif status == 1:
-                    self.assertRegex(err, r"rachdoum: standard input: refused \(\d+\): .+\n  Remedy: .+\n$")
-                else:
-                    self.assertRegex(err, r"rachdoum: .+\n$")
-                    self.assertEqual(out, b"")
-                self.assertTrue(all(c.isprintable() or c == "\n" for c in err), err)
-                self.assertTrue(all(c.isprintable() or c in "\n\t" for c in out.decode("utf-8")), out)
-        self.assertGreater(min(seen.values()), FILES // 100)
+                seen[self.ended(command, data, options)] += 1
+        self.assertGreater(min(seen.values()), files // 100)
+
+    def test_no_traceback(self):
+        self.no_traceback("plan", FILES, OPTIONS)
+
+    def test_no_traceback_of_convert(self):
+        columns = [options for options in OPTIONS if set(options[::2]) <= {"--plots", "--treatments", "--nested"}]
+        self.no_traceback("convert", FILES // 4, columns)
 
 
 if __name__ == "__main__":
