@@ -358,6 +358,11 @@ class Documents(unittest.TestCase):
             self.assertEqual((status, err), (0, ""))
             self.assertEqual(run("plan", "-", "--tsv", "--nested", "Pier/Hut", data=self.sheet(left)), (0, out, ""))
 
+    def test_examples(self):
+        blocks = self.document("docs", "EXAMPLES.md").split("```\n")[1::2]
+        for name in ("sample.sheet", "sample.table", "sections.old", "sections.sheet", "sections.table"):
+            self.assertIn(self.document("examples", name), blocks, name)
+
     def test_python_in_documents(self):
         for path, expected in ((("README.md",), "1 df of E"), (("docs", "COMMAND.md"), "2 df of E")):
             code = self.document(*path).split("```python\n")[1].split("```")[0]
