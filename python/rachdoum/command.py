@@ -35,7 +35,7 @@ tabs are told apart by themselves.
 examples:
   rachdoum plan trial.csv
   rachdoum plan trial.csv --plots Hut,Pier --treatments Gain
-  rachdoum plan trial.csv --nested Pier/Hut         the piers are numbered anew in each hut; so does p:Pier/Hut in the file
+  rachdoum plan trial.csv --nested Pier/Hut         the piers are numbered anew in each hut; p:Pier/Hut in the file says the same
   rachdoum plan trial.csv --crossed Row,Column      the rows are the same in every column: no note about it
   rachdoum plan trial.csv --tsv > trial.table       for programs: the table separated by tabs
   rachdoum plan --json one.csv two.csv
