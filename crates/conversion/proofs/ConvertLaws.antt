@@ -1,32 +1,31 @@
 -- Laws of converting a sheet that was read: the marks of its fields, its columns in the level table, and the text that is written.
 -- Assumes nothing.
 use mathlib.Core.Path.{_≡_, refl, sym, ap, ap₂, _∙_, subst}
-use mathlib.Core.Bool.{Bool, true, false}
-use mathlib.Core.List.{List, [], _∷_, _++_, map}
-use Prim.Native.Nat.{ℕ, suc, _+_, _-_, _*_, _≤_, _<_}
+use mathlib.Core.Bool.{true, false}
+use mathlib.Core.List.{List, [], _∷_}
+use Prim.Native.Nat.{ℕ, suc, _+_, _-_, _≤_, _<_}
 use native.Mathlib.Nat.{suc-inj, suc-ne-zero}
 use native.Mathlib.Omega.{arith}
-use lib.ListN.{length, getD, take, drop, replicate, length-take, length-map}
-use lib.Seq.{getD-take, length-take-le, take-at, take-append-le}
+use lib.ListN.{length, getD, take, replicate, length-take, length-map}
+use lib.Seq.{getD-take, take-at}
 use Rattle.rules.specs.Limits.{mostLevel, tableCells}
 use Rattle.rules.specs.Factor.{Column, infimum}
-use Rattle.rules.specs.Sheet.{newline, upTo, past, has, Field, plotMark, treatmentMark, isHeader, countKind, header, laterLines, columnsAfter, joined, question3, question4, read, reading, levelsAfter}
-use Rattle.rules.specs.SheetText.{sheetText, sheetColumns, tableColumns, SheetAnswer, noSheet}
+use Rattle.rules.specs.Sheet.{newline, upTo, past, has, Field, plotMark, treatmentMark, isHeader, countKind, header, laterLines, columnsAfter, joined, question3, question4, read, reading}
+use Rattle.rules.specs.SheetText.{sheetText, sheetColumns, tableColumns, noSheet}
 use Rattle.rules.specs.Parents.{slash, withoutParent, plainHeader, parentPlace, parentsLeft, question23, convertedColumns, convertedSheet, conversionFrom3}
 use Rattle.rules.proofs.Lists.{getD-map}
 use Rattle.rules.proofs.Numbering.{by-cases}
 use Rattle.rules.proofs.Sheet.{and-right, FirstLine, Accepts, length-columns, columns-differ, read-accepts, length-after, column-inside, kinds-all}
 use Rattle.rules.proofs.SheetText.{read-columns}
 use Rattle.rules.proofs.ReadSheets.{read-questions}
-use Rattle.rules.proofs.Parents.{Old, length-columns as length-sheet, length-Ds, parent-left, copied, within-parent, converted-length}
-use Rattle.factor.specs.Lent.{columnAt}
+use Rattle.rules.proofs.Parents.{Old, columns-length, length-Ds, parent-left, copied, within-parent, converted-length}
 use Rattle.sheet.specs.Answers.{padded, firstLine, headed}
 use Rattle.sheet.specs.declared.Counts.{Counts}
 use Rattle.sheet.specs.declared.header.Header.{Header}
 use Rattle.sheet.proofs.HeaderLaws.{headed-yes}
 use Rattle.writer.specs.Rows.{columnsAt, sheetBytes}
 use Rattle.writer.proofs.Rows.{sheet-bytes}
-use Rattle.conversion.specs.Plain.{plainText, parentMark, parentMarks, Formed, PlainRead}
+use Rattle.conversion.specs.Plain.{plainText, parentMark, parentMarks, PlainRead}
 use Rattle.conversion.specs.Table.{Within, Convertible, ConvertedTo}
 use Rattle.conversion.proofs.FirstLine.{mark-none, mark-place}
 use Rattle.conversion.proofs.PlainLaws.{plain-line, plain-header, plain-later, plain-columns, plain-4, plain-answers, answerAfter}
@@ -163,10 +162,10 @@ module _ (old plain : List ℕ) (counts : Counts) (levels : List ℕ) (outLength
 
       pub marks-within : Within marks (sheetColumns old) (convertedColumns old)
       marks-within = record {
-        size = length-Ds old is-old ∙ sym (length-sheet old);
-        copied = λ i h e. let k : i < length (header old) = rw (length-sheet old) at h in copied old is-old i k (no-parent i k e);
+        size = length-Ds old is-old ∙ sym (columns-length old);
+        copied = λ i h e. let k : i < length (header old) = rw (columns-length old) at h in copied old is-old i k (no-parent i k e);
         within = λ i j h e.
-            let k : i < length (header old) = rw (length-sheet old) at h in
+            let k : i < length (header old) = rw (columns-length old) at h in
             let w = with-parent i j k e in
             (subst (λ (m : ℕ). m < i) (w .1) (parent-left old is-old i k (w .0)), subst (λ (m : ℕ). getD (convertedColumns old) i [] ≡ infimum (getD (sheetColumns old) i []) (getD (convertedColumns old) m [])) (w .1) (within-parent old is-old i k (w .0)));
       }

@@ -1,14 +1,14 @@
 -- Laws of a walk over the first line of an old sheet, field by field.
 -- Assumes nothing.
 use mathlib.Core.Path.{_≡_, refl, sym, ap, ap₂, _∙_, subst}
-use mathlib.Core.Bool.{Bool, true, false, not, _&&_, _||_}
+use mathlib.Core.Bool.{Bool, true, false, not, _&&_}
 use mathlib.Core.List.{List, [], _∷_, _++_, map, append-assoc}
-use Prim.Native.Nat.{ℕ, zero, suc, _+_, _-_, _≤_, _<_}
+use Prim.Native.Nat.{ℕ, suc, _+_, _-_, _≤_, _<_}
 use native.Mathlib.Nat.{not-suc-le-zero, le-of-suc-le-suc}
 use native.Mathlib.Numerals.{add-one}
 use native.Mathlib.Omega.{arith}
 use lib.Dec.{eqb, ltb}
-use lib.ListN.{length, getD, take, drop, length-drop}
+use lib.ListN.{length, getD, drop}
 use lib.Seq.{drop-cons, drop-drop}
 use Rattle.rules.specs.Factor.{indexOf}
 use Rattle.rules.specs.Sheet.{Field, newline, tab, upTo, past, has, all, sameBytes, joined, header}
@@ -17,9 +17,9 @@ use borrow.Author.Tests.{eqb-true, eqb-false, ltb-true, ltb-false, lt-ltb, le-lt
 use Rattle.rules.proofs.Numbering.{by-cases, place-yes, place-no}
 use Rattle.rules.proofs.Sheet.{and-false, same-equal, same-self, fields-some}
 use Rattle.sheet.specs.Walk.{fieldOf}
-use Rattle.sheet.proofs.Stops.{AtTab, AtNewline, AtEnd, field-next, past-drop}
+use Rattle.sheet.proofs.Stops.{field-next, past-drop}
 use Rattle.sheet.proofs.HeaderLaws.{end-here, newline-here, tab-here, line-last, line-on}
-use Rattle.conversion.specs.Plain.{plainText, parentMark, parentMarks}
+use Rattle.conversion.specs.Plain.{plainText, parentMark}
 
 -- the place e where the field that starts at `at` ends
 module _ (text : List ℕ) (at e : ℕ) (d : e ≡ at + length (fieldOf (drop at text))) where

@@ -1,16 +1,15 @@
 -- Laws of an old sheet without its slash parts: it is read as the old sheet asks, and leaves the old sheet's columns in the level table.
 -- Assumes nothing.
-use mathlib.Core.Path.{_≡_, refl, sym, ap, ap₂, _∙_, subst}
-use mathlib.Core.Bool.{Bool, true, false, not, _&&_}
+use mathlib.Core.Path.{_≡_, refl, sym, ap, ap₂, _∙_}
+use mathlib.Core.Bool.{true, false, not, _&&_}
 use mathlib.Core.List.{List, [], _∷_, _++_, map}
-use Prim.Native.Nat.{ℕ, zero, suc, _+_, _-_, _*_, _≤_, _<_}
-use native.Mathlib.Nat.{not-suc-le-zero}
+use Prim.Native.Nat.{ℕ, _+_, _-_, _≤_, _<_}
 use native.Mathlib.Omega.{arith}
 use lib.Dec.{eqb, leb}
-use lib.ListN.{length, getD, take, drop, length-append, length-map}
+use lib.ListN.{length, length-append, length-map}
 use borrow.Author.Tests.{leb-true, le-leb, lt-leb}
 use Rattle.rules.specs.Limits.{mostText, mostLevel, tableCells}
-use Rattle.rules.specs.Sheet.{newline, tab, upTo, past, has, all, Field, widen, fields, free, joined, isHeader, header, laterLines, lines, Line, question2, question3, question4, question5, Outcome, read, refused, counts, readingFrom3, readingTo, reading}
+use Rattle.rules.specs.Sheet.{newline, tab, upTo, past, has, all, Field, widen, fields, free, joined, isHeader, header, laterLines, lines, Line, question3, question4, question5, Outcome, read, refused, counts, readingFrom3, reading}
 use Rattle.rules.specs.Lists.{tabulate}
 use Rattle.rules.specs.SheetText.{fieldColumn, sheetColumns, SheetAnswer, noSheet}
 use Rattle.rules.specs.Parents.{slash, withoutParent, slashForm, oldQuestion3, plainHeader, question23, convertedSheet, conversionFrom3, conversion}
@@ -33,10 +32,10 @@ upTo-free b c (x ∷ xs) h =
     (λ e. rw (e, upTo))
     (λ e. by-cases (eqb x b) (λ q. clash (rw (q, has)) h) (λ q. rw (e, upTo, q, has) (upTo-free b c xs (rw (q, has) at h))))
 
-upTo-none : (b : ℕ) (xs : List ℕ) → has b (upTo b xs) ≡ false
+upTo-stops : (b : ℕ) (xs : List ℕ) → has b (upTo b xs) ≡ false
 unfolding has upTo
-upTo-none b [] = refl
-upTo-none b (x ∷ xs) = by-cases (eqb x b) (λ e. rw (e, upTo)) (λ e. rw (e, upTo) (rw (e, has) (upTo-none b xs)))
+upTo-stops b [] = refl
+upTo-stops b (x ∷ xs) = by-cases (eqb x b) (λ e. rw (e, upTo)) (λ e. rw (e, upTo) (rw (e, has) (upTo-stops b xs)))
 
 -- the fields of a line have no tab, and no byte that the line has not
 fields-no-tab : (xs : List ℕ) → all (free tab) (fields xs) ≡ true
@@ -86,7 +85,7 @@ module _ (old : List ℕ) (ended : has newline old ≡ true) where
 
   line-free : has newline line ≡ false
   unfolding plainHeader header
-  line-free = joined-free newline refl (plainHeader old) (plain-free newline (header old) (fields-free newline (upTo newline old) (upTo-none newline old)))
+  line-free = joined-free newline refl (plainHeader old) (plain-free newline (header old) (fields-free newline (upTo newline old) (upTo-stops newline old)))
 
   pub plain-line : upTo newline plain ≡ line
   unfolding plainText

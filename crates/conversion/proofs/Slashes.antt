@@ -1,7 +1,7 @@
 -- Laws of the slash of a field.
 -- Assumes nothing.
 use mathlib.Core.Path.{_≡_, refl, sym, ap, _∙_}
-use mathlib.Core.Bool.{true, false, not, _&&_, _||_}
+use mathlib.Core.Bool.{true, false}
 use mathlib.Core.List.{List, [], _∷_}
 use Prim.Native.Nat.{ℕ, suc, _+_, _-_, _≤_, _<_}
 use native.Mathlib.Nat.{not-suc-le-zero}
@@ -11,7 +11,7 @@ use lib.Dec.{eqb, ltb}
 use lib.ListN.{length, getD, take, drop, length-drop, drop-of-length-le}
 use lib.Seq.{drop-cons, take-all}
 use borrow.Author.Tests.{eq-eqb, ne-eqb, lt-ltb, le-ltb, ltb-true, ltb-false}
-use Rattle.rules.specs.Sheet.{Field, upTo, past, has, isName, plotMark, isKind}
+use Rattle.rules.specs.Sheet.{Field, upTo, has, isName, plotMark, isKind}
 use Rattle.rules.specs.Parents.{slash, slashForm}
 use Rattle.rules.proofs.Numbering.{by-cases}
 use Rattle.sheet.proofs.Stops.{past-drop}

@@ -1,13 +1,13 @@
 -- Laws of the columns of a level table, of which one is written anew.
 -- Assumes nothing.
-use mathlib.Core.Path.{_≡_, refl, sym, ap, ap₂, _∙_, subst}
+use mathlib.Core.Path.{_≡_, sym, ap, ap₂, _∙_, subst}
 use mathlib.Core.List.{List, [], _∷_, _++_, append-assoc}
 use Prim.Native.Nat.{ℕ, suc, _+_, _-_, _*_, _≤_, _<_}
 use native.Mathlib.Numerals.{add-one}
 use native.Mathlib.Omega.{arith}
 use lib.Arith.{lt-of-le-ne}
 use lib.Dec.{eqb, ltb}
-use lib.ListN.{length, getD, take, drop, set, length-map, length-set, length-drop, length-append, take-append-drop, List·getD-append}
+use lib.ListN.{length, getD, take, drop, set, length-map, length-set, length-drop, take-append-drop, List·getD-append}
 use lib.Seq.{paste, length-paste, drop-paste, drop-drop, ext-getD, length-take-le, getD-take, getD-at, getD-set-same, getD-set-other, take-all, take-at, drop-at, take-append-le, drop-append-le, drop-cons, set-append-seam, set-getD, take-suc}
 use borrow.Author.Tests.{eqb-true, eqb-false, ltb-true, ltb-false}
 use Rattle.rules.specs.Factor.{Column, infimum}

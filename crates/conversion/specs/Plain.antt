@@ -1,12 +1,12 @@
 -- An old sheet without its slash parts, which any reader of sheets reads, and where its parents stand.
 -- Assumes nothing.
-use mathlib.Core.Bool.{true, false}
-use mathlib.Core.List.{List, [], _∷_, _++_, map}
+use mathlib.Core.Bool.{Bool, true, false}
+use mathlib.Core.List.{List, _∷_, _++_, map}
 use mathlib.Core.Path.{_≡_}
 use Prim.Native.Nat.{ℕ, suc, _≤_}
-use lib.ListN.{length}
-use Rattle.rules.specs.Limits.{mostText, tableCells}
-use Rattle.rules.specs.Sheet.{newline, past, has, all, Field, joined, header, laterLines, question2, read, reading, levelsAfter}
+use lib.ListN.{length, take}
+use Rattle.rules.specs.Limits.{mostText, mostFields}
+use Rattle.rules.specs.Sheet.{newline, past, has, all, Field, joined, header, question2, read, reading, levelsAfter}
 use Rattle.rules.specs.Parents.{slash, slashForm, plainHeader, parentPlace}
 use Rattle.sheet.specs.declared.Counts.{Counts}
 
@@ -22,6 +22,17 @@ parentMark ps f = elim (has slash f) [ true ↦ suc (parentPlace ps f) | false �
 
 abbrev pub parentMarks : List Field → List Field → List ℕ
 parentMarks ps fs = map (parentMark ps) fs
+
+-- what question 23 asks: a first line that ends, an array with a mark for each field, a plain text that a sheet may have
+pub record Markable (old plain marks : List ℕ) : Type 0 where
+  pub ended : has newline old ≡ true
+  pub enough : length (header old) ≤ length marks
+  pub fields : length marks ≡ mostFields
+  pub size : length plain ≤ mostText
+
+-- what it leaves where all parents stand further left: the marks
+abbrev pub Marked : Bool → List ℕ → List ℕ → List ℕ → Type 0
+Marked r old plain marks = r ≡ true → take (length (header old)) marks ≡ parentMarks (header plain) (header old)
 
 -- what is known once the slash parts have their form: questions 6, 2 and half of 3
 pub record Formed (old : List ℕ) (outLength : ℕ) : Type 0 where

@@ -4,9 +4,22 @@ use mathlib.Core.List.{List, []}
 use mathlib.Core.Path.{_≡_}
 use Prim.Native.Nat.{ℕ, suc, _+_, _*_, _≤_, _<_}
 use lib.ListN.{length, getD, take}
+use lib.Seq.{paste}
 use Rattle.rules.specs.Limits.{mostPlots}
 use Rattle.rules.specs.Factor.{Column, infimum}
+use Rattle.factor.specs.Lent.{columnAt}
 use Rattle.writer.specs.Rows.{columnsAt}
+
+-- the level table once column c is the infimum of itself and another one
+unfoldable pub withinColumn : ℕ → List ℕ → ℕ → ℕ → List ℕ
+unfolding infimum
+withinColumn n levels c parent = paste levels (mostPlots * c) (infimum (columnAt n levels c) (columnAt n levels parent)) n
+
+-- the columns c and d of n plots lie in a table of so many cells
+pub record Inside (n c d cells : ℕ) : Type 0 where
+  pub few : n ≤ mostPlots
+  pub own : mostPlots * c + n ≤ cells
+  pub other : mostPlots * d + n ≤ cells
 
 -- the columns Ds are the columns Cs, each with a mark m made the infimum of itself and the one of the Ds at place m - 1, which is further left
 pub record Within (marks : List ℕ) (Cs Ds : List Column) : Type 0 where

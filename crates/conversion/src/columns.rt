@@ -6,13 +6,13 @@ ghost use lib.Seq.{paste};
 ghost use Rattle.rules.specs.Limits.{mostPlots};
 ghost use Rattle.rules.specs.Factor.{infimum};
 ghost use Rattle.factor.specs.Lent.{columnAt};
-ghost use Rattle.conversion.specs.Table.{Convertible, ConvertedTo};
+ghost use Rattle.conversion.specs.Table.{Inside, withinColumn, Convertible, ConvertedTo};
 use limits::Level;
 use limits::PLOTS;
 
 // Numbers the classes of the infimum of columns `c` and `parent`.
 fn number_infimum(levels: &[Level], plots: usize, c: usize, parent: usize, out: &mut [u8; PLOTS])
-    requires { ⌜ (plots ≤ mostPlots) × (mostPlots * c + plots ≤ length (now levels)) × (mostPlots * parent + plots ≤ length (now levels)) ⌝ }
+    requires { ⌜ Inside plots c parent (length (now levels)) ⌝ }
     ensures { λ _. ⌜ take plots (now (out .exit)) ≡ infimum (columnAt plots (now (levels .entry)) c) (columnAt plots (now (levels .entry)) parent) ⌝ }
 {
     let mut own = [0u8; PLOTS];
@@ -34,8 +34,8 @@ fn write_column(levels: &mut [Level], c: usize, numbers: &[u8])
 
 // Column `c` becomes the infimum of itself and column `parent`.
 fn within_parent(levels: &mut [Level], plots: usize, c: usize, parent: usize)
-    requires { ⌜ (plots ≤ mostPlots) × (mostPlots * c + plots ≤ length (now levels)) × (mostPlots * parent + plots ≤ length (now levels)) ⌝ }
-    ensures { λ _. ⌜ now (levels .exit) ≡ paste (now (levels .entry)) (mostPlots * c) (infimum (columnAt plots (now (levels .entry)) c) (columnAt plots (now (levels .entry)) parent)) plots ⌝ }
+    requires { ⌜ Inside plots c parent (length (now levels)) ⌝ }
+    ensures { λ _. ⌜ now (levels .exit) ≡ withinColumn plots (now (levels .entry)) c parent ⌝ }
 {
     let mut numbers = [0u8; PLOTS];
     number_infimum(levels, plots, c, parent, &mut numbers);

@@ -9,7 +9,7 @@ ghost use Rattle.rules.specs.Factor.{indexOf};
 ghost use Rattle.rules.specs.Sheet.{newline, has, sameBytes, header};
 ghost use Rattle.rules.specs.SheetText.{plotHeading};
 ghost use Rattle.rules.specs.Parents.{parentsLeft};
-ghost use Rattle.conversion.specs.Plain.{parentMark, parentMarks};
+ghost use Rattle.conversion.specs.Plain.{parentMark, Markable, Marked};
 
 // Whether a field of the first line is that of the plot column with this name.
 fn is_heading(field: &[u8], name: &[u8]) -> bool
@@ -65,9 +65,9 @@ fn parent_mark(plain: &[u8], field: &[u8]) -> usize
 
 // Question 23 of the old first line: whether each parent stands further left. Then `parents` has the marks of the fields.
 pub fn parent_places(old: &[u8], plain: &[u8], parents: &mut [u8]) -> bool
-    requires { ⌜ (has newline (now old) ≡ true) × (length (header (now old)) ≤ length (now parents)) × (length (now parents) ≡ mostFields) × (length (now plain) ≤ mostText) ⌝ }
+    requires { ⌜ Markable (now old) (now plain) (now parents) ⌝ }
     ensures answer { λ r. ⌜ r ≡ parentsLeft (header (now (plain .entry))) 0 (header (now (old .entry))) ⌝ }
-    ensures marks { λ r. ⌜ (r ≡ true → take (length (header (now (old .entry)))) (now (parents .exit)) ≡ parentMarks (header (now (plain .entry))) (header (now (old .entry)))) ⌝ }
+    ensures marks { λ r. ⌜ Marked r (now (old .entry)) (now (plain .entry)) (now (parents .exit)) ⌝ }
 {
     let mut at = 0;
     let mut i = 0;

@@ -52,7 +52,7 @@ signed-length (negsuc n) j h = omega (arith, decimal-length (suc n) j h)
 
 -- ---- names
 
-pub name-short : (f : List ℕ) → isName f ≡ true → length f ≤ 12
+name-short : (f : List ℕ) → isName f ≡ true → length f ≤ 12
 unfolding isName
 name-short [] e = omega arith
 name-short (x ∷ xs) e =

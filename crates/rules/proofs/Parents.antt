@@ -176,9 +176,9 @@ none-asked ps i (f ∷ fs) a = rw (and-left (free slash f) (all (free slash) fs)
 -- ---- sheets without a slash
 
 module _ (text : List ℕ) where
-  pub length-columns : length (sheetColumns text) ≡ length (header text)
+  pub columns-length : length (sheetColumns text) ≡ length (header text)
   unfolding sheetColumns
-  length-columns = length-tabulate (fieldColumn (laterLines text)) (length (header text))
+  columns-length = length-tabulate (fieldColumn (laterLines text)) (length (header text))
 
   -- the first line of a sheet that is read has none
   pub no-slash : question3 text ≡ true → all (free slash) (header text) ≡ true
@@ -203,7 +203,7 @@ module _ (text : List ℕ) where
     pub unslashed-sheet : has newline text ≡ true → question4 mostLevel text ≡ true → convertedSheet text ≡ text
     unfolding convertedSheet plainHeader convertedColumns
     unslashed-sheet h q =
-        ap₂ (sheetText (length (laterLines text))) (plain-all (header text) a) (all-copied (plainHeader text) [] (header text) (sheetColumns text) length-columns a)
+        ap₂ (sheetText (length (laterLines text))) (plain-all (header text) a) (all-copied (plainHeader text) [] (header text) (sheetColumns text) columns-length a)
         ∙ sheet-again text h q
 
 -- ---- sheets that are converted
@@ -312,7 +312,7 @@ module _ (text : List ℕ) (old : Old text) where
 
   pub length-Ds : length Ds ≡ length fs
   unfolding convertedColumns
-  length-Ds = length-converted ps [] fs Cs (length-columns text) ∙ omega arith
+  length-Ds = length-converted ps [] fs Cs (columns-length text) ∙ omega arith
 
   old-levels : (k : ℕ) → k < length fs → Levels n (getD Cs k [])
   unfolding sheetColumns question4
@@ -325,7 +325,7 @@ module _ (text : List ℕ) (old : Old text) where
   levels-at : (k : ℕ) → k < length Ds → Levels n (getD Ds k [])
   unfolding convertedColumns
   levels-at k h =
-      converted-levels ps n (old .plots-few) [] fs Cs (length-columns text) parents-left (λ j l. old-levels j (rw (← length-columns text) l)) (λ j l. absurd (not-suc-le-zero l)) k (omega (arith, length-Ds))
+      converted-levels ps n (old .plots-few) [] fs Cs (columns-length text) parents-left (λ j l. old-levels j (rw (← columns-length text) l)) (λ j l. absurd (not-suc-le-zero l)) k (omega (arith, length-Ds))
 
   pub writable : Writable n ps Ds
   writable = record {
@@ -348,7 +348,7 @@ module _ (text : List ℕ) (old : Old text) where
   -- each converted column: itself, or the infimum of itself and its converted parent
   pub converted-column : (i : ℕ) → i < length fs → getD Ds i [] ≡ convertedColumn ps Ds (getD fs i []) (getD Cs i [])
   unfolding convertedColumns
-  converted-column i h = rw (zero-add i) at (converted-at ps [] fs Cs (length-columns text) parents-left i h)
+  converted-column i h = rw (zero-add i) at (converted-at ps [] fs Cs (columns-length text) parents-left i h)
 
   pub copied : (i : ℕ) → i < length fs → has slash (getD fs i []) ≡ false → getD Ds i [] ≡ getD Cs i []
   copied i h s = converted-column i h ∙ column-plain ps Ds (getD fs i []) (getD Cs i []) s

@@ -3,7 +3,7 @@
 use mathlib.Core.Path.{_≡_, refl, sym, ap, _∙_}
 use mathlib.Core.Bool.{Bool, true, false, not, _&&_, _||_}
 use mathlib.Core.List.{List, [], _∷_, _++_, map}
-use Prim.Native.Nat.{ℕ, suc, _+_, _*_, _≤_, _<_}
+use Prim.Native.Nat.{ℕ, _+_, _*_, _≤_, _<_}
 use native.Mathlib.Nat.{not-suc-le-zero}
 use native.Mathlib.Omega.{arith}
 use lib.Dec.{eqb}
@@ -154,16 +154,16 @@ pub record Levels (n : ℕ) (C : Column) : Type 0 where
   pub most : (u : ℕ) → u < n → at C u ≤ mostLevel
 
 -- a number by first appearance is at most the number of classes
-pub number-most : (F : Column) (u : ℕ) → u < length F → at (number F) u ≤ classes F
+pub numbers-few : (F : Column) (u : ℕ) → u < length F → at (number F) u ≤ classes F
 unfolding number classes
-number-most F u h = rw (numbering-at eqb eqb-true eqb-self F [] u 0 h) (has-all eqb eqb-true eqb-self F [] u 0 h)
+numbers-few F u h = rw (numbering-at eqb eqb-true eqb-self F [] u 0 h) (has-all eqb eqb-true eqb-self F [] u 0 h)
 
 -- a column numbered by first appearance has levels
 pub numbered-levels : (n : ℕ) (F : Column) → length F ≡ n → number F ≡ F → n ≤ mostPlots → Levels n F
 numbered-levels n F l e few = record {
   on = l;
   least = λ u h. rw e at (number-positive F u (rw l h));
-  most = λ u h. let a : at F u ≤ classes F = rw e at (number-most F u (rw l h)) in omega (arith, classes-most F);
+  most = λ u h. let a : at F u ≤ classes F = rw e at (numbers-few F u (rw l h)) in omega (arith, classes-most F);
 }
 
 -- a first line and columns of which a sheet can be written
@@ -288,10 +288,6 @@ module _ (n : ℕ) (fs : List Field) (Cs : List Column) (good : Writable n fs Cs
       ∙ read-columns text levels n (countKind plotMark fs) (countKind treatmentMark fs) (sheet-read levels h) ∙ columns-back
 
 -- ---- the lent output
-
--- it keeps its length
-pub buffer-length : (out : List ℕ) (a : SheetAnswer) → length (a .sheet) ≤ length out → length (sheetBuffer out a) ≡ length out
-buffer-length out a h = length-append (a .sheet) (drop (length (a .sheet)) out) ∙ rw length-drop (omega arith)
 
 -- it begins with the sheet
 pub buffer-sheet : (out : List ℕ) (a : SheetAnswer) → take (length (a .sheet)) (sheetBuffer out a) ≡ a .sheet

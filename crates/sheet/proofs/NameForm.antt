@@ -16,30 +16,30 @@ use Rattle.rules.proofs.Sheet.{and-false}
 
 -- ---- the length and the first byte
 
-pub name-short : (name : List ℕ) → length name < 2 → isName name ≡ false
+pub short-name : (name : List ℕ) → length name < 2 → isName name ≡ false
 unfolding isName all
-name-short [] h = refl
-name-short (x ∷ []) h = rw (and-false (letter x))
-name-short (x ∷ y ∷ ys) h = absurd (no h)
+short-name [] h = refl
+short-name (x ∷ []) h = rw (and-false (letter x))
+short-name (x ∷ y ∷ ys) h = absurd (no h)
   where
     no : suc (suc (length ys)) < 2 → ⊥
     no h = omega arith
 
-pub name-long : (name : List ℕ) → 12 < length name → isName name ≡ false
+pub long-name : (name : List ℕ) → 12 < length name → isName name ≡ false
 unfolding isName
-name-long [] h = absurd (not-suc-le-zero h)
-name-long (x ∷ xs) h = rw (lt-leb (length xs) 11 (omega arith), and-false (leb 1 (length xs)), and-false (letter x))
+long-name [] h = absurd (not-suc-le-zero h)
+long-name (x ∷ xs) h = rw (lt-leb (length xs) 11 (omega arith), and-false (leb 1 (length xs)), and-false (letter x))
 
-pub name-first : (name : List ℕ) → letter (getD name 0 0) ≡ false → isName name ≡ false
+pub no-letter : (name : List ℕ) → letter (getD name 0 0) ≡ false → isName name ≡ false
 unfolding isName
-name-first [] e = refl
-name-first (x ∷ xs) e = rw e
+no-letter [] e = refl
+no-letter (x ∷ xs) e = rw e
 
 -- then every further byte is a letter or a digit
-pub name-start : (name : List ℕ) → 2 ≤ length name → length name ≤ 12 → letter (getD name 0 0) ≡ true → isName name ≡ all letterOrDigit (drop 1 name)
+pub letter-first : (name : List ℕ) → 2 ≤ length name → length name ≤ 12 → letter (getD name 0 0) ≡ true → isName name ≡ all letterOrDigit (drop 1 name)
 unfolding isName
-name-start [] h k e = absurd (not-suc-le-zero h)
-name-start (x ∷ xs) h k e = rw (e, le-leb 1 (length xs) (omega arith), le-leb (length xs) 11 (omega arith))
+letter-first [] h k e = absurd (not-suc-le-zero h)
+letter-first (x ∷ xs) h k e = rw (e, le-leb 1 (length xs) (omega arith), le-leb (length xs) 11 (omega arith))
 
 -- ---- one byte more
 

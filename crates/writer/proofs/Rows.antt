@@ -5,7 +5,6 @@ use mathlib.Core.List.{List, [], _∷_, _++_, append-nil, append-assoc}
 use Prim.Native.Nat.{ℕ, zero, suc, _+_, _≤_, _<_}
 use native.Mathlib.Nat.{suc-ne-zero}
 use native.Mathlib.Numerals.{add-one}
-use native.Mathlib.Omega.{arith}
 use lib.ListN.{length, getD, drop, length-map, drop-of-length-le}
 use lib.Seq.{drop-cons}
 use Rattle.rules.specs.Lists.{tabulate, decimalOf}
@@ -14,7 +13,7 @@ use Rattle.rules.specs.Sheet.{Field, newline, tab, joined, printed}
 use Rattle.rules.specs.SheetText.{rowOf, sheetText}
 use Rattle.rules.proofs.Lists.{length-tabulate, getD-tabulate, getD-map}
 use Rattle.factor.specs.Lent.{columnAt}
-use Rattle.writer.specs.Rows.{columnsAt, fieldBytes, sheetBytes}
+use Rattle.writer.specs.Rows.{columnsAt, lineBytes, fieldBytes, sheetBytes}
 
 -- ---- a line
 
@@ -79,6 +78,10 @@ module _ (n : ℕ) (levels columns : List ℕ) (u : ℕ) where
       ∙ append-assoc (fieldBytes i (decimalOf (at (columnAt n levels (getD columns i 0)) u))) (lineFrom (suc i) (drop (suc i) row)) (newline ∷ [])
       ∙ ap (λ (k : ℕ). fieldBytes i (decimalOf (at (columnAt n levels (getD columns i 0)) u)) ++ (lineFrom k (drop k row) ++ newline ∷ [])) (sym (add-one i))
 
+  pub left-whole : left 0 ≡ lineBytes (columnsAt n levels columns) u
+  unfolding lineBytes
+  left-whole = refl
+
   pub left-end : (i : ℕ) → length columns ≤ i → left i ≡ newline ∷ []
   left-end i h = ap (λ (r : List Field). lineFrom i r ++ newline ∷ []) (drop-of-length-le row {i = i} (rw length-row h)) ∙ ap (λ (r : List ℕ). r ++ newline ∷ []) (line-none i)
 
@@ -89,8 +92,8 @@ module _ (n : ℕ) (Cs : List Column) where
   abbrev pub linesFrom : ℕ → List ℕ
   linesFrom u = printed (drop u (tabulate (rowOf Cs) n))
 
-  pub lines-step : (u : ℕ) → u < n → linesFrom u ≡ (joined (rowOf Cs u) ++ newline ∷ []) ++ linesFrom (u + 1)
-  unfolding printed
+  pub lines-step : (u : ℕ) → u < n → linesFrom u ≡ lineBytes Cs u ++ linesFrom (u + 1)
+  unfolding printed lineBytes
   lines-step u h =
       ap printed (drop-cons (tabulate (rowOf Cs) n) u [] (rw length-tabulate h) ∙ ap (λ (r : List Field). r ∷ drop (suc u) (tabulate (rowOf Cs) n)) (getD-tabulate (rowOf Cs) n u [] h))
       ∙ sym (append-assoc (joined (rowOf Cs u)) (newline ∷ []) (printed (drop (suc u) (tabulate (rowOf Cs) n))))

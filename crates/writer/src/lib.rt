@@ -1,11 +1,7 @@
 // Sheets written from a level table: the first line as it is given, then a line for each plot.
-ghost use mathlib.Core.Path.{_≡_};
-ghost use mathlib.Core.List.{[], _∷_, _++_};
 ghost use Rattle.rules.specs.Lists.{decimalOf};
-ghost use Rattle.rules.specs.Sheet.{newline, joined};
-ghost use Rattle.rules.specs.SheetText.{rowOf};
 ghost use Rattle.decimal.specs.Writing.{Wrote};
-ghost use Rattle.writer.specs.Rows.{columnsAt, fieldBytes, sheetBytes};
+ghost use Rattle.writer.specs.Rows.{columnsAt, lineBytes, fieldBytes, tableSheet};
 use decimal::write_byte;
 use decimal::write_bytes;
 use decimal::write_decimal;
@@ -31,7 +27,7 @@ fn write_row(
     out: &mut [u8],
     at: usize,
 ) -> usize
-    ensures { λ r. ⌜ Wrote (now (out .entry)) at (joined (rowOf (columnsAt plots (now (levels .entry)) (now (columns .entry))) u) ++ newline ∷ []) (now (out .exit)) r ⌝ }
+    ensures { λ r. ⌜ Wrote (now (out .entry)) at (lineBytes (columnsAt plots (now (levels .entry)) (now (columns .entry))) u) (now (out .exit)) r ⌝ }
 {
     let mut next = at;
     for i in 0..columns.len() {
@@ -50,7 +46,7 @@ pub fn write_sheet(
     levels: &[Level],
     out: &mut [u8],
 ) -> usize
-    ensures { λ r. ⌜ Wrote (now (out .entry)) 0 (sheetBytes (now («first_line» .entry)) plots (columnsAt plots (now (levels .entry)) (now (columns .entry)))) (now (out .exit)) r ⌝ }
+    ensures { λ r. ⌜ Wrote (now (out .entry)) 0 (tableSheet (now («first_line» .entry)) plots (now (levels .entry)) (now (columns .entry))) (now (out .exit)) r ⌝ }
 {
     let line = write_bytes(first_line, out, 0);
     let mut at = write_byte(b'\n', out, line);

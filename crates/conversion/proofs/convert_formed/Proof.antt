@@ -2,14 +2,14 @@
 -- Assumes nothing.
 use Prim.Native.Nat.{ℕ, _≤_}
 use mathlib.Core.Path.{_≡_, refl, sym, ap, ap₂, _∙_}
-use mathlib.Core.List.{List, _++_}
+use mathlib.Core.List.{List}
 use native.Mathlib.Omega.{arith}
 use borrow.Author.Needs.{needs}
 use denote.Ref.{now}
 use lib.ListN.{length, take, drop, replicate, length-take, length-replicate}
 use lib.Seq.{take-at}
-use Rattle.rules.specs.Sheet.{Outcome, read, refused, reading}
-use Rattle.rules.specs.SheetText.{SheetAnswer, noSheet}
+use Rattle.rules.specs.Sheet.{read, refused, reading}
+use Rattle.rules.specs.SheetText.{noSheet}
 use Rattle.rules.specs.Parents.{conversionFrom3}
 use borrow.Author.Tests.{ne-eqb}
 use Rattle.rules.proofs.TableSize.{reading-number}

@@ -13,7 +13,7 @@ use lib.Seq.{length-take-le}
 use Rattle.rules.specs.Sheet.{header}
 use Rattle.rules.specs.Parents.{parentsLeft, convertedSheet}
 use Rattle.decimal.proofs.Writing.{wrote-as, written-all, place-all}
-use Rattle.conversion.specs.Plain.{PlainRead, parentMark, parentMarks}
+use Rattle.conversion.specs.Plain.{parentMark, parentMarks}
 use Rattle.conversion.specs.Answers.{conversionNumbers, answerNumbers}
 use Rattle.conversion.proofs.PlainLaws.{text-size}
 use Rattle.conversion.proofs.ConvertLaws.{read-room, field-count, few-fields, columns-long, line-end, line-taken, answer-23, answer-0, marks-convertible, sheet-written, sheet-fits}
@@ -42,7 +42,12 @@ parent-places-requires c κs =
     let s = c .before .before .before .before .before in
     let a = s .args in
     let f = s .pre .formed in
-    (f .ended, omega (arith, field-count (now (a .old)) (now (a .plain)) (a .counts) (now (a .levels)) (length (now (a .out))) (s .pre), few-fields (now (a .old)) (now (a .plain)) (a .counts) (now (a .levels)) (length (now (a .out))) (s .pre)), refl, rw (s .pre .is-plain) (text-size (now (a .old)) (length (now (a .out))) f (s .pre .before) (read-room (now (a .old)) (now (a .plain)) (a .counts) (now (a .levels)) (length (now (a .out))) (s .pre))))
+    record {
+      ended = f .ended;
+      enough = omega (arith, field-count (now (a .old)) (now (a .plain)) (a .counts) (now (a .levels)) (length (now (a .out))) (s .pre), few-fields (now (a .old)) (now (a .plain)) (a .counts) (now (a .levels)) (length (now (a .out))) (s .pre));
+      fields = refl;
+      size = rw (s .pre .is-plain) (text-size (now (a .old)) (length (now (a .out))) f (s .pre .before) (read-room (now (a .old)) (now (a .plain)) (a .counts) (now (a .levels)) (length (now (a .out))) (s .pre)));
+    }
 
 returns : tie.Need-returns
 unfolding conversionNumbers answerNumbers

@@ -1,10 +1,8 @@
 -- `main`: the bytes read are within the input, and the text printed is within its buffer.
 -- Assumes nothing.
-use Prim.Native.Nat.{ℕ, _+_, _≤_}
-use mathlib.Core.Path.{_≡_, sym, ap, _∙_}
+use mathlib.Core.Path.{sym}
 use native.Mathlib.Omega.{arith}
 use borrow.Author.Needs.{needs}
-use lib.ListN.{length}
 use lib.Seq.{length-take-le}
 use Rattle.decimal.proofs.Writing.{wrote-within}
 use Rattle.convert.proofs.main.Statement.{statement}

@@ -1,6 +1,6 @@
 -- `rachdoum::rachdoum_convert` meets its contract: each case of the answer has the rules' numbers.
 -- Assumes nothing.
-use mathlib.Core.Path.{_≡_, sym, ap, _∙_}
+use mathlib.Core.Path.{sym, ap, _∙_}
 use mathlib.Core.List.{[], _∷_}
 use borrow.Author.Needs.{needs}
 use Rattle.conversion.specs.Answers.{SheetNumbers, conversionNumbers, answerNumbers}

@@ -1,20 +1,17 @@
 -- `write_row`: what is still to be written is the rest of the line.
 -- Assumes nothing.
-use mathlib.Core.Path.{_≡_, refl, sym, ap, _∙_}
-use mathlib.Core.List.{[], _∷_, _++_}
+use mathlib.Core.Path.{_≡_, refl, ap, _∙_}
+use mathlib.Core.List.{[], _∷_}
 use Prim.Native.Nat.{ℕ, _+_, _-_, _≤_}
 use native.Mathlib.Omega.{arith}
-use borrow.Author.Needs.{needs}
 use denote.Ref.{now}
 use lib.ListN.{length, getD}
 use Rattle.rules.specs.Lists.{decimalOf}
 use Rattle.rules.specs.Factor.{at}
-use Rattle.rules.specs.Sheet.{newline, joined}
-use Rattle.rules.specs.SheetText.{rowOf}
 use Rattle.factor.specs.Lent.{columnAt}
-use Rattle.decimal.proofs.Writing.{Rest, rest-then, rest-as, rest-end, wrote-as, wrote-length}
-use Rattle.writer.specs.Rows.{columnsAt, fieldBytes}
-use Rattle.writer.proofs.Rows.{left, left-step, left-end}
+use Rattle.decimal.proofs.Writing.{Rest, rest-then, rest-end, wrote-as, wrote-length}
+use Rattle.writer.specs.Rows.{fieldBytes}
+use Rattle.writer.proofs.Rows.{left, left-step, left-whole, left-end}
 use Rattle.writer.proofs.write_row.Statement.{statement}
 use Rattle.writer.proofs.write_row.Tie as tie
 
@@ -78,7 +75,7 @@ returns c =
     let ls = now (a .levels) in
     let whole = left n ls cs (a .u) 0 in
     let last = rest-then (now (a .out)) (a .at) whole (b .loop .out) (b .loop .next) (10 ∷ []) [] (left-end n ls cs (a .u) (b .loop .i) (omega arith)) (c .before .before .write-byte .ensures) (b .loop .inv .2) in
-    rest-end (now (a .out)) (a .at) whole (c .before .before .write-byte .last .1 .0) (c .before .before .write-byte .result) refl last
+    wrote-as (now (a .out)) (a .at) (left-whole n ls cs (a .u)) (rest-end (now (a .out)) (a .at) whole (c .before .before .write-byte .last .1 .0) (c .before .before .write-byte .result) refl last)
 
 pub write-row-spec : {M : Type 1} → statement M
 write-row-spec =

@@ -1,16 +1,15 @@
 -- `write_sheet`: after the first line, what is still to be written is the rest of the lines.
 -- Assumes nothing.
-use mathlib.Core.Path.{_≡_, refl, sym, ap, _∙_}
+use mathlib.Core.Path.{_≡_, refl, _∙_}
 use mathlib.Core.List.{[], _∷_, _++_, append-assoc}
 use Prim.Native.Nat.{_+_, _-_, _≤_}
 use native.Mathlib.Omega.{arith}
-use borrow.Author.Needs.{needs}
 use denote.Ref.{now}
 use lib.ListN.{length}
 use Rattle.rules.specs.Sheet.{newline, joined}
 use Rattle.rules.specs.SheetText.{rowOf}
 use Rattle.decimal.proofs.Writing.{Rest, rest-then, rest-end, wrote-as, wrote-then, wrote-length}
-use Rattle.writer.specs.Rows.{columnsAt, sheetBytes}
+use Rattle.writer.specs.Rows.{columnsAt, lineBytes, sheetBytes}
 use Rattle.writer.proofs.Rows.{linesFrom, lines-step, lines-end}
 use Rattle.writer.proofs.write_sheet.Statement.{statement}
 use Rattle.writer.proofs.write_sheet.Tie as tie
@@ -47,7 +46,7 @@ loop-again c =
     let u = b .loop .u in
     let Cs = columnsAt (a .plots) (now (a .levels)) (now (a .columns)) in
     let h : u + 1 ≤ a .plots = omega arith in
-    let one = joined (rowOf Cs u) ++ newline ∷ [] in
+    let one = lineBytes Cs u in
     let wrote = c .before .before .write-row .ensures in
     let w = b .before .before .before in (
       h,

@@ -1,18 +1,17 @@
 -- `columns::convert_columns`. The loop's invariant: the columns passed are converted, the others are as they were.
 -- Assumes nothing.
-use Prim.Native.Nat.{ℕ, suc, _+_, _-_, _*_, _≤_, _<_}
-use mathlib.Core.Path.{_≡_, refl, sym, ap, ap₂, _∙_}
+use Prim.Native.Nat.{ℕ, _+_, _-_, _*_, _≤_, _<_}
+use mathlib.Core.Path.{_≡_, refl, ap, ap₂, _∙_}
 use mathlib.Core.Logic.{⊎-elim}
-use mathlib.Core.List.{List, [], _++_, append-nil}
+use mathlib.Core.List.{List, _++_, append-nil}
 use native.Mathlib.Omega.{arith}
-use borrow.Author.Needs.{needs}
 use denote.Ref.{now}
 use lib.ListN.{length, getD, take, drop, drop-of-length-le}
 use lib.Seq.{paste, take-all}
 use Rattle.rules.specs.Factor.{Column, infimum}
 use Rattle.factor.specs.Lent.{columnAt}
 use Rattle.writer.specs.Rows.{columnsAt}
-use Rattle.conversion.specs.Table.{Within, Convertible}
+use Rattle.conversion.specs.Table.{Within, withinColumn}
 use Rattle.conversion.proofs.TableLaws.{length-Cs, turn-length, turn-copied, turn-within}
 use Rattle.conversion.proofs.columns.convert_columns.Statement.{statement}
 use Rattle.conversion.proofs.columns.convert_columns.Tie as tie
@@ -58,7 +57,11 @@ within-parent-requires c κs =
     let s = c .before .before .before .before .before .before .before .before .before .before in
     let p = s .pre in
     let m = getD (now (s .args .parents)) (l .i) 0 in
-    (p .few, omega (arith, p .inside (l .i) (omega arith), l .inv .1), omega (arith, p .inside (m - 1) (omega (arith, p .left (l .i) (omega arith))), l .inv .1))
+    record {
+      few = p .few;
+      own = omega (arith, p .inside (l .i) (omega arith), l .inv .1);
+      other = omega (arith, p .inside (m - 1) (omega (arith, p .left (l .i) (omega arith))), l .inv .1);
+    }
 
 add-i : tie.Need-add-i Inv-loop μ-loop
 add-i c = omega arith
@@ -67,6 +70,7 @@ loop-less : tie.Need-loop-less Inv-loop μ-loop
 loop-less c = omega arith
 
 loop-again : tie.Need-loop-again Inv-loop μ-loop
+unfolding withinColumn
 loop-again c =
     let b = c .before .before .before in
     let s = b .before .before .before .before in

@@ -7,7 +7,7 @@ use native.Mathlib.Omega.{arith}
 use borrow.Author.Needs.{needs}
 use denote.Ref.{now}
 use lib.ListN.{take, replicate}
-use Rattle.rules.specs.Factor.{Column, number, infimum}
+use Rattle.rules.specs.Factor.{number, infimum}
 use Rattle.rules.proofs.Bounds.{infimum-number, infimum-comm, length-infimum′}
 use Rattle.factor.specs.Lent.{columnAt, onCommon, overlay}
 use Rattle.factor.proofs.Lent.{common-all, take-overlay}
@@ -27,14 +27,14 @@ own : (w : tie.After-column-numbers) → Numbered (start w .args .plots) (column
 own w =
     let s = start w in
     let zeros : List ℕ = replicate 240 0 in
-    column-numbered (s .args .plots) (s .args .c) (now (s .args .levels)) zeros (w .column-numbers .last .1 .1 .1 .0) (w .column-numbers .result) (s .pre .0) (s .pre .1) (w .column-numbers .ensures .0) (w .column-numbers .ensures .1)
+    column-numbered (s .args .plots) (s .args .c) (now (s .args .levels)) zeros (w .column-numbers .last .1 .1 .1 .0) (w .column-numbers .result) (s .pre .few) (s .pre .own) (w .column-numbers .ensures .0) (w .column-numbers .ensures .1)
 
 -- and the other
 above : (w : tie.After-column-numbers2) → Numbered (start2 w .args .plots) (columnAt (start2 w .args .plots) (now (start2 w .args .levels)) (start2 w .args .parent)) (w .column-numbers2 .last .1 .1 .1 .0) (w .column-numbers2 .result)
 above w =
     let s = start2 w in
     let zeros : List ℕ = replicate 240 0 in
-    column-numbered (s .args .plots) (s .args .parent) (now (s .args .levels)) zeros (w .column-numbers2 .last .1 .1 .1 .0) (w .column-numbers2 .result) (s .pre .0) (s .pre .2) (w .column-numbers2 .ensures .0) (w .column-numbers2 .ensures .1)
+    column-numbered (s .args .plots) (s .args .parent) (now (s .args .levels)) zeros (w .column-numbers2 .last .1 .1 .1 .0) (w .column-numbers2 .result) (s .pre .few) (s .pre .other) (w .column-numbers2 .ensures .0) (w .column-numbers2 .ensures .1)
 
 column-numbers-requires : tie.Need-column-numbers-requires
 column-numbers-requires c κs = search needs
@@ -68,7 +68,7 @@ returns c =
     let g = above w in
     let out = now (a .out) in
     let same : onCommon infimum (take n (w .before .before .column-numbers .last .1 .1 .1 .0)) (take n (w .column-numbers2 .last .1 .1 .1 .0)) ≡ infimum F G =
-    ap₂ (onCommon infimum) (f .numbers) (g .numbers) ∙ common-all infimum (number F) (number G) (f .numbered-plots ∙ sym (g .numbered-plots)) (omega (arith, f .numbered-plots, start2 w .pre .0))
+    ap₂ (onCommon infimum) (f .numbers) (g .numbers) ∙ common-all infimum (number F) (number G) (f .numbered-plots ∙ sym (g .numbered-plots)) (omega (arith, f .numbered-plots, start2 w .pre .few))
     ∙ infimum-number n F (number G) (f .plots) (g .numbered-plots) ∙ infimum-comm n F (number G) (f .plots) (g .numbered-plots) ∙ infimum-number n G F (g .plots) (f .plots) ∙ infimum-comm n G F (g .plots) (f .plots) in
     ap (take n) (c .infimum .ensures .1 ∙ ap (overlay out) same) ∙ take-overlay out (infimum F G) n (length-infimum′ n F G (f .plots) (g .plots))
 

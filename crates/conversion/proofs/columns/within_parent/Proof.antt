@@ -11,6 +11,7 @@ use Rattle.rules.specs.Factor.{Column, infimum}
 use Rattle.rules.proofs.Bounds.{length-infimum′}
 use Rattle.factor.specs.Lent.{columnAt}
 use Rattle.factor.proofs.Lent.{length-part}
+use Rattle.conversion.specs.Table.{withinColumn}
 use Rattle.conversion.proofs.columns.within_parent.Statement.{statement}
 use Rattle.conversion.proofs.columns.within_parent.Tie as tie
 
@@ -26,7 +27,7 @@ one-each w =
     let s = start w in
     let a = s .args in
     let n = a .plots in
-    ap length (w .number-infimum .ensures) ∙ length-infimum′ n (columnAt n (now (a .levels)) (a .c)) (columnAt n (now (a .levels)) (a .parent)) (length-part n (a .c) (now (a .levels)) (s .pre .1)) (length-part n (a .parent) (now (a .levels)) (s .pre .2))
+    ap length (w .number-infimum .ensures) ∙ length-infimum′ n (columnAt n (now (a .levels)) (a .c)) (columnAt n (now (a .levels)) (a .parent)) (length-part n (a .c) (now (a .levels)) (s .pre .own)) (length-part n (a .parent) (now (a .levels)) (s .pre .other))
 
 number-infimum-requires : tie.Need-number-infimum-requires
 number-infimum-requires c κs = search needs
@@ -38,12 +39,13 @@ slice-aggregate-write-column : tie.Need-slice-aggregate-write-column
 slice-aggregate-write-column c = sym (one-each (c .before .before))
 
 write-column-requires : tie.Need-write-column-requires
-write-column-requires c κs = omega (arith, one-each (c .before .before), start (c .before .before) .pre .1)
+write-column-requires c κs = omega (arith, one-each (c .before .before), start (c .before .before) .pre .own)
 
 same-length : tie.Need-same-length
 same-length c = search needs
 
 returns : tie.Need-returns
+unfolding withinColumn
 returns c =
     let w = c .before .before .before .before .before in
     let a = start w .args in

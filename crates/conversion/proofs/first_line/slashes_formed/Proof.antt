@@ -1,8 +1,8 @@
 -- `first_line::slashes_formed`. The loop's invariant: the line has the form exactly when it has it from `at` on.
 -- Assumes nothing.
-use Prim.Native.Nat.{_+_, _-_, _≤_, _<_}
+use Prim.Native.Nat.{_-_, _≤_}
 use mathlib.Core.Path.{_≡_, refl, sym, ap, _∙_}
-use mathlib.Core.Bool.{Bool, true, false, _&&_}
+use mathlib.Core.Bool.{true, false, _&&_}
 use native.Mathlib.Omega.{arith}
 use borrow.Author.Needs.{needs}
 use borrow.Author.Tests.{not-true, not-false}
@@ -12,7 +12,7 @@ use Rattle.rules.specs.Sheet.{newline, has, all, header}
 use Rattle.rules.specs.Parents.{slashForm}
 use Rattle.sheet.specs.Walk.{fieldOf}
 use Rattle.sheet.proofs.Stops.{field-cut}
-use Rattle.conversion.proofs.FirstLine.{formed, formed-end, formed-no, formed-last, formed-on}
+use Rattle.conversion.proofs.FirstLine.{formed-end, formed-no, formed-last, formed-on}
 use Rattle.conversion.proofs.first_line.slashes_formed.Statement.{statement}
 use Rattle.conversion.proofs.first_line.slashes_formed.Tie as tie
 

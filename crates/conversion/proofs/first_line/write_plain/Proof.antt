@@ -1,17 +1,17 @@
 -- `first_line::write_plain`: what is still to be written is the rest of the plain text.
 -- Assumes nothing.
-use Prim.Native.Nat.{ℕ, _+_, _-_, _≤_, _<_}
+use Prim.Native.Nat.{_+_, _-_, _<_}
 use mathlib.Core.Path.{_≡_, refl, sym, ap, _∙_}
 use mathlib.Core.Bool.{true}
-use mathlib.Core.List.{List, [], _∷_, _++_}
+use mathlib.Core.List.{[], _∷_, _++_}
 use native.Mathlib.Omega.{arith}
 use borrow.Author.Needs.{needs}
 use denote.Ref.{now}
-use lib.ListN.{length, take, drop}
-use Rattle.rules.specs.Sheet.{Field, newline, tab, has}
+use lib.ListN.{length, drop}
+use Rattle.rules.specs.Sheet.{newline, has}
 use Rattle.rules.specs.Parents.{withoutParent}
 use Rattle.decimal.specs.Writing.{Wrote}
-use Rattle.decimal.proofs.Writing.{Rest, rest-then, rest-end, wrote-as, wrote-length}
+use Rattle.decimal.proofs.Writing.{Rest, rest-then, wrote-as, wrote-length}
 use Rattle.sheet.specs.Walk.{fieldOf}
 use Rattle.sheet.proofs.Stops.{field-cut, field-next}
 use Rattle.sheet.proofs.HeaderLaws.{inside, tab-here}

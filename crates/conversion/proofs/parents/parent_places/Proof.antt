@@ -40,7 +40,7 @@ room c =
     let l = c .before .loop in
     let s = c .before .before .before .before .before in
     let some = fields-some (upTo newline (drop (l .at) (now (s .args .old)))) in
-    (omega (arith, some, l .inv .2, s .pre .1, s .pre .2), omega (arith, some, l .inv .1, l .inv .2, s .pre .1))
+    (omega (arith, some, l .inv .2, s .pre .enough, s .pre .fields), omega (arith, some, l .inv .1, l .inv .2, s .pre .enough))
 
 -- the mark is the field's
 marked : (c : tie.After-parent-mark Inv-loop μ-loop)
@@ -53,7 +53,7 @@ marked c =
 loop-holds : tie.Need-loop-holds Inv-loop μ-loop
 loop-holds c =
     let s = c .before .before .before in
-    (s .pre .0, refl, omega arith, refl, refl)
+    (s .pre .ended, refl, omega arith, refl, refl)
 
 end-of-requires : tie.Need-end-of-requires Inv-loop μ-loop
 end-of-requires c κs = search needs

@@ -9,7 +9,7 @@ use borrow.Author.Tests.{not-true, not-false}
 use denote.Ref.{now}
 use lib.ListN.{getD, drop}
 use Rattle.rules.specs.Sheet.{all, letterOrDigit, isName}
-use Rattle.sheet.proofs.NameForm.{name-short, name-long, name-first, name-start, all-next, all-done}
+use Rattle.sheet.proofs.NameForm.{short-name, long-name, no-letter, letter-first, all-next, all-done}
 use Rattle.sheet.proofs.field.is_name.Statement.{statement}
 use Rattle.sheet.proofs.field.is_name.Tie as tie
 
@@ -20,13 +20,13 @@ abbrev μ-loop : tie.MeasureT-loop
 μ-loop name n i₀ i = n - i
 
 returns : tie.Need-returns Inv-loop μ-loop
-returns c = sym (name-short (now (c .before .before .args .name)) (omega arith))
+returns c = sym (short-name (now (c .before .before .args .name)) (omega arith))
 
 add-if2 : tie.Need-add-if2 Inv-loop μ-loop
 add-if2 c = omega arith
 
 returns-2 : tie.Need-returns-2 Inv-loop μ-loop
-returns-2 c = sym (name-long (now (c .before .before .before .args .name)) (omega arith))
+returns-2 c = sym (long-name (now (c .before .before .before .args .name)) (omega arith))
 
 shared-slice-read-letter : tie.Need-shared-slice-read-letter Inv-loop μ-loop
 shared-slice-read-letter c = omega arith
@@ -37,12 +37,12 @@ letter-requires c κs = search needs
 returns-3 : tie.Need-returns-3 Inv-loop μ-loop
 returns-3 c =
     let l = c .before .letter in
-    sym (name-first (now (c .before .before .before .before .before .before .args .name)) (sym (l .ensures) ∙ not-true _ (c .if3 .taken)))
+    sym (no-letter (now (c .before .before .before .before .before .before .args .name)) (sym (l .ensures) ∙ not-true _ (c .if3 .taken)))
 
 loop-holds : tie.Need-loop-holds Inv-loop μ-loop
 loop-holds c =
     let l = c .before .letter in
-    (omega arith, omega arith, name-start (now (c .before .before .before .before .before .before .args .name)) (omega arith) (omega arith) (sym (l .ensures) ∙ not-false _ (c .if3 .left)))
+    (omega arith, omega arith, letter-first (now (c .before .before .before .before .before .before .args .name)) (omega arith) (omega arith) (sym (l .ensures) ∙ not-false _ (c .if3 .left)))
 
 shared-slice-read-letter-or-digit : tie.Need-shared-slice-read-letter-or-digit Inv-loop μ-loop
 shared-slice-read-letter-or-digit c = omega arith
