@@ -407,7 +407,7 @@ module _ (text : List ℕ) (old : Old text) where
         again = λ outLength room. unslashed (convertedSheet text) outLength room (two n ps Ds writable) (three n ps Ds writable) (four n ps Ds writable) (five n ps Ds writable);
       }
 
-  -- the bytes of the sheet, whose levels have at most d digits: levels of the old sheet, or numbers up to 240
+  -- the converted sheet is no longer than the longest that is read
   pub converted-length : length (convertedSheet text) ≤ 31860
   unfolding convertedSheet
   converted-length = text-short n ps Ds writable
@@ -418,7 +418,7 @@ conversion-converted text outLength levels e h =
     let a = conversion-accepts text outLength e in
     rw (a .2) (converted text (a .1) levels h)
 
--- what is written fits the lent output, which keeps its length
+-- what is written fits the lent output
 pub conversion-fits : (text : List ℕ) (outLength : ℕ) → length (conversion text outLength .sheet) ≤ outLength
 conversion-fits text outLength =
     ⊎-elim
