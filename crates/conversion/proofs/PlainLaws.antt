@@ -19,7 +19,7 @@ use Rattle.rules.proofs.Sheet.{and-false, and-left, and-right, not-yes, fields-
 use Rattle.rules.proofs.SheetText.{joined-free, has-part, upTo-part, past-part, fields-back}
 use Rattle.rules.proofs.SheetBack.{joined-fields, part-back}
 use Rattle.conversion.specs.Plain.{plainText, Formed}
-use Rattle.conversion.proofs.Slashes.{upTo-short}
+use Rattle.sheet.proofs.FirstByte.{upTo-short}
 
 -- ---- bytes that are not in a field
 

@@ -1,32 +1,18 @@
 // The first line of an old sheet: the form of its slash parts, and the sheet without them.
 ghost use mathlib.Core.Path.{_≡_};
 ghost use mathlib.Core.Bool.{true, _&&_};
-ghost use lib.ListN.{length};
-ghost use Rattle.rules.specs.Sheet.{newline, upTo, has, all, header};
-ghost use Rattle.rules.specs.Parents.{slash, withoutParent, slashForm};
+ghost use Rattle.rules.specs.Sheet.{newline, has, all, header};
+ghost use Rattle.rules.specs.Parents.{withoutParent, slashForm};
 ghost use Rattle.decimal.specs.Writing.{Wrote};
 ghost use Rattle.conversion.specs.Plain.{plainText};
 use decimal::write_byte;
 use decimal::write_bytes;
 
-// Where the slash of a field stands; the field's length where there is none.
-pub fn slash_place(field: &[u8]) -> usize
-    ensures { λ r. ⌜ r ≡ length (upTo slash (now (field .entry))) ⌝ }
-{
-    let n = field.len();
-    for i in 0..n {
-        if field[i] == b'/' {
-            return i;
-        }
-    }
-    n
-}
-
 // Whether a field has no slash, or is a plot column's and has a name after it.
 fn slash_form(field: &[u8]) -> bool
     ensures { λ r. ⌜ r ≡ slashForm (now (field .entry)) ⌝ }
 {
-    let s = slash_place(field);
+    let s = sheet::place_of(field, b'/');
     if field.len() <= s {
         return true;
     }
@@ -60,7 +46,7 @@ pub fn slashes_formed(text: &[u8]) -> bool
 fn write_field(field: &[u8], out: &mut [u8], at: usize) -> usize
     ensures { λ r. ⌜ Wrote (now (out .entry)) at (withoutParent (now (field .entry))) (now (out .exit)) r ⌝ }
 {
-    let s = slash_place(field);
+    let s = sheet::place_of(field, b'/');
     write_bytes(&field[..s], out, at)
 }
 

@@ -3,7 +3,8 @@ ghost use mathlib.Core.Path.{_≡_};
 ghost use lib.ListN.{length};
 ghost use Rattle.rules.specs.SheetText.{sheetBuffer};
 ghost use Rattle.rules.specs.Parents.{conversion, conversionFrom3};
-ghost use Rattle.conversion.specs.Answers.{conversionNumbers, answerNumbers, HoldsConverted};
+ghost use Rattle.writer.specs.Answers.{writingNumbers, answerNumbers};
+ghost use Rattle.conversion.specs.Answers.{HoldsConverted};
 ghost use Rattle.conversion.specs.Plain.{Formed, PlainRead};
 
 mod columns;
@@ -16,38 +17,33 @@ use limits::Level;
 use limits::TEXT;
 use sheet::Counts;
 use sheet::Reading;
-
-// What converting answers: how many bytes the sheet has, or the number of the question that failed.
-pub enum Conversion {
-    Written(usize),
-    Refused(u32),
-}
+use writer::Writing;
 
 // Writes the sheet that an old one is converted to. A refusal writes nothing.
-pub fn convert(old: &[u8], out: &mut [u8]) -> Conversion
-    ensures answer { λ r. ⌜ conversionNumbers r ≡ answerNumbers (conversion (now (old .entry)) (length (now (out .entry)))) ⌝ }
+pub fn convert(old: &[u8], out: &mut [u8]) -> Writing
+    ensures answer { λ r. ⌜ writingNumbers r ≡ answerNumbers (conversion (now (old .entry)) (length (now (out .entry)))) ⌝ }
     ensures sheet { λ _. ⌜ now (out .exit) ≡ sheetBuffer (now (out .entry)) (conversion (now (old .entry)) (length (now (out .entry)))) ⌝ }
     ensures converted { λ _. ⌜ HoldsConverted (now (old .entry)) (length (now (out .entry))) (now (out .exit)) ⌝ }
 {
     if out.len() < TEXT {
-        return Conversion::Refused(6);
+        return Writing::Refused(6);
     }
     if old.len() < 1 {
-        return Conversion::Refused(2);
+        return Writing::Refused(2);
     }
     if TEXT < old.len() {
-        return Conversion::Refused(2);
+        return Writing::Refused(2);
     }
     if !first_line::slashes_formed(old) {
-        return Conversion::Refused(3);
+        return Writing::Refused(3);
     }
     convert_formed(old, out)
 }
 
 // The same where the slash parts have their form: the sheet without these is read as any other.
-fn convert_formed(old: &[u8], out: &mut [u8]) -> Conversion
+fn convert_formed(old: &[u8], out: &mut [u8]) -> Writing
     requires { ⌜ Formed (now old) (length (now out)) ⌝ }
-    ensures answer { λ r. ⌜ conversionNumbers r ≡ answerNumbers (conversionFrom3 (now (old .entry))) ⌝ }
+    ensures answer { λ r. ⌜ writingNumbers r ≡ answerNumbers (conversionFrom3 (now (old .entry))) ⌝ }
     ensures sheet { λ _. ⌜ now (out .exit) ≡ sheetBuffer (now (out .entry)) (conversionFrom3 (now (old .entry))) ⌝ }
 {
     let mut text = [0u8; TEXT];
@@ -56,7 +52,7 @@ fn convert_formed(old: &[u8], out: &mut [u8]) -> Conversion
     let mut levels: [Level; LEVELS] = [0; LEVELS];
     let reading = sheet::read_sheet(plain, &mut levels);
     match reading {
-        Reading::Refused(q) => Conversion::Refused(q),
+        Reading::Refused(q) => Writing::Refused(q),
         Reading::Read(counts) => convert_read(old, plain, counts, &mut levels, out),
     }
 }
@@ -68,14 +64,14 @@ fn convert_read(
     counts: Counts,
     levels: &mut [Level],
     out: &mut [u8],
-) -> Conversion
+) -> Writing
     requires { ⌜ PlainRead (now old) (now plain) counts (now levels) (length (now out)) ⌝ }
-    ensures answer { λ r. ⌜ conversionNumbers r ≡ answerNumbers (conversionFrom3 (now (old .entry))) ⌝ }
+    ensures answer { λ r. ⌜ writingNumbers r ≡ answerNumbers (conversionFrom3 (now (old .entry))) ⌝ }
     ensures sheet { λ _. ⌜ now (out .exit) ≡ sheetBuffer (now (out .entry)) (conversionFrom3 (now (old .entry))) ⌝ }
 {
     let mut parents = [0u8; FIELDS];
     if !parents::parent_places(old, plain, &mut parents) {
-        return Conversion::Refused(23);
+        return Writing::Refused(23);
     }
     let h = sheet::read_header(plain);
     let columns = h.columns;
@@ -83,5 +79,5 @@ fn convert_read(
     columns::convert_columns(&columns, &parents, n, counts.plots, levels);
     let line = h.end - 1;
     let size = writer::write_sheet(&plain[..line], &columns[..n], counts.plots, levels, out);
-    Conversion::Written(size)
+    Writing::Written(size)
 }

@@ -1,5 +1,4 @@
 // Parents: the plot columns that slash parts name, and question 23.
-use crate::first_line::slash_place;
 ghost use mathlib.Core.Path.{_≡_};
 ghost use mathlib.Core.Bool.{true};
 ghost use Prim.Native.Nat.{_+_, _≤_};
@@ -56,7 +55,7 @@ fn parent_mark(plain: &[u8], field: &[u8]) -> usize
     requires { ⌜ length (now plain) ≤ mostText ⌝ }
     ensures { λ r. ⌜ r ≡ parentMark (header (now (plain .entry))) (now (field .entry)) ⌝ }
 {
-    let s = slash_place(field);
+    let s = sheet::place_of(field, b'/');
     if field.len() <= s {
         return 0;
     }

@@ -2,8 +2,7 @@
 ghost use lib.ListN.{length};
 ghost use Rattle.rules.specs.Parents.{conversion};
 ghost use Rattle.decimal.specs.Writing.{Wrote};
-ghost use Rattle.convert.specs.Printed.{conversionText};
-use conversion::Conversion;
+ghost use Rattle.writer.specs.Answers.{answerText};
 use input::read_input;
 use libc::STDOUT_FILENO;
 
@@ -12,13 +11,10 @@ const INPUT: usize = limits::TEXT + 1;
 
 // Writes what is printed for an old sheet.
 fn print(old: &[u8], out: &mut [u8]) -> usize
-    ensures { λ r. ⌜ Wrote (now (out .entry)) 0 (conversionText (conversion (now (old .entry)) (length (now (out .entry))))) (now (out .exit)) r ⌝ }
+    ensures { λ r. ⌜ Wrote (now (out .entry)) 0 (answerText (conversion (now (old .entry)) (length (now (out .entry))))) (now (out .exit)) r ⌝ }
 {
     let answer = conversion::convert(old, out);
-    match answer {
-        Conversion::Written(size) => size,
-        Conversion::Refused(number) => table::put_refused(number as usize, b"-", b"-", out),
-    }
+    table::put_answer(answer, out)
 }
 
 fn main() {

@@ -16,7 +16,6 @@ ghost use Rattle.rachdoum.specs.Numbers.{readingRefusal, readingNumbers,
 
 mod gather;
 
-use conversion::Conversion;
 use design::FullDesign;
 use design::PlotDesign;
 use limits::Level;
@@ -24,6 +23,7 @@ use naming::Kind;
 use naming::Named;
 use sheet::Reading;
 use table::Printed;
+use writer::Writing;
 
 // Questions 1 to 5. The answer: plots, plot columns, treatment columns.
 #[no_mangle]
@@ -262,11 +262,11 @@ pub extern "C" fn rachdoum_convert(old: &[u8], sheet: &mut [u8], answer: &mut [u
 {
     let found = conversion::convert(old, sheet);
     match found {
-        Conversion::Written(size) => {
+        Writing::Written(size) => {
             *answer = [size as u64];
             0
         }
-        Conversion::Refused(refusal) => {
+        Writing::Refused(refusal) => {
             *answer = [0];
             refusal
         }

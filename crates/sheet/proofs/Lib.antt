@@ -1,5 +1,6 @@
 pub mod Walk
 pub mod Stops
+pub mod FirstByte
 pub mod RowLaws
 pub mod LevelLaws
 pub mod StoreLaws

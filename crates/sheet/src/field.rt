@@ -4,7 +4,7 @@ ghost use mathlib.Core.Bool.{true, _||_};
 ghost use Prim.Native.Nat.{_+_};
 ghost use lib.Dec.{eqb};
 ghost use lib.ListN.{length, drop};
-ghost use Rattle.rules.specs.Sheet.{tab, newline, letter as isLetter, letterOrDigit, sameBytes, isName};
+ghost use Rattle.rules.specs.Sheet.{tab, newline, upTo, letter as isLetter, letterOrDigit, sameBytes, isName};
 ghost use Rattle.sheet.specs.Walk.{fieldOf, levelThen, noLevel, isMark};
 use limits::LEVEL;
 use limits::Level;
@@ -26,6 +26,19 @@ pub fn end_of(text: &[u8], start: usize) -> usize
         at += 1;
     }
     at
+}
+
+// Where the first such byte of a text stands; the text's length where there is none.
+pub fn place_of(text: &[u8], byte: u8) -> usize
+    ensures { λ r. ⌜ r ≡ length (upTo byte (now (text .entry))) ⌝ }
+{
+    let n = text.len();
+    for i in 0..n {
+        if text[i] == byte {
+            return i;
+        }
+    }
+    n
 }
 
 // A level and the place after the byte that follows it; 0 and 0 where these are not there.

@@ -10,6 +10,8 @@ mod rows;
 
 pub use field::end_of;
 pub use field::is_name;
+pub use field::letter_or_digit;
+pub use field::place_of;
 pub use field::same_bytes;
 pub use header::Header;
 pub use header::Span;

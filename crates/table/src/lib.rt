@@ -26,6 +26,7 @@ use limits::Level;
 use limits::MEMBERS;
 use limits::NAME;
 use naming::Kind;
+pub use rows::put_answer;
 pub use rows::put_refused;
 use sheet::Counts;
 use sheet::Reading;

@@ -8,6 +8,7 @@ ghost use Rattle.rules.specs.Limits.{mostMembers};
 ghost use Rattle.rules.specs.Table.{rowBytes, rowsBytes, signed, sourceRows, stratumRows, strataRows, refusedRow, wordAll, wordTotal};
 ghost use Rattle.rules.specs.Lists.{decimalOf};
 ghost use Rattle.decimal.specs.Writing.{Wrote};
+ghost use Rattle.writer.specs.Answers.{Printed};
 ghost use Rattle.table.specs.Names.{namesIn, among, residualOf, tableOf, NameSlots};
 use decimal::write_byte;
 use decimal::write_bytes;
@@ -15,6 +16,7 @@ use decimal::write_decimal;
 use decimal::write_signed;
 use limits::MEMBERS;
 use limits::NAME;
+use writer::Writing;
 
 // Writes a field and the tab after it.
 fn put_field(field: &[u8], out: &mut [u8], at: usize) -> usize
@@ -230,4 +232,14 @@ pub fn put_refused(number: usize, first: &[u8], second: &[u8], out: &mut [u8]) -
     let d = put_field(first, out, c);
     let e = write_bytes(second, out, d);
     write_byte(b'\n', out, e)
+}
+
+// Prints what an entry that writes a sheet answered: the sheet stands in the output already; a refusal left that as it was, and its line is written.
+pub fn put_answer(answer: Writing, out: &mut [u8]) -> usize
+    ensures { λ r. ⌜ Printed answer (now (out .entry)) (now (out .exit)) r ⌝ }
+{
+    match answer {
+        Writing::Written(size) => size,
+        Writing::Refused(number) => put_refused(number as usize, b"-", b"-", out),
+    }
 }

@@ -7,6 +7,12 @@ use decimal::write_bytes;
 use decimal::write_decimal;
 use limits::Level;
 
+// What an entry that writes a sheet answers: how many bytes the sheet has, or the number of the question that failed.
+pub enum Writing {
+    Written(usize),
+    Refused(u32),
+}
+
 // Writes a level, with a tab before it unless it is the first of its line.
 fn write_level(level: Level, i: usize, out: &mut [u8], at: usize) -> usize
     ensures { λ r. ⌜ Wrote (now (out .entry)) at (fieldBytes i (decimalOf level)) (now (out .exit)) r ⌝ }

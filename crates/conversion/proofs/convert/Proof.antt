@@ -15,23 +15,24 @@ use Rattle.rules.specs.Parents.{slashForm, conversion, Converted}
 use Rattle.rules.proofs.Sheet.{and-left, and-right}
 use Rattle.rules.proofs.SheetText.{buffer-sheet}
 use Rattle.rules.proofs.Parents.{conversion-converted}
-use Rattle.conversion.specs.Answers.{conversionNumbers, answerNumbers, HoldsConverted}
-use Rattle.conversion.specs.declared.Conversion.{Conversion}
-use Rattle.conversion.specs.declared.Conversion.the-variants.{Refused}
+use Rattle.writer.specs.Answers.{writingNumbers, answerNumbers}
+use Rattle.conversion.specs.Answers.{HoldsConverted}
+use Rattle.writer.specs.declared.Writing.{Writing}
+use Rattle.writer.specs.declared.Writing.the-variants.{Refused}
 use Rattle.conversion.proofs.PlainLaws.{short-6, empty-2, long-2, unformed-3, from-3}
 use Rattle.conversion.proofs.convert.Statement.{statement}
 use Rattle.conversion.proofs.convert.Tie as tie
 
 -- the last clause follows from the others
-whole : (old out after : List ℕ) (r : Conversion) → (conversionNumbers r ≡ answerNumbers (conversion old (length out))) × (after ≡ sheetBuffer out (conversion old (length out)))
-    → (conversionNumbers r ≡ answerNumbers (conversion old (length out))) × ((after ≡ sheetBuffer out (conversion old (length out))) × HoldsConverted old (length out) after)
+whole : (old out after : List ℕ) (r : Writing) → (writingNumbers r ≡ answerNumbers (conversion old (length out))) × (after ≡ sheetBuffer out (conversion old (length out)))
+    → (writingNumbers r ≡ answerNumbers (conversion old (length out))) × ((after ≡ sheetBuffer out (conversion old (length out))) × HoldsConverted old (length out) after)
 whole old out after r p = (
   p .0,
   (p .1, λ e levels h. subst (λ (t : List ℕ). Converted old t levels) (sym (ap (take (length (conversion old (length out) .sheet))) (p .1) ∙ buffer-sheet out (conversion old (length out)))) (conversion-converted old (length out) levels e h)),
 )
 
 returns : tie.Need-returns
-unfolding conversionNumbers answerNumbers
+unfolding writingNumbers answerNumbers
 returns c =
     let a = c .before .before .before .args in
     let o = now (a .old) in
@@ -39,7 +40,7 @@ returns c =
     whole o (now (a .out)) (now (a .out)) (Refused 6) (rw (short-6 o l (omega arith)) (refl, refl))
 
 returns-2 : tie.Need-returns-2
-unfolding conversionNumbers answerNumbers
+unfolding writingNumbers answerNumbers
 returns-2 c =
     let a = c .before .before .before .before .args in
     let o = now (a .old) in
@@ -47,7 +48,7 @@ returns-2 c =
     whole o (now (a .out)) (now (a .out)) (Refused 2) (rw (empty-2 o l (omega arith) (omega arith)) (refl, refl))
 
 returns-3 : tie.Need-returns-3
-unfolding conversionNumbers answerNumbers
+unfolding writingNumbers answerNumbers
 returns-3 c =
     let a = c .before .before .before .before .before .args in
     let o = now (a .old) in
@@ -58,7 +59,7 @@ slashes-formed-requires : tie.Need-slashes-formed-requires
 slashes-formed-requires c κs = search needs
 
 returns-4 : tie.Need-returns-4
-unfolding conversionNumbers answerNumbers
+unfolding writingNumbers answerNumbers
 returns-4 c =
     let a = c .before .before .before .before .before .before .before .args in
     let o = now (a .old) in

@@ -16,7 +16,7 @@ use Rattle.rules.proofs.TableSize.{reading-number}
 use Rattle.decimal.proofs.Writing.{written-all, place-all}
 use Rattle.sheet.specs.Answers.{outcomeOf}
 use Rattle.conversion.specs.Plain.{plainText}
-use Rattle.conversion.specs.Answers.{conversionNumbers, answerNumbers}
+use Rattle.writer.specs.Answers.{writingNumbers, answerNumbers}
 use Rattle.conversion.proofs.PlainLaws.{text-size, plain-answers, answerAfter}
 use Rattle.conversion.proofs.convert_formed.Statement.{statement}
 use Rattle.conversion.proofs.convert_formed.Tie as tie
@@ -92,7 +92,7 @@ convert-read-requires c κs =
     }
 
 returns : tie.Need-returns
-unfolding conversionNumbers answerNumbers answerAfter
+unfolding writingNumbers answerNumbers answerAfter
 returns c =
     let w = c .before .before .before .before .before .before .before .before in
     let s = start w in

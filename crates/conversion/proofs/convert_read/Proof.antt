@@ -14,7 +14,7 @@ use Rattle.rules.specs.Sheet.{header}
 use Rattle.rules.specs.Parents.{parentsLeft, convertedSheet}
 use Rattle.decimal.proofs.Writing.{wrote-as, written-all, place-all}
 use Rattle.conversion.specs.Plain.{parentMark, parentMarks}
-use Rattle.conversion.specs.Answers.{conversionNumbers, answerNumbers}
+use Rattle.writer.specs.Answers.{writingNumbers, answerNumbers}
 use Rattle.conversion.proofs.PlainLaws.{text-size}
 use Rattle.conversion.proofs.ConvertLaws.{read-room, field-count, few-fields, columns-long, line-end, line-taken, answer-23, answer-0, marks-convertible, sheet-written, sheet-fits}
 use Rattle.conversion.proofs.convert_read.Statement.{statement}
@@ -50,7 +50,7 @@ parent-places-requires c κs =
     }
 
 returns : tie.Need-returns
-unfolding conversionNumbers answerNumbers
+unfolding writingNumbers answerNumbers
 returns c =
     let s = c .before .before .before .before .before .before .before .before in
     let a = s .args in
@@ -128,7 +128,7 @@ same-length-2 : tie.Need-same-length-2
 same-length-2 c = search needs
 
 returns-2 : tie.Need-returns-2
-unfolding conversionNumbers answerNumbers
+unfolding writingNumbers answerNumbers
 returns-2 c =
     let w = c .before .before .before .before .before .before .before .before .before .before .before .before .before .before .before .before in
     let s = start w in

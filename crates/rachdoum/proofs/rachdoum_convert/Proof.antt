@@ -3,7 +3,7 @@
 use mathlib.Core.Path.{sym, ap, _∙_}
 use mathlib.Core.List.{[], _∷_}
 use borrow.Author.Needs.{needs}
-use Rattle.conversion.specs.Answers.{SheetNumbers, conversionNumbers, answerNumbers}
+use Rattle.writer.specs.Answers.{SheetNumbers, writingNumbers, answerNumbers}
 use Rattle.rachdoum.proofs.rachdoum_convert.Statement.{statement}
 use Rattle.rachdoum.proofs.rachdoum_convert.Tie as tie
 
@@ -20,22 +20,22 @@ same-length : tie.Need-same-length
 same-length c = search needs
 
 returns : tie.Need-returns
-unfolding conversionNumbers answerNumbers
+unfolding writingNumbers answerNumbers
 returns c =
     let q = c .before .before in
     let f = q .before .before .before .before in
-    let r = sym (ap conversionNumbers (q .found .given .1)) ∙ f .convert .ensures .0 in
+    let r = sym (ap writingNumbers (q .found .given .1)) ∙ f .convert .ensures .0 in
     (ap (λ (x : SheetNumbers). x .refusal) r, (f .convert .ensures .1 .0, ap (λ (x : SheetNumbers). x .size ∷ []) r))
 
 same-length-2 : tie.Need-same-length-2
 same-length-2 c = search needs
 
 returns-2 : tie.Need-returns-2
-unfolding conversionNumbers answerNumbers
+unfolding writingNumbers answerNumbers
 returns-2 c =
     let q = c .before .before in
     let f = q .before .before .before .before in
-    let r = sym (ap conversionNumbers (q .found2 .given .1)) ∙ f .convert .ensures .0 in
+    let r = sym (ap writingNumbers (q .found2 .given .1)) ∙ f .convert .ensures .0 in
     (ap (λ (x : SheetNumbers). x .refusal) r, (f .convert .ensures .1 .0, ap (λ (x : SheetNumbers). x .size ∷ []) r))
 
 pub rachdoum-convert-spec : {M : Type 1} → statement M

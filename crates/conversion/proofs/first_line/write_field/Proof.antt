@@ -8,17 +8,17 @@ use denote.Ref.{now}
 use lib.ListN.{take, length-take}
 use Rattle.rules.specs.Parents.{slash}
 use Rattle.decimal.proofs.Writing.{wrote-as}
-use Rattle.conversion.proofs.Slashes.{upTo-short, upTo-take}
+use Rattle.sheet.proofs.FirstByte.{upTo-short, upTo-take}
 use Rattle.conversion.proofs.first_line.write_field.Statement.{statement}
 use Rattle.conversion.proofs.first_line.write_field.Tie as tie
 
-slash-place-requires : tie.Need-slash-place-requires
-slash-place-requires c κs = search needs
+place-of-requires : tie.Need-place-of-requires
+place-of-requires c κs = search needs
 
 slice-aggregate-write-bytes : tie.Need-slice-aggregate-write-bytes
 slice-aggregate-write-bytes c =
     let f = now (c .before .before .before .before .args .field) in
-    let p = c .before .slash-place in
+    let p = c .before .place-of in
     omega (arith, length-take (p .result) f, p .ensures, upTo-short slash f)
 
 write-bytes-requires : tie.Need-write-bytes-requires
@@ -31,14 +31,14 @@ returns : tie.Need-returns
 returns c =
     let a = c .before .before .before .before .before .before .before .before .args in
     let f = now (a .field) in
-    let p = c .before .before .before .before .before .slash-place in
+    let p = c .before .before .before .before .before .place-of in
     wrote-as (now (a .out)) (a .at) (ap (λ (k : ℕ). take k f) (p .ensures) ∙ upTo-take slash f) (c .before .before .write-bytes .ensures)
 
 pub write-field-spec : {M : Type 1} → statement M
 write-field-spec =
     tie.close
     (tie.spec
-    slash-place-requires
+    place-of-requires
     slice-aggregate-write-bytes
     write-bytes-requires
     same-length

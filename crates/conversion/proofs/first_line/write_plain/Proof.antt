@@ -16,7 +16,7 @@ use Rattle.sheet.specs.Walk.{fieldOf}
 use Rattle.sheet.proofs.Stops.{field-cut, field-next}
 use Rattle.sheet.proofs.HeaderLaws.{inside, tab-here}
 use Rattle.conversion.specs.Plain.{plainText}
-use Rattle.conversion.proofs.Slashes.{rest-taken}
+use Rattle.sheet.proofs.FirstByte.{rest-taken}
 use Rattle.conversion.proofs.FirstLine.{plain-last, plain-on}
 use Rattle.conversion.proofs.first_line.write_plain.Statement.{statement}
 use Rattle.conversion.proofs.first_line.write_plain.Tie as tie

@@ -7,7 +7,7 @@ use native.Mathlib.Omega.{arith}
 use borrow.Author.Needs.{needs}
 use denote.Ref.{now}
 use Rattle.rules.specs.Sheet.{sameBytes}
-use Rattle.conversion.proofs.Slashes.{rest-taken}
+use Rattle.sheet.proofs.FirstByte.{rest-taken}
 use Rattle.conversion.proofs.Headings.{heading-short, heading-kind, heading-colon, heading-name}
 use Rattle.conversion.proofs.parents.is_heading.Statement.{statement}
 use Rattle.conversion.proofs.parents.is_heading.Tie as tie

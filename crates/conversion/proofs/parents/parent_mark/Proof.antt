@@ -13,19 +13,19 @@ use Rattle.rules.specs.Sheet.{sameBytes, header, past}
 use Rattle.rules.specs.SheetText.{plotHeading}
 use Rattle.rules.specs.Parents.{slash, parentPlace}
 use Rattle.sheet.proofs.Stops.{past-drop}
-use Rattle.conversion.proofs.Slashes.{rest-taken, has-yes, has-no}
+use Rattle.sheet.proofs.FirstByte.{rest-taken, has-yes, has-no}
 use Rattle.conversion.proofs.FirstLine.{mark-none, mark-place}
 use Rattle.conversion.proofs.parents.parent_mark.Statement.{statement}
 use Rattle.conversion.proofs.parents.parent_mark.Tie as tie
 
-slash-place-requires : tie.Need-slash-place-requires
-slash-place-requires c κs = search needs
+place-of-requires : tie.Need-place-of-requires
+place-of-requires c κs = search needs
 
 returns : tie.Need-returns
 returns c =
     let a = c .before .before .before .before .args in
     let f = now (a .field) in
-    sym (mark-none (header (now (a .plain))) f (has-no slash f (omega (arith, c .before .slash-place .ensures))))
+    sym (mark-none (header (now (a .plain))) f (has-no slash f (omega (arith, c .before .place-of .ensures))))
 
 add-heading-place : tie.Need-add-heading-place
 add-heading-place c = search needs
@@ -51,7 +51,7 @@ returns-2 c =
     let a = c .before .before .before .before .before .before .args in
     let f = now (a .field) in
     let ps = header (now (a .plain)) in
-    let p = c .before .before .before .slash-place in
+    let p = c .before .before .before .place-of in
     let named : take (length f - (p .result + 1)) (drop (p .result + 1) f) ≡ past slash f = rest-taken (p .result + 1) f ∙ ap (λ (k : ℕ). drop k f) (add-one (p .result) ∙ ap suc (p .ensures)) ∙ sym (past-drop slash f) in
     add-one (c .heading-place .result) ∙ ap suc (c .heading-place .ensures .0 ∙ ap (λ (x : List ℕ). indexOf sameBytes ps (plotHeading x)) named)
     ∙ sym (mark-place ps f (has-yes slash f (omega (arith, p .ensures))))
@@ -60,7 +60,7 @@ pub parent-mark-spec : {M : Type 1} → statement M
 parent-mark-spec =
     tie.close
     (tie.spec
-    slash-place-requires
+    place-of-requires
     returns
     add-heading-place
     sub-heading-place
