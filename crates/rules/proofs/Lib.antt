@@ -76,3 +76,11 @@ pub mod PlotStrata
 pub mod Residuals
 pub mod FullStrata
 pub mod CountedRows
+pub mod Agreement
+pub mod Combinations
+pub mod Crossed
+pub mod CrossedStructure
+pub mod Grammar
+pub mod Codes
+pub mod Formula
+pub mod FormulaTrials

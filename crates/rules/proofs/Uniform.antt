@@ -16,7 +16,7 @@ use Rattle.rules.proofs.ClassCount.{at-up, finer-universal, one-class, 
 use Rattle.rules.proofs.Tests.{count-yes, count-no, count-none, size-same, uniform-equivalent, uniform-test}
 
 -- just one plot passes
-count-one : (n : ℕ) (p : ℕ → Bool) (u : ℕ) → u < n → p u ≡ true → ((v : ℕ) → v < n → (u ≡ v → ⊥) → p v ≡ false) → count n p ≡ 1
+pub count-one : (n : ℕ) (p : ℕ → Bool) (u : ℕ) → u < n → p u ≡ true → ((v : ℕ) → v < n → (u ≡ v → ⊥) → p v ≡ false) → count n p ≡ 1
 count-one zero p u l e h = absurd (not-suc-le-zero l)
 count-one (suc k) p u l e h =
     by-cases (eqb u k)

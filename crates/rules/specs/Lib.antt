@@ -24,3 +24,4 @@ pub mod Table
 pub mod Sample
 pub mod SheetText
 pub mod Parents
+pub mod Formula

@@ -48,6 +48,17 @@ mostOlderLevel = 65535
 abbrev pub mostNameTail : ℕ
 mostNameTail = 11
 
+-- bytes of a formula: "1 to 256 bytes"
+abbrev pub mostFormula : ℕ
+mostFormula = 256
+
+-- a count in a formula: "2 to 240"
+abbrev pub leastCount : ℕ
+leastCount = 2
+
+abbrev pub mostCount : ℕ
+mostCount = 240
+
 -- 6 for the plot design: "Are the plot count, column counts .. within limits, .. and are all lent slices long enough"
 pub record PlotLimits (n c tableLength bufferLength : ℕ) : Type 0 where
   pub plots-some : 1 ≤ n
