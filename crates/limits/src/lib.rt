@@ -16,6 +16,12 @@ pub const FAMILY: usize = 7680;
 pub const NAME: usize = 96;
 // bytes of a sheet's text
 pub const TEXT: usize = 32768;
+// bytes of a formula
+pub const FORMULA: usize = 256;
+// the least count in a formula
+pub const LEAST_COUNT: usize = 2;
+// the largest count in a formula
+pub const MOST_COUNT: usize = 240;
 
 // fields of a line
 pub const FIELDS: usize = 12;

@@ -11,6 +11,7 @@ ghost use Rattle.rules.specs.Naming.{naming, nameBuffer};
 ghost use Rattle.rules.specs.Table.{skeletonTable, tableBuffer};
 ghost use Rattle.rules.specs.SheetText.{sheetBuffer};
 ghost use Rattle.rules.specs.Parents.{conversion};
+ghost use Rattle.rules.specs.Formula.{formulaSheet};
 ghost use Rattle.naming.specs.Answers.{kindOf};
 ghost use Rattle.rachdoum.specs.Numbers.{readingRefusal, readingNumbers, plotDesignNumbers, fullDesignNumbers, relationNumbers, strataNumbers, statedKind, namingNumbers, textNumbers, sheetNumbers};
 
@@ -261,6 +262,26 @@ pub extern "C" fn rachdoum_convert(old: &[u8], sheet: &mut [u8], answer: &mut [u
     ensures numbers { λ _. ⌜ now (answer .exit) ≡ sheetNumbers (conversion (now (old .entry)) (length (now (sheet .entry)))) ⌝ }
 {
     let found = conversion::convert(old, sheet);
+    match found {
+        Writing::Written(size) => {
+            *answer = [size as u64];
+            0
+        }
+        Writing::Refused(refusal) => {
+            *answer = [0];
+            refusal
+        }
+    }
+}
+
+// Questions 6, 17 and 18 of a block formula. The answer: how many bytes its sheet has.
+#[no_mangle]
+pub extern "C" fn rachdoum_formula(formula: &[u8], sheet: &mut [u8], answer: &mut [u64; 1]) -> u32
+    ensures refusal { λ r. ⌜ r ≡ formulaSheet (now (formula .entry)) (length (now (sheet .entry))) .refusal ⌝ }
+    ensures buffer { λ _. ⌜ now (sheet .exit) ≡ sheetBuffer (now (sheet .entry)) (formulaSheet (now (formula .entry)) (length (now (sheet .entry)))) ⌝ }
+    ensures numbers { λ _. ⌜ now (answer .exit) ≡ sheetNumbers (formulaSheet (now (formula .entry)) (length (now (sheet .entry)))) ⌝ }
+{
+    let found = block_formula::expand(formula, sheet);
     match found {
         Writing::Written(size) => {
             *answer = [size as u64];

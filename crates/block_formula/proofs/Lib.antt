@@ -1,0 +1,8 @@
+pub mod CountLaws
+pub mod GrammarLaws
+pub mod NameLaws
+pub mod PartLaws
+pub mod NestingLaws
+pub mod TextLaws
+pub mod PlotLaws
+pub mod AnswerLaws

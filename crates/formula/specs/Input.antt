@@ -1,0 +1,12 @@
+-- The formula in a program's input.
+-- Assumes nothing.
+use mathlib.Core.Bool.{true, false}
+use mathlib.Core.List.{List}
+use Prim.Native.Nat.{ℕ, _-_}
+use lib.Dec.{eqb}
+use lib.ListN.{length, getD, take}
+use Rattle.rules.specs.Sheet.{newline}
+
+-- the input without the byte 10 at its end, if it has one
+unfoldable pub withoutEnd : List ℕ → List ℕ
+withoutEnd input = elim (eqb (getD input (length input - 1) 0) newline) [ true ↦ take (length input - 1) input | false ↦ input ]
