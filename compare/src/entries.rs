@@ -79,6 +79,7 @@ entries! {
     skeleton,
     number,
     convert,
+    formula,
 }
 
 /// The entry of this name.

@@ -114,7 +114,7 @@ pub fn bytes(call: &Call) -> Vec<Step> {
 }
 
 /// Another text in the place of one.
-fn changed_text(which: usize, change: impl Fn(&[u8]) -> Option<Vec<u8>> + 'static) -> Step {
+pub fn changed_text(which: usize, change: impl Fn(&[u8]) -> Option<Vec<u8>> + 'static) -> Step {
     step(move |call| {
         let text = &mut *call.texts()[which].1;
         *text = change(text)?;

@@ -29,10 +29,15 @@ pub const FAMILY: usize = 7_680;
 pub const NAME: usize = 96;
 /// Bytes that the buffer for the printed table has to hold.
 pub const TABLE: usize = 32_768;
-/// Bytes that the buffer for a converted sheet has to hold.
+/// Bytes that the buffer for a sheet has to hold.
 pub const SHEET: usize = 32_768;
+/// Most bytes of a formula.
+pub const FORMULA: usize = 256;
 /// The last question's number: refusals are numbered from 1 to this.
 pub const QUESTIONS: usize = 23;
+
+/// An entry that writes a sheet from a text into a buffer; refusal and the sheet's length.
+pub type Writer = fn(&[u8], &mut [u8]) -> (u32, [u64; 1]);
 
 /// The list of entries, handed to another macro: an entry's name and its shape. The name is that of its module and of its function,
 /// both in [`literal`] and in [`fast`].
@@ -63,7 +68,9 @@ macro_rules! entries {
             number: fn(&[Level], usize, &mut [u8; PLOTS]) -> (u32, [u64; 1]),
             /// A sheet numbered within parents, buffer for the sheet that it is converted to; refusal and that sheet's length (6, 2 to
             /// 5, 23).
-            convert: fn(&[u8], &mut [u8]) -> (u32, [u64; 1]),
+            convert: Writer,
+            /// A formula, buffer for the sheet of its structure; refusal and the sheet's length (6, 17, 18).
+            formula: Writer,
         }
     };
 }

@@ -1,14 +1,14 @@
 //! Reads a text on standard input and prints what a program makes of it: `reference [--fast] [PROGRAM]`. Without a program's name a
 //! trial sheet is read and its skeleton table printed; with `--fast` by the fast implementation.
 
-use reference::{Entries, FAST, LITERAL, SHEET, TABLE, TEXT};
+use reference::{Entries, Writer, FAST, LITERAL, SHEET, TABLE, TEXT};
 use std::io::{self, Read, Write};
 
 /// From the text that is read to the text that is printed.
 type Program = fn(&Entries, &[u8]) -> Vec<u8>;
 
 /// The programs by name; the first is run where none is named.
-const PROGRAMS: [(&str, Program); 2] = [("skeleton", skeleton), ("convert", convert)];
+const PROGRAMS: [(&str, Program); 3] = [("skeleton", skeleton), ("convert", convert), ("formula", formula)];
 
 fn skeleton(entries: &Entries, text: &[u8]) -> Vec<u8> {
     let mut table = vec![0; TABLE];
@@ -17,10 +17,20 @@ fn skeleton(entries: &Entries, text: &[u8]) -> Vec<u8> {
     table
 }
 
-/// The sheet that one numbered within parents is converted to, or the line of its refusal.
+/// The sheet that one numbered within parents is converted to.
 fn convert(entries: &Entries, text: &[u8]) -> Vec<u8> {
+    written_by(entries.convert, text)
+}
+
+/// The sheet of a formula. One line end after the formula is no part of it.
+fn formula(entries: &Entries, text: &[u8]) -> Vec<u8> {
+    written_by(entries.formula, text.strip_suffix(b"\n").unwrap_or(text))
+}
+
+/// The sheet that an entry writes from a text, or the line of its refusal.
+fn written_by(entry: Writer, text: &[u8]) -> Vec<u8> {
     let mut sheet = vec![0; SHEET];
-    let (refusal, [length]) = (entries.convert)(text, &mut sheet);
+    let (refusal, [length]) = entry(text, &mut sheet);
     if refusal != 0 {
         return format!("refused\t{refusal}\t-\t-\n").into_bytes();
     }

@@ -7,21 +7,9 @@ use compare::old_sheet;
 use compare::random::Random;
 use reference::{Entries, Level, SHEET, TEXT};
 
-/// So much is lent: more than the least, so that a byte written past the sheet shows.
-const LENT: usize = SHEET + 7;
-
-/// What an implementation makes of an old sheet: the refusal or the text. Bytes past the text, and all after a refusal, are as before.
+/// What an implementation makes of an old sheet: the refusal or the text.
 fn converted(entries: &Entries, old: &[u8]) -> Result<Vec<u8>, u32> {
-    let mut sheet = pattern(LENT);
-    let (refusal, [length]) = (entries.convert)(old, &mut sheet);
-    let length = length as usize;
-    assert_eq!(sheet[length..], pattern(LENT)[length..], "{}: bytes past the sheet", entries.title);
-    if refusal == 0 {
-        assert!(length > 0, "{}", entries.title);
-        return Ok(sheet[..length].to_vec());
-    }
-    assert_eq!(length, 0, "{}: a length after a refusal", entries.title);
-    Err(refusal)
+    written(entries.convert, old)
 }
 
 /// Both convert one sheet to another; lines with blanks in place of tabs.

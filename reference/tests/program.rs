@@ -38,6 +38,28 @@ fn both_convert_a_sheet_numbered_within_a_parent() {
 }
 
 #[test]
+fn both_write_the_sheet_of_a_formula() {
+    for arguments in [&["formula"][..], &["--fast", "formula"]] {
+        let sheet = lines(&["p:Hut p:Pier", "1 1", "1 2", "2 3", "2 4"]);
+        // One line end after the formula is no part of it; a second one is, and so is one before it.
+        assert_eq!(prints(b"Hut=2/Pier=2", arguments), sheet);
+        assert_eq!(prints(b"Hut=2/Pier=2\n", arguments), sheet);
+        for text in [&b"Hut=2/Pier=2\n\n"[..], b"\nHut=2/Pier=2", b"Hut=2/\nPier=2", b"Hut=2/Pier=2\r\n", b"\n", b"Hut"] {
+            assert_eq!(prints(text, arguments), lines(&["refused 17 - -"]), "{text:?}");
+        }
+        assert_eq!(prints(b"Hut=16*Pier=16\n", arguments), lines(&["refused 18 - -"]));
+        // 256 bytes and a line end; a formula of 257 bytes; much more.
+        let long = |pairs: usize, name: &str| ["(".repeat(pairs), format!("{name}=2"), ")".repeat(pairs), "\n".to_string()].concat();
+        assert_eq!(prints(long(126, "Aa").as_bytes(), arguments), lines(&["p:Aa", "1", "2"]));
+        assert_eq!(prints(long(126, "Aaa").as_bytes(), arguments), lines(&["refused 17 - -"]));
+        for length in [0, 257, 32_769, 1_000_000] {
+            assert_eq!(prints(&vec![b'('; length], arguments), lines(&["refused 17 - -"]));
+            assert_eq!(prints(&vec![b'\n'; length], arguments), lines(&["refused 17 - -"]));
+        }
+    }
+}
+
+#[test]
 fn any_length_of_input_is_read() {
     for arguments in [&[][..], &["--fast"], &["convert"], &["--fast", "convert"]] {
         for length in [0, 32_769, 1_000_000] {

@@ -2,7 +2,7 @@
 
 use super::column::{Column, Columns, Walk};
 use super::name::put;
-use super::sheet::Header;
+use super::sheet::{put_number, put_titles, Header};
 use super::work::with_work;
 use crate::{COLUMNS, LEVELS, PLOTS, SHEET, TEXT};
 
@@ -30,29 +30,6 @@ fn convert_columns(header: &Header, parents: &Parents, columns: &mut Columns, pl
         columns.columns[child] = walk.infimum;
         columns.classes[child] = walk.cells as u8;
     }
-}
-
-/// The first line without the parents; answers its length.
-fn put_titles(header: &Header, sheet: &mut [u8]) -> usize {
-    let mut at = 0;
-    for field in 0..header.fields {
-        at = put(sheet, at, if usize::from(header.columns[field]) < COLUMNS { b"p:" } else { b"t:" });
-        at = put(sheet, at, header.name(field));
-        at = put(sheet, at, if field + 1 < header.fields { b"\t" } else { b"\n" });
-    }
-    at
-}
-
-/// A number below 256 in decimal.
-#[inline]
-fn put_number(sheet: &mut [u8], mut at: usize, number: u8) -> usize {
-    for (least, power) in [(100, 100), (10, 10), (0, 1)] {
-        if number >= least {
-            sheet[at] = b'0' + number / power % 10;
-            at += 1;
-        }
-    }
-    at
 }
 
 /// The plot lines: fields of converted columns by their numbers, what stands between them as it is. Answers where they end.
@@ -90,7 +67,8 @@ fn write(old: &[u8], sheet: &mut [u8]) -> Result<usize, u32> {
     for field in (0..header.fields).filter(|&field| parents[field].is_some()) {
         converted[field] = Some(&columns.columns[usize::from(header.columns[field])]);
     }
-    let at = put_titles(&header, sheet);
+    let mark = |field: usize| if usize::from(header.columns[field]) < COLUMNS { b"p:" } else { b"t:" };
+    let at = put_titles(sheet, (0..header.fields).map(|field| (mark(field), header.name(field))));
     Ok(put_lines(&old[header.length..], &converted[..header.fields], plots, sheet, at))
 }
 

@@ -1,5 +1,6 @@
-//! The form of a sheet: questions 3 to 5.
+//! The form of a sheet, questions 3 to 5, and the parts that a sheet is written of.
 
+use super::name::put;
 use crate::{Level, COLUMNS, LEVELS, PLOTS};
 
 const LINE_END: u8 = 10;
@@ -127,7 +128,7 @@ impl<'a> Header<'a> {
 
 /// A name at the beginning; a byte that no name has follows it.
 #[inline]
-fn name(text: &[u8]) -> Option<&[u8]> {
+pub fn name(text: &[u8]) -> Option<&[u8]> {
     let letters = text.iter().take(13).position(|byte| !byte.is_ascii_alphanumeric())?;
     ((2..=12).contains(&letters) && text[0].is_ascii_alphabetic()).then(|| &text[..letters])
 }
@@ -150,4 +151,28 @@ fn level(text: &[u8]) -> Option<(Level, usize)> {
         value = 10 * value + u64::from(digit);
     }
     None
+}
+
+/// The first line from marks and names, at least one; answers its length.
+pub fn put_titles<'a>(sheet: &mut [u8], titles: impl Iterator<Item = (&'static [u8; 2], &'a [u8])>) -> usize {
+    let mut at = 0;
+    for (mark, name) in titles {
+        at = put(sheet, at, mark);
+        at = put(sheet, at, name);
+        at = put(sheet, at, &[TAB]);
+    }
+    sheet[at - 1] = LINE_END;
+    at
+}
+
+/// A number below 256 in decimal.
+#[inline]
+pub fn put_number(sheet: &mut [u8], mut at: usize, number: u8) -> usize {
+    for (least, power) in [(100, 100), (10, 10), (0, 1)] {
+        if number >= least {
+            sheet[at] = b'0' + number / power % 10;
+            at += 1;
+        }
+    }
+    at
 }

@@ -2,8 +2,8 @@
 
 use super::factor::Factor;
 use super::read_sheet::plot_lines;
-use super::sheet::{fields, first_line, has_length, heading, is_name, stand_together, Heading, Kind};
-use crate::{Level, PLOTS, SHEET};
+use super::sheet::{fields, first_line, has_length, heading, is_name, lend, stand_together, written, Heading, Kind};
+use crate::{Level, PLOTS};
 
 /// A field of an old sheet's first line: what a sheet has there, and the name of the parent.
 struct Old {
@@ -60,22 +60,6 @@ fn convert_columns(lines: &[Vec<Level>], parents: &[Option<usize>]) -> Vec<Vec<L
     columns
 }
 
-/// The sheet with these columns, "the slash part dropped".
-fn written(fields: &[Old], columns: &[Vec<Level>]) -> Vec<u8> {
-    let title = |old: &Old| {
-        let mark: &[u8] = if old.heading.kind == Kind::Plot { b"p:" } else { b"t:" };
-        [mark, &old.heading.name].concat()
-    };
-    let mut text = fields.iter().map(title).collect::<Vec<_>>().join(&b'\t');
-    for plot in 0..columns[0].len() {
-        let levels: Vec<String> = columns.iter().map(|column| column[plot].to_string()).collect();
-        text.push(b'\n');
-        text.extend(levels.join("\t").as_bytes());
-    }
-    text.push(b'\n');
-    text
-}
-
 /// The converted sheet, or the refusal: "Questions 2 to 5", then 23.
 fn converted(old: &[u8]) -> Result<Vec<u8>, u32> {
     if !has_length(old) {
@@ -87,20 +71,12 @@ fn converted(old: &[u8]) -> Result<Vec<u8>, u32> {
         return Err(5);
     }
     let parents = parents(&fields).ok_or(23u32)?;
-    Ok(written(&fields, &convert_columns(&lines, &parents)))
+    // "the slash part dropped"
+    let headings: Vec<Heading> = fields.into_iter().map(|old| old.heading).collect();
+    Ok(written(&headings, &convert_columns(&lines, &parents)))
 }
 
-/// "The length is answered; bytes past it, and on a refusal all the output, are untouched .. the lent output must hold 32,768 bytes by 6,
-/// asked first."
+/// "Older sheets number sections anew on each bench .. Convert them": the converted sheet into a lent buffer.
 pub fn convert(old: &[u8], sheet: &mut [u8]) -> (u32, [u64; 1]) {
-    if sheet.len() < SHEET {
-        return (6, [0]);
-    }
-    match converted(old) {
-        Err(refusal) => (refusal, [0]),
-        Ok(text) => {
-            sheet[..text.len()].copy_from_slice(&text);
-            (0, [text.len() as u64])
-        }
-    }
+    lend(sheet, || converted(old))
 }

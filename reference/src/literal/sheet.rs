@@ -1,6 +1,6 @@
-//! The form of a sheet: its lines, its fields and its headings (questions 2 and 3).
+//! The form of a sheet: its lines, its fields and its headings (questions 2 and 3), and how a sheet is written.
 
-use crate::{COLUMNS, TEXT};
+use crate::{Level, COLUMNS, SHEET, TEXT};
 
 const LINE_END: u8 = 10;
 const TAB: u8 = 9;
@@ -70,4 +70,37 @@ pub fn stand_together(headings: &[Heading]) -> bool {
 /// The names of the columns of one kind, in sheet order.
 pub fn of_kind(headings: &[Heading], kind: Kind) -> Vec<&[u8]> {
     headings.iter().filter(|heading| heading.kind == kind).map(|heading| heading.name.as_slice()).collect()
+}
+
+/// The sheet with these headings and columns.
+pub fn written(headings: &[Heading], columns: &[Vec<Level>]) -> Vec<u8> {
+    let title = |heading: &Heading| {
+        let mark: &[u8] = if heading.kind == Kind::Plot { b"p:" } else { b"t:" };
+        [mark, &heading.name].concat()
+    };
+    let mut text = line(headings.iter().map(title).collect());
+    for plot in 0..columns[0].len() {
+        text.extend(line(columns.iter().map(|column| column[plot].to_string().into_bytes()).collect()));
+    }
+    text
+}
+
+/// "lines of text, each ended by byte 10, fields parted by one tab"
+fn line(fields: Vec<Vec<u8>>) -> Vec<u8> {
+    [fields.join(&TAB), vec![LINE_END]].concat()
+}
+
+/// A sheet, or its refusal, into a lent buffer that "must hold 32,768 bytes", which is asked first (question 6). "The length is answered;
+/// bytes past it, and on a refusal all the output, are untouched."
+pub fn lend(sheet: &mut [u8], made: impl FnOnce() -> Result<Vec<u8>, u32>) -> (u32, [u64; 1]) {
+    if sheet.len() < SHEET {
+        return (6, [0]);
+    }
+    match made() {
+        Err(refusal) => (refusal, [0]),
+        Ok(text) => {
+            sheet[..text.len()].copy_from_slice(&text);
+            (0, [text.len() as u64])
+        }
+    }
 }

@@ -2,7 +2,7 @@
 #![allow(dead_code, unused_imports)]
 
 pub use compare::memory::{family_buffer, level_table, members, pattern, pattern_levels};
-use reference::{Entries, Level, FAST, LITERAL, TABLE};
+use reference::{Entries, Level, Writer, FAST, LITERAL, SHEET, TABLE};
 
 /// Both implementations: every fixed case is asked of each.
 pub const BOTH: [Entries; 2] = [LITERAL, FAST];
@@ -29,6 +29,21 @@ pub fn output(entries: &Entries, text: &[u8]) -> String {
     let length = length as usize;
     assert_eq!(out[length..], untouched[length..], "{}: bytes past the text", entries.title);
     String::from_utf8(out[..length].to_vec()).expect("the table is ASCII")
+}
+
+/// What an entry that writes a sheet makes of a text: the refusal or the sheet. More than the least length is lent; bytes past the sheet,
+/// and all after a refusal, are as before.
+pub fn written(entry: Writer, text: &[u8]) -> Result<Vec<u8>, u32> {
+    let mut sheet = pattern(SHEET + 7);
+    let (refusal, [length]) = entry(text, &mut sheet);
+    let length = length as usize;
+    assert_eq!(sheet[length..], pattern(SHEET + 7)[length..], "bytes past the sheet");
+    if refusal == 0 {
+        assert!(length > 0, "no sheet and no refusal");
+        return Ok(sheet[..length].to_vec());
+    }
+    assert_eq!(length, 0, "a length after a refusal");
+    Err(refusal)
 }
 
 /// Expected lines: fields separated by blanks in the test, by one tab in the output.
