@@ -32,13 +32,14 @@ pub fn whole(random: &mut Random) -> Vec<u8> {
     grown(random, &items).into_bytes()
 }
 
-/// The counts of a formula: 240 plots divided, small ones, or any.
+/// The counts of a formula: 240 plots divided, powers of two whose product may be 0 in few bits, small ones, or any.
 fn counts(random: &mut Random) -> Vec<usize> {
     let names = random.pick(&[1, 2, 2, 3, 3, 4, 4, 5, 5, 6, 6, COLUMNS + 1, COLUMNS + 2]);
-    match random.below(8) {
+    match random.below(10) {
         0 => divided(random, names),
-        1 => (0..names).map(|_| random.pick(&[2, 3, 15, 16, 17, 64, 120, 121, 128, 239, PLOTS])).collect(),
-        2 => (0..names).map(|_| 2 + random.below(PLOTS - 1)).collect(),
+        1 => (0..names).map(|_| random.pick(&[16, 64, 128, 128])).collect(),
+        2 => (0..names).map(|_| random.pick(&[2, 3, 15, 16, 17, 64, 120, 121, 128, 239, PLOTS])).collect(),
+        3 => (0..names).map(|_| 2 + random.below(PLOTS - 1)).collect(),
         _ => {
             let most = random.pick(&[2, 2, 3, 4, 6]);
             (0..names).map(|_| 2 + random.below(most - 1)).collect()
@@ -86,7 +87,7 @@ fn deep(random: &mut Random) -> Vec<u8> {
     let inside = format!("{name}{inside}");
     let most = (FORMULA + 2 - inside.len()) / 2;
     let pairs = if random.once_in(2) { most - random.below(2) } else { random.below(most) };
-    let closing = if random.once_in(6) { pairs + random.below(3) - 1 } else { pairs };
+    let closing = if random.once_in(6) { (pairs + random.below(3)).saturating_sub(1) } else { pairs };
     format!("{}{inside}{}", "(".repeat(pairs), ")".repeat(closing)).into_bytes()
 }
 
@@ -138,8 +139,8 @@ fn damage(random: &mut Random, text: &mut Vec<u8>) {
         3 => text.insert(at, random.pick(b"()/*=019Aa \t\n\r\0-\xff")),
         4 => text.truncate(at),
         5 => text.extend_from_slice(random.pick(&[&b" "[..], b"\n", b"/", b"*", b")", b"/Bb", b"*Bb=", b"()", b"\0", b"(Bb=2)"])),
-        6 | 7 => replace(random, text, b'=', |text, at| count_at(text, at), &COUNTS),
-        8 => replace(random, text, b'=', |text, at| name_at(text, at), &NAMES),
+        6 | 7 => replace(random, text, count_at, &COUNTS),
+        8 => replace(random, text, name_at, &NAMES),
         9 => same_name(random, text),
         10 => { let copy = text.clone(); text.push(random.pick(b"/*")); text.extend(copy); }
         11 => { let whole = [b"(", &text[..], b")"].concat(); *text = whole; }
@@ -164,9 +165,9 @@ fn count_at(text: &[u8], equals: usize) -> Range<usize> {
     equals + 1..length.map_or(text.len(), |length| equals + 1 + length)
 }
 
-/// Puts another name or count in the place of one that belongs to such a byte.
-fn replace(random: &mut Random, text: &mut Vec<u8>, byte: u8, part: fn(&[u8], usize) -> Range<usize>, others: &[&str]) {
-    let places = places(text, byte);
+/// Puts another name or count in the place of one.
+fn replace(random: &mut Random, text: &mut Vec<u8>, part: fn(&[u8], usize) -> Range<usize>, others: &[&str]) {
+    let places = places(text, b'=');
     if !places.is_empty() {
         let range = part(text, random.pick(&places));
         text.splice(range, random.pick(others).bytes());

@@ -8,6 +8,7 @@ pub mod cells;
 pub mod check;
 pub mod entries;
 pub mod family;
+pub mod faults;
 pub mod formula;
 pub mod levels;
 pub mod memory;

@@ -31,6 +31,7 @@ fn run(call: &Call, entries: &Entries) -> Outcome {
 #[cfg(feature = "library")]
 pub mod library {
     use crate::entries::{Fault, LIBRARY, STALE};
+    use crate::faults::{before_6, fields, instead_of, joined, one_less, past_sheet, renumber, with_lines, written_after, Lines};
     use reference::{Entries, SHEET};
 
     extern "C" {
@@ -52,20 +53,10 @@ pub mod library {
         Fault { title: "23 before 5", entries: Entries { convert: parents_first, ..LIBRARY } },
         Fault { title: "a parent of a treatment dropped", entries: Entries { convert: treatment_parents, ..LIBRARY } },
         Fault { title: "a byte written after 23", entries: Entries { convert: written_after_23, ..LIBRARY } },
-        Fault { title: "a byte past the sheet written", entries: Entries { convert: past_sheet, ..LIBRARY } },
+        Fault { title: "a byte past the sheet written", entries: Entries { convert: past_the_sheet, ..LIBRARY } },
         Fault { title: "2 before 6", entries: Entries { convert: length_first, ..LIBRARY } },
-        Fault { title: "one byte too few is enough", entries: Entries { convert: one_less, ..LIBRARY } },
+        Fault { title: "one byte too few is enough", entries: Entries { convert: one_byte_less, ..LIBRARY } },
     ];
-
-    /// The lines of a sheet as fields.
-    fn fields(text: &[u8]) -> Vec<Vec<Vec<u8>>> {
-        let lines = text.split_inclusive(|&byte| byte == 10).map(|line| line.strip_suffix(b"\n").unwrap_or(line));
-        lines.map(|line| line.split(|&byte| byte == 9).map(<[u8]>::to_vec).collect()).collect()
-    }
-
-    fn joined(lines: &[Vec<Vec<u8>>]) -> Vec<u8> {
-        lines.iter().flat_map(|line| [line.join(&9), b"\n".to_vec()].concat()).collect()
-    }
 
     /// The text without the slash parts of the fields of its first line for which this holds.
     fn without(text: &[u8], dropped: impl Fn(usize, &[u8]) -> bool) -> Vec<u8> {
@@ -80,60 +71,29 @@ pub mod library {
     }
 
     /// What the library makes of a text, as fields; nothing where it refuses.
-    fn lines_of(text: &[u8]) -> Option<Vec<Vec<Vec<u8>>>> {
+    fn lines_of(text: &[u8]) -> Option<Lines> {
         let mut sheet = vec![0; SHEET];
         let (number, [length]) = (LIBRARY.convert)(text, &mut sheet);
         (number == 0).then(|| fields(&sheet[..length as usize]))
     }
 
-    /// Puts other lines into the sheet that the library wrote; those are never longer than a sheet can be.
-    fn put(lines: &[Vec<Vec<u8>>], sheet: &mut [u8]) -> (u32, [u64; 1]) {
-        let text = joined(lines);
-        sheet[..text.len()].copy_from_slice(&text);
-        (0, [text.len() as u64])
-    }
-
     /// Converts each column by itself, as if no other had a parent.
     fn own_parents(old: &[u8], sheet: &mut [u8]) -> (u32, [u64; 1]) {
-        let mut after = sheet.to_vec();
-        let found = (LIBRARY.convert)(old, &mut after);
-        if found.0 != 0 {
-            return found;
-        }
-        let mut lines = fields(&after[..found.1[0] as usize]);
-        for column in 0..lines[0].len() {
-            let alone = lines_of(&without(old, |field, _| field != column));
-            let Some(alone) = alone else { continue };
-            lines.iter_mut().zip(alone).skip(1).for_each(|(line, alone)| line[column] = alone[column].clone());
-        }
-        put(&lines, sheet)
+        with_lines(LIBRARY.convert, old, sheet, |lines| {
+            for column in 0..lines[0].len() {
+                let alone = lines_of(&without(old, |field, _| field != column));
+                let Some(alone) = alone else { continue };
+                lines.iter_mut().zip(alone).skip(1).for_each(|(line, alone)| line[column] = alone[column].clone());
+            }
+        })
     }
 
     fn copies_numbered(old: &[u8], sheet: &mut [u8]) -> (u32, [u64; 1]) {
-        let mut after = sheet.to_vec();
-        let found = (LIBRARY.convert)(old, &mut after);
-        if found.0 != 0 {
-            return found;
-        }
-        let mut lines = fields(&after[..found.1[0] as usize]);
-        for column in 0..lines[0].len() {
-            let mut seen: Vec<Vec<u8>> = Vec::new();
-            for line in lines.iter_mut().skip(1) {
-                let place = seen.iter().position(|level| *level == line[column]).unwrap_or(seen.len());
-                if place == seen.len() {
-                    seen.push(line[column].clone());
-                }
-                line[column] = (place + 1).to_string().into_bytes();
-            }
-        }
-        put(&lines, sheet)
+        with_lines(LIBRARY.convert, old, sheet, renumber)
     }
 
     fn further_right(old: &[u8], sheet: &mut [u8]) -> (u32, [u64; 1]) {
-        match (LIBRARY.convert)(old, sheet) {
-            (23, _) => (LIBRARY.convert)(&without(old, |_, _| true), sheet),
-            found => found,
-        }
+        instead_of(23, LIBRARY.convert, old, sheet, |old| without(old, |_, _| true))
     }
 
     /// Looks at the parents of a sheet with too many plots, or with none, as if it had one.
@@ -150,42 +110,22 @@ pub mod library {
     }
 
     fn treatment_parents(old: &[u8], sheet: &mut [u8]) -> (u32, [u64; 1]) {
-        match (LIBRARY.convert)(old, sheet) {
-            (3, _) => (LIBRARY.convert)(&without(old, |_, title| title.starts_with(b"t:")), sheet),
-            found => found,
-        }
+        instead_of(3, LIBRARY.convert, old, sheet, |old| without(old, |_, title| title.starts_with(b"t:")))
     }
 
     fn written_after_23(old: &[u8], sheet: &mut [u8]) -> (u32, [u64; 1]) {
-        let found = (LIBRARY.convert)(old, sheet);
-        if found.0 == 23 {
-            sheet[0] = b'p';
-        }
-        found
+        written_after(23, LIBRARY.convert, old, sheet)
     }
 
-    fn past_sheet(old: &[u8], sheet: &mut [u8]) -> (u32, [u64; 1]) {
-        let (number, [length]) = (LIBRARY.convert)(old, sheet);
-        if number == 0 {
-            sheet[length as usize] = 0;
-        }
-        (number, [length])
+    fn past_the_sheet(old: &[u8], sheet: &mut [u8]) -> (u32, [u64; 1]) {
+        past_sheet(LIBRARY.convert, old, sheet)
     }
 
     fn length_first(old: &[u8], sheet: &mut [u8]) -> (u32, [u64; 1]) {
-        match (LIBRARY.convert)(old, sheet) {
-            (6, _) if (LIBRARY.convert)(old, &mut vec![0; SHEET]).0 == 2 => (2, [0]),
-            found => found,
-        }
+        before_6(2, LIBRARY.convert, old, sheet)
     }
 
-    fn one_less(old: &[u8], sheet: &mut [u8]) -> (u32, [u64; 1]) {
-        if sheet.len() != SHEET - 1 {
-            return (LIBRARY.convert)(old, sheet);
-        }
-        let mut longer = [&sheet[..], &[0]].concat();
-        let found = (LIBRARY.convert)(old, &mut longer);
-        sheet.copy_from_slice(&longer[..SHEET - 1]);
-        found
+    fn one_byte_less(old: &[u8], sheet: &mut [u8]) -> (u32, [u64; 1]) {
+        one_less(LIBRARY.convert, old, sheet)
     }
 }
