@@ -1,5 +1,5 @@
 //! The entries that are timed. Each takes a sheet that was read and designed, and gives a call that owns all that it reads and writes.
-//! A new entry is a function here and its line in the list.
+//! A new entry is a function here and its line in the list. The one that takes formulas stands beside the list.
 
 use crate::sheets::{with_parents, Sheet};
 use reference::{Entries, Level, COLUMNS, FAMILY, FAST, INTERACTIONS, LEVELS, NAME, PLOTS, SHEET, TABLE};
@@ -15,7 +15,7 @@ pub struct Entry {
     pub call: fn(&Trial) -> Call,
 }
 
-/// All entries; the first is timed always, the others where each entry is asked for by itself.
+/// All entries that take sheets; the first is timed always, the others where each entry is asked for by itself.
 pub static ALL: &[Entry] = &[
     Entry { title: "skeleton", call: skeleton },
     Entry { title: "read_sheet", call: read_sheet },
@@ -32,10 +32,20 @@ pub static ALL: &[Entry] = &[
 /// Numbering alone, of a sheet's first column.
 pub const NUMBER: Entry = Entry { title: "number", call: number };
 
-/// A sheet's text, its level table and its families.
+/// The sheet of a formula, timed on formulas.
+pub const FORMULA: Entry = Entry { title: "formula", call: formula };
+
+/// The entry of this name.
+pub fn titled(title: &str) -> Option<&'static Entry> {
+    ALL.iter().chain([&FORMULA]).find(|entry| entry.title == title)
+}
+
+/// A sheet's text, its level table and its families; the formula that it was written from, if any, with its refusal.
 #[derive(Clone)]
 pub struct Trial {
     pub text: Vec<u8>,
+    formula: Vec<u8>,
+    refusal: u32,
     pub plots: usize,
     levels: Vec<Level>,
     columns: [usize; 2],
@@ -44,13 +54,25 @@ pub struct Trial {
 }
 
 impl Trial {
+    /// Of a sheet, or of a formula, which has no line end.
     pub fn new(sheet: &Sheet) -> Trial {
-        let (text, mut levels) = (sheet.text.clone(), vec![0; LEVELS]);
+        if sheet.text.contains(&b'\n') {
+            return Trial::of_sheet(sheet.text.clone());
+        }
+        let mut text = vec![0; SHEET];
+        let (refusal, [length]) = (FAST.formula)(&sheet.text, &mut text);
+        text.truncate(length as usize);
+        Trial { formula: sheet.text.clone(), refusal, ..Trial::of_sheet(text) }
+    }
+
+    fn of_sheet(text: Vec<u8>) -> Trial {
+        let (formula, mut levels) = (Vec::new(), vec![0; LEVELS]);
         let (_, counts) = (FAST.read_sheet)(&text, &mut levels);
         let [plots, p, t] = counts.map(|count| count as usize);
         let (mut first, mut second) = (vec![0; FAMILY], vec![0; FAMILY]);
         let (_, [_, _, sizes @ ..]) = (FAST.full_design)(&levels, plots, p, t, INTERACTIONS, &mut first, &mut second);
-        Trial { text, plots, levels, columns: [p, t], families: [first, second], sizes: sizes.map(|size| size as usize) }
+        let (columns, families, sizes) = ([p, t], [first, second], sizes.map(|size| size as usize));
+        Trial { text, formula, refusal: 0, plots, levels, columns, families, sizes }
     }
 
     /// The levels of the first column that the sheet has.
@@ -67,6 +89,9 @@ impl Trial {
 
     /// The sizes of both families, or the number of the refusal.
     pub fn members(&self) -> String {
+        if self.refusal != 0 {
+            return format!("refused {}", self.refusal);
+        }
         let mut out = vec![0; TABLE];
         let (_, length) = (FAST.skeleton)(&self.text, &mut out);
         let printed = String::from_utf8_lossy(&out[..length as usize]);
@@ -134,4 +159,9 @@ fn number(trial: &Trial) -> Call {
 fn convert(trial: &Trial) -> Call {
     let (old, mut sheet) = (with_parents(&trial.text), vec![0; SHEET]);
     Box::new(move |entries, keep| keep(&((entries.convert)(&old, &mut sheet), &old, &sheet)))
+}
+
+fn formula(trial: &Trial) -> Call {
+    let (formula, mut sheet) = (trial.formula.clone(), vec![0; SHEET]);
+    Box::new(move |entries, keep| keep(&((entries.formula)(&formula, &mut sheet), &formula, &sheet)))
 }

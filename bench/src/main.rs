@@ -1,6 +1,7 @@
 //! Times the proved library beside the reference's fast part: the same sheets, one process, turn by turn.
 
 mod entries;
+mod formulas;
 mod growth;
 mod numbering;
 mod series;
@@ -18,9 +19,10 @@ const USAGE: &str = "usage: bench [--seconds S] [--only WORD] [--entries]   the 
        bench [--seconds S] --folder FOLDER            the same of the files of a folder
        bench [--seconds S] --growth [FILE]            how time grows with plots and members
        bench [--seconds S] --numbering                how the time of numbering one column grows with plots
-       bench --once SHEET library|reference [CALLS [ENTRY]]   one entry on one sheet, a title or a file, so many times
+       bench [--seconds S] [--only WORD] --formulas   the table of formulas; --entries has it too
+       bench --once SHEET library|reference [CALLS [ENTRY]]   one entry on one sheet or formula, a title or a file, so many times
        bench --instructions                           each sheet once by each, for bench/instructions.sh
-       bench --write FOLDER                           the sheets as files, and as they are numbered within parents";
+       bench --write FOLDER                           the sheets as files, and as they are numbered within parents; the formulas";
 
 /// The ratio that no sheet may pass.
 const WORST: f64 = 1.3;
@@ -95,11 +97,19 @@ fn table(entry: &Entry, sheets: &[Sheet], wish: &Wish) -> bool {
     agreed
 }
 
-fn tables(wish: &Wish, mut sheets: Vec<Sheet>) -> io::Result<bool> {
+fn tables(wish: &Wish, entries: &[Entry], mut sheets: Vec<Sheet>) -> bool {
     sheets.retain(|sheet| sheet.title.contains(&wish.only));
-    let entries = if wish.entries { entries::ALL } else { &entries::ALL[..1] };
     let agreed: Vec<bool> = entries.iter().map(|entry| table(entry, &sheets, wish)).collect();
-    Ok(!agreed.contains(&false))
+    !agreed.contains(&false)
+}
+
+/// The entries that are timed on sheets.
+fn on_sheets(wish: &Wish) -> &'static [Entry] {
+    if wish.entries { entries::ALL } else { &entries::ALL[..1] }
+}
+
+fn on_formulas(wish: &Wish) -> bool {
+    tables(wish, &[entries::FORMULA], formulas::all())
 }
 
 /// What callgrind counts: it is told this name.
@@ -109,15 +119,15 @@ extern "C" fn measured_calls(call: &mut Call, library: bool, calls: u32) {
     timing::repeat(PAIR[usize::from(!library)], call, calls);
 }
 
-/// A sheet by its title or its file.
+/// A sheet or a formula by its title or its file.
 fn find(name: &str) -> io::Result<Sheet> {
-    let known = sheets::all()?.into_iter().find(|sheet| sheet.title == name);
+    let known = sheets::all()?.into_iter().chain(formulas::all()).find(|sheet| sheet.title == name);
     known.map_or_else(|| sheets::from_file(Path::new(name)), Ok)
 }
 
 fn once(name: &str, who: &str, calls: &str, entry: &str) -> io::Result<bool> {
     let calls = calls.parse().map_err(io::Error::other)?;
-    let entry = entries::ALL.iter().find(|known| known.title == entry).ok_or(io::Error::other(USAGE))?;
+    let entry = entries::titled(entry).ok_or(io::Error::other(USAGE))?;
     let mut call = (entry.call)(&Trial::new(&find(name)?));
     measured_calls(&mut call, who == "library", calls);
     Ok(who == "library" || who == "reference")
@@ -138,25 +148,33 @@ fn instructions() -> io::Result<bool> {
     Ok(true)
 }
 
-/// The sheets as files whose names are the titles; where parents can be given to its columns, each with these too.
+/// The sheets as files whose names are the titles; where parents can be given to its columns, each with these too. Then the formulas.
 fn write(folder: &str) -> io::Result<bool> {
     fs::create_dir_all(folder)?;
-    for sheet in sheets::all()? {
+    let file = |sheet: &Sheet, ending: &str| {
         let name: String = sheet.title.chars().map(|c| if c.is_ascii_alphanumeric() { c } else { '-' }).collect();
-        fs::write(Path::new(folder).join(name.clone() + ".sheet"), &sheet.text)?;
+        Path::new(folder).join(name + ending)
+    };
+    for sheet in sheets::all()? {
+        fs::write(file(&sheet, ".sheet"), &sheet.text)?;
         let old = sheets::with_parents(&sheet.text);
         if old != sheet.text {
-            fs::write(Path::new(folder).join(name + ".old"), old)?;
+            fs::write(file(&sheet, ".old"), old)?;
         }
     }
+    formulas::all().iter().try_for_each(|formula| fs::write(file(formula, ".formula"), &formula.text))?;
     Ok(true)
 }
 
 fn perform(wish: &Wish) -> io::Result<bool> {
     let words: Vec<&str> = wish.task.iter().map(String::as_str).collect();
     match words[..] {
-        [] => tables(wish, sheets::all()?),
-        ["--folder", folder] => tables(wish, sheets::folder(Path::new(folder), "")?),
+        [] => {
+            let agreed = tables(wish, on_sheets(wish), sheets::all()?);
+            Ok((!wish.entries || on_formulas(wish)) && agreed)
+        }
+        ["--folder", folder] => Ok(tables(wish, on_sheets(wish), sheets::folder(Path::new(folder), "")?)),
+        ["--formulas"] => Ok(on_formulas(wish)),
         ["--growth"] => growth::tables(wish.limit, Path::new(concat!(env!("CARGO_MANIFEST_DIR"), "/growth.tsv"))),
         ["--growth", file] => growth::tables(wish.limit, Path::new(file)),
         ["--numbering"] => Ok(numbering::tables(wish.limit)),

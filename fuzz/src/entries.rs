@@ -6,7 +6,7 @@
 
 use crate::hash;
 use crate::memory::Guarded;
-use reference::{Entries, Level, COLUMNS, FAMILY, INTERACTIONS, LEVELS, MEMBERS, PLOTS};
+use reference::{Entries, Level, Writer, COLUMNS, FAMILY, INTERACTIONS, LEVELS, MEMBERS, PLOTS, SHEET};
 use std::collections::BTreeMap;
 
 /// The modules of the entries, and their calls in the order in which they are made.
@@ -18,6 +18,7 @@ macro_rules! entries {
 }
 
 entries! {
+    formula,
     convert,
     skeleton,
     read_sheet,
@@ -100,6 +101,31 @@ pub fn outcome(entries: &Entries, lent: &mut Lent, text: &[u8]) -> (Said, Vec<Ve
     let Lent { text, levels, families: [first, second], .. } = &mut *run.lent;
     run.left.extend([text, levels, first, second].map(|room| room.bytes().to_vec()));
     (run.said, run.left)
+}
+
+/// An entry that writes a sheet from the text, into a buffer that is long enough and sometimes into one that is too short. In one of two
+/// runs the sheet takes the text's place.
+fn write_sheet(run: &mut Run, title: &'static str, entry: Writer, chosen: usize) {
+    if chosen % 8 == 1 {
+        sheet_in(run, title, entry, SHEET - 1 - chosen / 8 % if chosen % 16 == 1 { SHEET } else { 2 });
+    }
+    let sheet = sheet_in(run, title, entry, SHEET + if chosen.is_multiple_of(4) { chosen / 4 % 100 } else { 0 });
+    run.left.push(run.lent.text.bytes().to_vec());
+    if chosen & 64 == 0 && !sheet.is_empty() {
+        run.lent.text.lend(sheet.len()).copy_from_slice(&sheet);
+    }
+}
+
+/// The sheet that such an entry writes in a buffer of this length; empty after a refusal.
+fn sheet_in(run: &mut Run, title: &'static str, entry: Writer, length: usize) -> Vec<u8> {
+    let sheet = run.lent.own.entry(title).or_insert_with(|| Guarded::new(MOST)).lend(length);
+    sheet.fill(!run.chosen as u8);
+    let (number, [written]) = entry(run.lent.text.bytes(), sheet);
+    let left = sheet.to_vec();
+    run.say(title, number, [written as i64]);
+    let text = left[..(written as usize).min(length)].to_vec();
+    run.left.push(left);
+    text
 }
 
 /// One of the columns used, or one behind them: its place in the level table.

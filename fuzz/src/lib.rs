@@ -1,11 +1,12 @@
 //! What the two fuzz targets share.
 //!
-//! An input is a sheet's text. Where something else is chosen for a run (lengths, patterns, k, places), it is taken from a hash of
-//! the text, so that an input alone repeats its run.
+//! An input is the text of a sheet or of a formula. Where something else is chosen for a run (lengths, patterns, k, places), it is taken
+//! from a hash of the text, so that an input alone repeats its run.
 
 pub mod blocks;
 pub mod child;
 pub mod entries;
+pub mod formula;
 pub mod memory;
 pub mod mutator;
 pub mod oracle;

@@ -1,5 +1,6 @@
-//! Changes that keep a sheet well formed, beside libFuzzer's own changes of bytes.
+//! Changes that keep a sheet or a formula well formed, beside libFuzzer's own changes of bytes.
 
+use crate::formula;
 use reference::{Level, COLUMNS, PLOTS};
 use std::collections::BTreeSet;
 
@@ -11,11 +12,11 @@ extern "C" {
 const FIELDS: usize = 2 * COLUMNS;
 
 /// Numbers from a seed (xorshift).
-struct Chance(u64);
+pub struct Chance(u64);
 
 impl Chance {
     /// A number below `limit`, 0 if that is 0.
-    fn below(&mut self, limit: usize) -> usize {
+    pub fn below(&mut self, limit: usize) -> usize {
         self.0 ^= self.0 << 13;
         self.0 ^= self.0 >> 7;
         self.0 ^= self.0 << 17;
@@ -225,7 +226,8 @@ fn changed(text: &[u8], most: usize, chance: &mut Chance) -> Option<Vec<u8>> {
     (written.len() <= most).then_some(written)
 }
 
-/// libFuzzer's call for a new input: three of four times a change of the sheet, where there is one, else a change of bytes.
+/// libFuzzer's call for a new input: three of four times a change of the formula or of the sheet, where there is one, else a change of
+/// bytes.
 ///
 /// # Safety
 ///
@@ -234,7 +236,8 @@ pub unsafe fn mutate(data: *mut u8, size: usize, most: usize, seed: u32) -> usiz
     let mut chance = Chance(u64::from(seed) << 1 | 1);
     chance.below(2);
     let text = crate::input(data, size).to_vec();
-    let new = if chance.below(4) > 0 { changed(&text, most, &mut chance) } else { None };
+    let kept = |chance: &mut Chance| formula::changed(&text, most, chance).or_else(|| changed(&text, most, chance));
+    let new = if chance.below(4) > 0 { kept(&mut chance) } else { None };
     match new {
         Some(new) => {
             std::slice::from_raw_parts_mut(data, most)[..new.len()].copy_from_slice(&new);

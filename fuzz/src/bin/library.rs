@@ -20,6 +20,7 @@ fn check(text: &[u8]) {
     if hash(text) % 8 < 2 {
         oracle::printed(text);
         oracle::converted(text);
+        oracle::from_formula(text);
     }
 }
 
