@@ -15,9 +15,10 @@ for sheet in "$here"/*.sheet; do
   fi
 done
 
-# A table without a sheet would never be compared; convert.sh compares those of sheets that cannot be converted.
+# A table without a sheet would never be compared; convert.sh and formula.sh compare those of refused conversions and formulas.
 for table in "$here"/*.table; do
-  if [ ! -e "${table%.table}.sheet" ] && [ ! -e "${table%.table}.old" ]; then
+  name=${table%.table}
+  if [ ! -e "$name.sheet" ] && [ ! -e "$name.old" ] && [ ! -e "$name.formula" ]; then
     echo "examples: $(basename "$table") has no sheet"
     bad=1
   fi

@@ -1,8 +1,9 @@
 /* Prints the table of a sheet and, after an empty line, against what each treatment is tested. Exits with 1 after a refusal. A sheet that
- * is numbered within parents (`p:Section/Bench`) is converted first.
+ * is numbered within parents (`p:Section/Bench`) is converted first. In place of a sheet a formula may be given.
  *
  *     cc -Iinclude -o library examples/library.c target/staticlib/librachdoum.a
- *     ./library examples/huts.sheet */
+ *     ./library examples/huts.sheet
+ *     ./library --formula Hut=4/Pier=3 */
 #include "rachdoum.h"
 
 #include <inttypes.h>
@@ -19,15 +20,17 @@ static uint8_t families[2][RACHDOUM_FAMILY];
 static size_t sizes[2];
 static size_t plots;
 
-/* Converts a sheet that is numbered within parents; any other comes back as it is. Answers the refusal, 0 for none. */
-static uint32_t convert(void) {
+/* A function that makes a sheet of a text: `rachdoum_convert` of one that is numbered within parents, and any other comes back as it is;
+ * `rachdoum_formula` of a formula. */
+typedef uint32_t maker(const uint8_t *, size_t, uint8_t *, size_t, uint64_t *);
+
+/* The sheet that a function makes becomes the text. Answers the refusal, 0 for none, whose line is printed. */
+static uint32_t make_sheet(maker *make, const uint8_t *given, size_t given_len) {
   static uint8_t sheet[RACHDOUM_SHEET];
   uint64_t length;
-  uint32_t refusal = rachdoum_convert(text, text_len, sheet, sizeof sheet, &length);
-  if (refusal != RACHDOUM_ACCEPTED) {
+  uint32_t refusal = make(given, given_len, sheet, sizeof sheet, &length);
+  if (refusal != RACHDOUM_ACCEPTED)
     printf("refused\t%" PRIu32 "\t-\t-\n", refusal);
-    return refusal;
-  }
   memcpy(text, sheet, length);
   text_len = length;
   return refusal;
@@ -84,20 +87,28 @@ static void print_tests(void) {
   }
 }
 
-int main(int count, char **arguments) {
-  FILE *file = count == 2 ? fopen(arguments[1], "rb") : NULL;
-  uint32_t refusal;
-  if (file == NULL) {
-    fprintf(stderr, "usage: library SHEET, a file that can be read\n");
-    return 2;
-  }
+/* Reads a file into the text. Answers whether it could. */
+static int read_text(const char *path) {
+  FILE *file = fopen(path, "rb");
+  int failed;
+  if (file == NULL)
+    return 0;
   text_len = fread(text, 1, sizeof text, file);
-  if (ferror(file)) {
-    fprintf(stderr, "library: %s cannot be read\n", arguments[1]);
+  failed = ferror(file);
+  fclose(file);
+  return !failed;
+}
+
+int main(int count, char **arguments) {
+  uint32_t refusal;
+  if (count == 3 && strcmp(arguments[1], "--formula") == 0) {
+    refusal = make_sheet(rachdoum_formula, (const uint8_t *)arguments[2], strlen(arguments[2]));
+  } else if (count == 2 && read_text(arguments[1])) {
+    refusal = make_sheet(rachdoum_convert, text, text_len);
+  } else {
+    fprintf(stderr, "usage: library SHEET, a file that can be read, or library --formula FORMULA\n");
     return 2;
   }
-  fclose(file);
-  refusal = convert();
   if (refusal == RACHDOUM_ACCEPTED) {
     print_table();
     refusal = design();

@@ -1,10 +1,12 @@
 """Prints the table of a sheet and, after an empty line, against what each treatment is tested. Exits with 1 after a refusal.
-A sheet that is numbered within parents (`p:Section/Bench`) is converted first.
+A sheet that is numbered within parents (`p:Section/Bench`) is converted first. In place of a sheet a formula may be given.
 
     cc -shared -o librachdoum.so -Wl,--whole-archive target/staticlib/librachdoum.a -Wl,--no-whole-archive
     python3 examples/library.py ./librachdoum.so examples/huts.sheet
+    python3 examples/library.py ./librachdoum.so --formula Hut=4/Pier=3
 """
 import ctypes
+import os
 import sys
 from ctypes import c_int64, c_size_t, c_uint8, c_uint32, c_uint64
 
@@ -33,10 +35,13 @@ def ask(function, *arguments):
     return function(*handed, arguments[-1])
 
 
-def convert(library, text):
-    """The refusal, 0 for none, and the sheet that one numbered within parents is converted to; any other comes back as it is."""
+def sheet_of(function, given):
+    """The refusal, 0 for none, and the sheet that a function writes.
+
+    `rachdoum_convert` makes it of one that is numbered within parents, and any other comes back as it is; `rachdoum_formula` of a formula.
+    """
     sheet, length = (c_uint8 * SHEET)(), (c_uint64 * 1)()
-    refusal = ask(library.rachdoum_convert, text, sheet, length)
+    refusal = ask(function, (c_uint8 * len(given))(*given), sheet, length)
     return refusal, (c_uint8 * length[0])(*sheet[: length[0]])
 
 
@@ -80,17 +85,19 @@ def tests(library, text):
 
 
 def main():
-    if len(sys.argv) != 3:
-        print("usage: library.py LIBRARY SHEET", file=sys.stderr)
+    if len(sys.argv) not in (3, 4) or len(sys.argv) == 4 and sys.argv[2] != "--formula":
+        print("usage: library.py LIBRARY SHEET, or library.py LIBRARY --formula FORMULA", file=sys.stderr)
         return 2
     try:
         library = ctypes.CDLL(sys.argv[1])
-        with open(sys.argv[2], "rb") as file:
-            sheet = file.read()
+        if len(sys.argv) == 4:
+            refusal, text = sheet_of(library.rachdoum_formula, os.fsencode(sys.argv[3]))
+        else:
+            with open(sys.argv[2], "rb") as file:
+                refusal, text = sheet_of(library.rachdoum_convert, file.read())
     except OSError as error:
         print(f"library.py: {error}", file=sys.stderr)
         return 2
-    refusal, text = convert(library, (c_uint8 * len(sheet))(*sheet))
     if refusal != 0:
         print(f"refused\t{refusal}\t-\t-\n")
     else:

@@ -1,9 +1,11 @@
 //! Prints the table of a sheet and, after an empty line, against what each treatment is tested. Exits with 1 after a refusal. A sheet
-//! that is numbered within parents (`p:Section/Bench`) is converted first.
+//! that is numbered within parents (`p:Section/Bench`) is converted first. In place of a sheet a formula may be given.
 //!
 //!     rustc -O -L target/staticlib -l static=rachdoum examples/library.rs
 //!     ./library examples/huts.sheet
+//!     ./library --formula Hut=4/Pier=3
 
+use std::ffi::OsString;
 use std::io::Write;
 use std::process::ExitCode;
 
@@ -35,6 +37,7 @@ mod rachdoum {
         ) -> u32;
         pub fn rachdoum_skeleton(text: *const u8, text_len: usize, out: *mut u8, out_len: usize, answer: *mut u64) -> u32;
         pub fn rachdoum_convert(old: *const u8, old_len: usize, sheet: *mut u8, sheet_len: usize, answer: *mut u64) -> u32;
+        pub fn rachdoum_formula(formula: *const u8, formula_len: usize, sheet: *mut u8, sheet_len: usize, answer: *mut u64) -> u32;
     }
 }
 
@@ -43,10 +46,14 @@ use rachdoum::*;
 // Every pointer below comes from a slice with its own length, and the arrays have the lengths of the header: that is all that the
 // functions ask of their caller.
 
-/// The sheet that one numbered within parents is converted to; any other comes back as it is. Err has the refusal.
-fn convert(old: &[u8]) -> Result<Vec<u8>, u32> {
+/// A function that makes a sheet of a text.
+type Maker = unsafe extern "C" fn(*const u8, usize, *mut u8, usize, *mut u64) -> u32;
+
+/// The sheet that a function writes. `rachdoum_convert` makes it of one that is numbered within parents, and any other comes back as it is;
+/// `rachdoum_formula` of a formula. Err has the refusal.
+fn sheet_of(make: Maker, given: &[u8]) -> Result<Vec<u8>, u32> {
     let (mut sheet, mut length) = (vec![0; SHEET], [0; 1]);
-    let refusal = unsafe { rachdoum_convert(old.as_ptr(), old.len(), sheet.as_mut_ptr(), sheet.len(), length.as_mut_ptr()) };
+    let refusal = unsafe { make(given.as_ptr(), given.len(), sheet.as_mut_ptr(), sheet.len(), length.as_mut_ptr()) };
     sheet.truncate(length[0] as usize);
     if refusal == 0 { Ok(sheet) } else { Err(refusal) }
 }
@@ -120,26 +127,33 @@ fn print_tests(text: &[u8]) -> Result<(), u32> {
     Ok(())
 }
 
+/// The sheet of a formula or of a file. Err has what is wrong with the call; the other one, inside, has the refusal.
+fn sheet(arguments: &[OsString]) -> Result<Result<Vec<u8>, u32>, String> {
+    match arguments {
+        [option, formula] if option == "--formula" => Ok(sheet_of(rachdoum_formula, formula.as_encoded_bytes())),
+        [path] => match std::fs::read(path) {
+            Ok(text) => Ok(sheet_of(rachdoum_convert, &text)),
+            Err(error) => Err(format!("library: {path:?}: {error}")),
+        },
+        _ => Err("usage: library SHEET, or library --formula FORMULA".into()),
+    }
+}
+
 fn main() -> ExitCode {
     let arguments: Vec<_> = std::env::args_os().skip(1).collect();
-    if arguments.len() != 1 {
-        eprintln!("usage: library SHEET");
-        return ExitCode::from(2);
-    }
-    let text = match std::fs::read(&arguments[0]) {
-        Ok(text) => text,
-        Err(error) => {
-            eprintln!("library: {:?}: {error}", arguments[0]);
+    let sheet = match sheet(&arguments) {
+        Ok(sheet) => sheet,
+        Err(message) => {
+            eprintln!("{message}");
             return ExitCode::from(2);
         }
     };
-    let converted = convert(&text);
-    let shown = converted.as_ref().map_or_else(|refusal| format!("refused\t{refusal}\t-\t-\n").into_bytes(), |sheet| table(sheet));
+    let shown = sheet.as_ref().map_or_else(|refusal| format!("refused\t{refusal}\t-\t-\n").into_bytes(), |sheet| table(sheet));
     if std::io::stdout().write_all(&shown).is_err() {
         return ExitCode::from(2);
     }
     println!();
-    if let Err(refusal) = converted.and_then(|sheet| print_tests(&sheet)) {
+    if let Err(refusal) = sheet.and_then(|sheet| print_tests(&sheet)) {
         println!("Question {refusal} fails (docs/REFUSALS.md).");
         return ExitCode::FAILURE;
     }

@@ -28,13 +28,14 @@ extern "C" {
 #define RACHDOUM_INTERACTION 6 /* the interaction level k */
 #define RACHDOUM_MEMBERS 32 /* of a family */
 #define RACHDOUM_TEXT 32768 /* bytes of a sheet */
+#define RACHDOUM_FORMULA 256 /* bytes of a formula */
 
 /* At least so long is what a caller lends. */
 #define RACHDOUM_LEVELS 2880 /* numbers of a level table: 240 for each of 12 columns */
 #define RACHDOUM_FAMILY 7680 /* bytes of a family buffer: 240 for each of 32 members */
 #define RACHDOUM_NAME 96 /* bytes of a name buffer */
 #define RACHDOUM_TABLE 32768 /* bytes for the printed table */
-#define RACHDOUM_SHEET 32768 /* bytes for a converted sheet */
+#define RACHDOUM_SHEET 32768 /* bytes for a sheet that is converted or made of a formula */
 
 /* A level: only a label. A sheet has levels from 1 to 4294967295; 0 stands for a missing one. */
 typedef uint32_t rachdoum_level;
@@ -58,6 +59,8 @@ enum rachdoum_refusal {
   RACHDOUM_REFUSED_TOO_MANY_FINAL_MEMBERS = 14, /* in the final treatment family */
   RACHDOUM_REFUSED_FORM_OF_FAMILY = 15, /* a family handed in is none that a design leaves */
   RACHDOUM_REFUSED_NO_STRATUM = 16, /* a treatment member has no stratum */
+  RACHDOUM_REFUSED_FORM_OF_FORMULA = 17,
+  RACHDOUM_REFUSED_SIZE_OF_FORMULA = 18, /* too many names or plots */
   RACHDOUM_REFUSED_PARENT = 23 /* a parent is no plot column further left */
 };
 
@@ -106,6 +109,14 @@ uint32_t rachdoum_skeleton(const uint8_t *text, size_t text_len, uint8_t *out, s
  * copied. A sheet without a parent comes back as it is. Bytes of `sheet` past the converted one, and all of them after a refusal, are not
  * touched. Answer: the length of the converted sheet, at most 31860. */
 uint32_t rachdoum_convert(const uint8_t *old, size_t old_len, uint8_t *sheet, size_t sheet_len, uint64_t answer[1]);
+
+/* Writes the sheet of a block formula such as `Hut=4/Pier=3` or `(Row=3*Column=3)/Sub=2`: questions 6 (`sheet` is too short), then 17 (the
+ * text is no formula), then 18 (more than 6 names or 240 plots). A formula is one or more items, all joined by `/` (nesting: what comes
+ * later lies inside all that comes before) or all by `*` (crossing). An item is a name, `=` and a count from 2 to 240, or a formula in round
+ * brackets. There are no blanks. The plots are all combinations, the first name slowest. Each name becomes a plot column, in the order
+ * written: plots share its level where they agree in that name and in every name that it is nested in; levels are numbered from 1 by first
+ * appearance. Bytes of `sheet` past the one written, and all of them after a refusal, are not touched. Answer: the sheet's length. */
+uint32_t rachdoum_formula(const uint8_t *formula, size_t formula_len, uint8_t *sheet, size_t sheet_len, uint64_t answer[1]);
 
 #ifdef __cplusplus
 }

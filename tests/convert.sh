@@ -15,7 +15,7 @@ sample "$work/sheet"
 run <"$work/sheet"
 prints 'the converted sheet again' "$work/sheet"
 
-input_of_any_length
+input_of_any_length 32768 2 3
 reads_and_writes_that_fail
 
 # the longest sheet that is converted, and what becomes of it: only the numbers within parents change
@@ -35,20 +35,11 @@ sed 's/1000000000/1/g; s|/Longestnam..||g' "$work/longest" >"$work/sheet"
 run <"$work/longest"
 prints 'the longest sheet' "$work/sheet"
 
-# refused FILE NUMBER: the line of this refusal
-refused() {
-  printf 'refused\t%s\t-\t-\n' "$2" >"$work/line"
-  run <"$1"
-  prints "refused by $2: $(head -c 40 "$1" | tr '\t\n' '  ')" "$work/line"
-}
-printf 'p:Bench\tt:Dose/Bench\n1\t1\n' >"$work/old"
-refused "$work/old" 3
-printf 'p:Section/Bench\tp:Bench\n1\t1\n1\t0\n' >"$work/old"
-refused "$work/old" 4
-printf 'p:Section/Bench\tp:Bench\n' >"$work/old"
-refused "$work/old" 5
-printf 'p:Section/Bench\tp:Bench\n1\t1\n' >"$work/old"
-refused "$work/old" 23
+# refusals
+refused 'p:Bench\tt:Dose/Bench\n1\t1\n' 3
+refused 'p:Section/Bench\tp:Bench\n1\t1\n1\t0\n' 4
+refused 'p:Section/Bench\tp:Bench\n' 5
+refused 'p:Section/Bench\tp:Bench\n1\t1\n' 23
 
 # the examples
 bash examples/convert.sh "$program"

@@ -14,7 +14,7 @@ enum { SHEET = sizeof sheet - 1, PLOTS = 4 };
 static uint8_t text[RACHDOUM_TEXT + 1];
 static rachdoum_level levels[RACHDOUM_LEVELS];
 static uint8_t plot_family[RACHDOUM_FAMILY], treatment_family[RACHDOUM_FAMILY];
-static uint8_t name[RACHDOUM_NAME], table[RACHDOUM_TABLE], converted[RACHDOUM_SHEET];
+static uint8_t name[RACHDOUM_NAME], table[RACHDOUM_TABLE], converted[RACHDOUM_SHEET], written[RACHDOUM_SHEET];
 static uint64_t read_counts[3], made[4], length[1];
 static int64_t degrees[RACHDOUM_MEMBERS], strata[2 * RACHDOUM_MEMBERS];
 static uint32_t relation[1 + 3 * RACHDOUM_MEMBERS];
@@ -127,6 +127,40 @@ static void parents(void) {
   answers("its text", memcmp(converted, wanted, sizeof wanted) != 0, RACHDOUM_ACCEPTED);
 }
 
+static uint32_t write_sheet(const char *formula, size_t sheet_len) {
+  return rachdoum_formula((const uint8_t *)formula, strlen(formula), written, sheet_len, length);
+}
+
+/* A formula of this length with its item in brackets: 4 bytes of the item, or 5, and an even number of brackets. */
+static const char *bracketed(size_t formula_len) {
+  static char formula[RACHDOUM_FORMULA + 2];
+  size_t depth = (formula_len - 4) / 2;
+  memset(formula, '(', depth);
+  strcpy(formula + depth, formula_len % 2 ? "Hut=2" : "Aa=2");
+  memset(formula + formula_len - depth, ')', depth);
+  formula[formula_len] = '\0';
+  return formula;
+}
+
+static void formulas(void) {
+  static const char wanted[] = "p:Hut\tp:Pier\n1\t1\n1\t2\n2\t3\n2\t4\n";
+  answers("a formula's sheet, one less", write_sheet("Hut=2/Pier=2", RACHDOUM_SHEET - 1), RACHDOUM_REFUSED_CALL);
+  answers("no formula and one less", write_sheet("", RACHDOUM_SHEET - 1), RACHDOUM_REFUSED_CALL);
+  answers("no formula", write_sheet("", RACHDOUM_SHEET), RACHDOUM_REFUSED_FORM_OF_FORMULA);
+  answers("two operators", write_sheet("Row=2*Column=2/Sub=2", RACHDOUM_SHEET), RACHDOUM_REFUSED_FORM_OF_FORMULA);
+  answers("a longer formula", write_sheet(bracketed(RACHDOUM_FORMULA + 1), RACHDOUM_SHEET), RACHDOUM_REFUSED_FORM_OF_FORMULA);
+  answers("seven names", write_sheet("Aa=2/Bb=2/Cc=2/Dd=2/Ee=2/Ff=2/Gg=2", RACHDOUM_SHEET), RACHDOUM_REFUSED_SIZE_OF_FORMULA);
+  answers("seven names and a blank", write_sheet("Aa=2/Bb=2/Cc=2/Dd=2/Ee=2/Ff=2/Gg=2 ", RACHDOUM_SHEET), RACHDOUM_REFUSED_FORM_OF_FORMULA);
+  answers("241 plots and more", write_sheet("Hut=121/Pier=2", RACHDOUM_SHEET), RACHDOUM_REFUSED_SIZE_OF_FORMULA);
+  answers("nothing written", written[0] != 0 || length[0] != 0, RACHDOUM_ACCEPTED);
+  answers("the longest formula", write_sheet(bracketed(RACHDOUM_FORMULA), RACHDOUM_SHEET), RACHDOUM_ACCEPTED);
+  answers("240 plots", write_sheet("Hut=120/Pier=2", RACHDOUM_SHEET), RACHDOUM_ACCEPTED);
+  memset(written, 0, sizeof written);
+  answers("a formula", write_sheet("Hut=2/Pier=2", RACHDOUM_SHEET), RACHDOUM_ACCEPTED);
+  answers("the length of its sheet", length[0] != sizeof wanted - 1, RACHDOUM_ACCEPTED);
+  answers("its sheet", memcmp(written, wanted, sizeof wanted) != 0, RACHDOUM_ACCEPTED);
+}
+
 static uint32_t refusal_of(const char *path) {
   FILE *file = fopen(path, "rb");
   size_t text_len = file != NULL ? fread(text, 1, sizeof text, file) : 0;
@@ -197,6 +231,7 @@ int main(void) {
   families();
   wide_levels();
   parents();
+  formulas();
   names();
   threads();
   return bad;

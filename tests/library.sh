@@ -63,15 +63,21 @@ if [[ $(tests_of "$work/sheets/untested.table" | head -n 1) != 'Filter (1 df) ca
   bad=1
 fi
 
+# arguments_for FILE: what the examples are called with; a formula stands in the call itself
+arguments_for() {
+  [[ $1 == *.formula ]] && given=(--formula "$(cat "$1")") || given=("$1")
+}
+
 # tables NAME COMMAND..: the command prints the table of each sheet, an empty line and how each treatment is tested; one numbered within
-# parents (.old) has the table of the sheet that it is converted to. It ends with 1 after a refusal, and with 2, a message and no table
-# where there is no such file or no file is named
+# parents (.old) and a formula have the table of the sheet that is made of them. It ends with 1 after a refusal, and with 2, a message and
+# no table where there is no such file or no file is named
 tables() {
-  local sheet table status count=0 wrong=0
-  for sheet in examples/*.sheet examples/*.old "$work"/sheets/*.sheet; do
+  local sheet table status given count=0 wrong=0
+  for sheet in examples/*.sheet examples/*.old examples/*.formula "$work"/sheets/*.sheet; do
     count=$((count + 1))
     table=${sheet%.*}.table
-    "${@:2}" "$sheet" >"$work/out" 2>"$work/err"
+    arguments_for "$sheet"
+    "${@:2}" "${given[@]}" >"$work/out" 2>"$work/err"
     status=$?
     if ! sed '/^$/,$d' "$work/out" | cmp -s - "$table"; then
       echo "library: $1: not the table of $sheet"
@@ -91,7 +97,7 @@ tables() {
       wrong=1
     fi
   done
-  [[ $count -gt 1 && $wrong -eq 0 ]] && echo "library: $1: $count sheets as expected" || bad=1
+  [[ $count -gt 1 && $wrong -eq 0 ]] && echo "library: $1: $count sheets and formulas as expected" || bad=1
 }
 
 # same_constants: the examples that cannot include the header have its lengths and its type of a level

@@ -13,13 +13,11 @@ printf 'p:Hut\tt:Gain\n1\t1\n1\t2\n2\t1\n2\t2\n' >"$work/sample"
 printf 'stratum\tsource\tdf\nU\tU\t1\nU\t=total\t1\nHut\t=total\t1\nE\tGain\t1\nE\t=residual\t1\nE\t=total\t2\n=all\t=total\t4\n' >"$work/table"
 sample "$work/table"
 
-input_of_any_length
+input_of_any_length 32768 2 3
 reads_and_writes_that_fail
 
 # a sheet that has to be converted first
-printf 'p:Bench\tp:Section/Bench\n1\t1\n' >"$work/old"
-run <"$work/old"
-prints 'a slash in the first line' "$work/three"
+refused 'p:Bench\tp:Section/Bench\n1\t1\n' 3
 
 # the examples
 bash examples/compare.sh "$program"

@@ -9,8 +9,6 @@ begin() {
   failed=0
   work=$(mktemp -d) || exit 1
   trap 'rm -rf "$work"' EXIT
-  printf 'refused\t2\t-\t-\n' >"$work/two"
-  printf 'refused\t3\t-\t-\n' >"$work/three"
 }
 
 finish() {
@@ -40,6 +38,18 @@ prints() {
   verdict "$1"
 }
 
+# refuses NAME NUMBER: the program wrote the line of this refusal, and nothing else
+refuses() {
+  printf 'refused\t%s\t-\t-\n' "$2" >"$work/line"
+  prints "$1" "$work/line"
+}
+
+# refused TEXT NUMBER: the program refuses this text, in which backslashes mean what they mean to printf
+refused() {
+  run < <(printf '%b' "$1")
+  refuses "refused by $2: $1" "$2"
+}
+
 # complains NAME WHERE: the program wrote nothing, and on standard error a message that says where it failed
 complains() {
   [[ $status -eq 0 && ! -s $work/out ]] && grep -q "^$name: $2: ." "$work/err"
@@ -64,32 +74,33 @@ pieces() {
 # sample FILE: what is printed for $work/sample, at once and in pieces
 sample() {
   run <"$work/sample"
-  prints 'the sample sheet' "$1"
+  prints 'the sample' "$1"
   run < <(pieces "$work/sample")
-  prints 'the sample sheet in pieces' "$1"
+  prints 'the sample in pieces' "$1"
 }
 
-# input_of_any_length: the number of bytes has to be 1 to 32,768; then every byte from 0 to 255
+# input_of_any_length MOST OTHER ZEROS: the number of bytes has to be 1 to MOST, any other is refused by OTHER, and bytes 0 by ZEROS; then
+# every byte from 0 to 255
 input_of_any_length() {
   run </dev/null
-  prints 'no input' "$work/two"
-  run < <(zeros 32768)
-  prints '32,768 bytes' "$work/three"
-  run < <(zeros 32769)
-  prints '32,769 bytes' "$work/two"
-  run < <(zeros 32768 && sleep 0.2 && zeros 1)
-  prints '32,768 bytes and one that comes late' "$work/two"
+  refuses 'no input' "$2"
+  run < <(zeros "$1")
+  refuses "$1 bytes" "$3"
+  run < <(zeros $(($1 + 1)))
+  refuses "$1 bytes and one more" "$2"
+  run < <(zeros "$1" && sleep 0.2 && zeros 1)
+  refuses "$1 bytes and one that comes late" "$2"
   zeros 1048576 >"$work/megabyte"
   run <"$work/megabyte"
-  prints 'a megabyte' "$work/two"
+  refuses 'a megabyte' "$2"
   run < <(cat "$work/megabyte")
-  prints 'a megabyte through a pipe' "$work/two"
+  refuses 'a megabyte through a pipe' "$2"
   local byte
   for ((byte = 0; byte < 256; byte++)); do
     printf "\\x$(printf '%02x' "$byte")"
   done >"$work/bytes"
   run <"$work/bytes"
-  prints 'binary input' "$work/three"
+  refuses 'binary input' "$3"
 }
 
 # reads_and_writes_that_fail: each is told, with $work/sample as input where a write fails
