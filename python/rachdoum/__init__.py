@@ -23,6 +23,7 @@ from .planning import (
     Stratum,
     convert,
     degrees,
+    formula,
     full_design,
     name,
     plan,
@@ -40,6 +41,6 @@ __version__ = "1.0.0"
 
 __all__ = [
     "Family", "Levels", "LibraryMissing", "Member", "Note", "Plan", "Refusal", "Relation", "Source", "Stratum", "Table",
-    "WrongCall", "convert", "degrees", "full_design", "name", "notes_on", "plan", "plot_design", "read_file", "read_sheet",
+    "WrongCall", "convert", "degrees", "formula", "full_design", "name", "notes_on", "plan", "plot_design", "read_file", "read_sheet",
     "relation", "skeleton", "strata",
 ]

@@ -6,10 +6,10 @@ import os
 import sys
 from typing import Any, Dict, List, Optional
 
-from . import __version__, library
+from . import __version__, formulas, library
 from .nesting import Pair
 from .notes import Note, notes_on
-from .planning import Plan, convert, plan_of, prepare
+from .planning import Plan, convert, formula, formula_table, plan_of, prepare
 from .refusals import Refusal
 from .sheets import read_file
 from .show import aligned, as_dictionary, note_as_dictionary, refusal_as_dictionary
@@ -27,6 +27,12 @@ Prints the sheet of a table, in the form that skeleton and the library read. A p
 another one, written p:Pier/Hut in the first line or named by --nested, gets consecutive numbers; all other numbers stay.
 """
 
+SHEET_OF_FORMULA = """\
+Prints the sheet of a block formula such as Hut=4/Pier=3 or (Row=3*Column=3)/Sub=2: a plot column for each name and a line for each plot,
+to which the treatments can be added. / puts what comes later inside what comes before, * crosses the two; each name has its count, and
+brackets say what belongs together. In a shell the formula stands in quotation marks.
+"""
+
 EXAMPLES = """\
 A file has one line for each plot below a line that names the columns. p: marks how the plots lie (hut, pier, week),
 t: marks what is done to them (gain, cable). Levels may be numbers or texts. CSV with commas or semicolons and text with
@@ -41,6 +47,8 @@ examples:
   rachdoum plan --json one.csv two.csv
   cat trial.csv | rachdoum plan -
   rachdoum convert old.sheet > new.sheet            with consecutive numbers in place of those that start again
+  rachdoum plan --formula 'Hut=4/Pier=3'            four huts with three piers each: the strata, before there are treatments
+  rachdoum formula 'Hut=4/Pier=3' > trial.sheet     the sheet of it, to which the treatments can be added
 
 In the table, U is the mean of all plots, E is every plot by itself, I(Gain,Cable) the combinations of two columns and
 #2 the second member of its family, one that no column and no combination gives.
@@ -58,7 +66,9 @@ def parser() -> argparse.ArgumentParser:
     plan = commands.add_parser(
         "plan", help="print the table of each file", description=DESCRIPTION, epilog=EXAMPLES, formatter_class=form
     )
-    plan.add_argument("files", nargs="+", metavar="FILE", help="a table of plots; - for standard input")
+    given = plan.add_mutually_exclusive_group(required=True)
+    given.add_argument("files", nargs="*", default=[], metavar="FILE", help="a table of plots; - for standard input")
+    given.add_argument("--formula", metavar="FORMULA", help="a block formula in place of a file, such as 'Hut=4/Pier=3'")
     _add_columns(plan)
     plan.add_argument(
         "--crossed", action="append", default=[], metavar="ONE,OTHER", help="the two do cross: no note about them"
@@ -76,7 +86,11 @@ def parser() -> argparse.ArgumentParser:
         description=CONVERSION,
     )
     sheet_of.add_argument("files", nargs=1, metavar="FILE", help="a table of plots; - for standard input")
+    sheet_of.set_defaults(formula=None)
     _add_columns(sheet_of)
+    formula_of = commands.add_parser("formula", help="print the sheet of a block formula", description=SHEET_OF_FORMULA)
+    formula_of.add_argument("formula", metavar="FORMULA", help="such as 'Hut=4/Pier=3'")
+    formula_of.set_defaults(files=[])
     return top
 
 
@@ -128,7 +142,7 @@ def _plan_table(given: Table, options: argparse.Namespace, output: Output) -> in
     try:
         table = prepare(given, _names(options.plots), _names(options.treatments), options.nested, options.tsv)
     except Refusal as refusal:
-        return _print_refusal(given, refusal, refusal.tsv(), options, output)
+        return _print_refusal(given.source, refusal, refusal.tsv(), options, output)
     crossed = _crossed(options.crossed, table) if table.columns else []
     if table.unused and not options.quiet:
         output.message(f"{table.source}: not used: {row_of(table.unused)}")
@@ -136,11 +150,29 @@ def _plan_table(given: Table, options: argparse.Namespace, output: Output) -> in
         plan = plan_of(table, options.k, strict=options.tsv)
     except Refusal as refusal:
         line = _printed(table) if options.tsv and options.k == library.INTERACTIONS else refusal.tsv()
-        return _print_refusal(table, refusal, line, options, output)
+        return _print_refusal(table.source, refusal, line, options, output)
     notes = [] if options.quiet else notes_on(plan, crossed)
     _print_plan(plan, notes, options, output)
     for note in notes:
         _print_note(note, f"{table.source}: " if len(options.files) > 1 else "", output)
+    return TABLE_GIVEN
+
+
+def _plan_formula(options: argparse.Namespace, output: Output) -> int:
+    """Plans the sheet of the formula and answers the exit status."""
+    try:
+        table = formula_table(options.formula)
+    except Refusal as refusal:
+        return _print_refusal(formulas.SOURCE, refusal, refusal.tsv(), options, output)
+    return _plan_table(table, options, output)
+
+
+def _write_formula(options: argparse.Namespace, output: Output) -> int:
+    """Prints the sheet of the formula and answers the exit status."""
+    try:
+        output.table(formula(options.formula))
+    except Refusal as refusal:
+        return _tell_refusal(formulas.SOURCE, refusal, output)
     return TABLE_GIVEN
 
 
@@ -149,7 +181,7 @@ def _convert_table(given: Table, options: argparse.Namespace, output: Output) ->
     try:
         output.table(convert(given, plots=_names(options.plots), treatments=_names(options.treatments), nested=options.nested))
     except Refusal as refusal:
-        return _tell_refusal(given, refusal, output)
+        return _tell_refusal(given.source, refusal, output)
     return TABLE_GIVEN
 
 
@@ -169,17 +201,17 @@ def _printed(table: Table) -> str:
     return library.skeleton(sheet(table, strict=True).text)[1].decode("ascii")
 
 
-def _print_refusal(table: Table, refusal: Refusal, line: str, options: argparse.Namespace, output: Output) -> int:
+def _print_refusal(source: str, refusal: Refusal, line: str, options: argparse.Namespace, output: Output) -> int:
     """Prints a refusal, for programs by the rules' line, and answers the exit status."""
     if options.tsv:
         output.table(line)
     elif options.json:
-        output.documents.append({"file": table.source, "refused": refusal_as_dictionary(refusal)})
-    return _tell_refusal(table, refusal, output)
+        output.documents.append({"file": source, "refused": refusal_as_dictionary(refusal)})
+    return _tell_refusal(source, refusal, output)
 
 
-def _tell_refusal(table: Table, refusal: Refusal, output: Output) -> int:
-    output.message(f"rachdoum: {table.source}: refused ({refusal.number}): {refusal.what}")
+def _tell_refusal(source: str, refusal: Refusal, output: Output) -> int:
+    output.message(f"rachdoum: {source}: refused ({refusal.number}): {refusal.what}")
     output.message(f"  Remedy: {refusal.remedy[:1].upper()}{refusal.remedy[1:]}")
     return REFUSED
 
@@ -191,7 +223,8 @@ def _print_note(note: Note, heading: str, output: Output) -> None:
         output.message("".join(f"    {line}\n" for line in aligned(note.other).splitlines()).rstrip("\n"))
 
 
-def _run(options: argparse.Namespace, output: Output) -> int:
+def _each_file(options: argparse.Namespace, output: Output) -> int:
+    """Plans or converts each file and answers the exit status."""
     status = TABLE_GIVEN
     work = _plan_table if options.command == "plan" else _convert_table
     for path in options.files:
@@ -201,15 +234,22 @@ def _run(options: argparse.Namespace, output: Output) -> int:
             output.message(f"rachdoum: {path}: {error.strerror or error}")
             status = WRONG_CALL
             continue
-        try:
-            status = max(status, work(table, options, output))
-        except (WrongCall, library.LibraryMissing) as error:
-            output.message(f"rachdoum: {error}")
-            return WRONG_CALL
+        status = max(status, work(table, options, output))
+    return status
+
+
+def _run(options: argparse.Namespace, output: Output) -> int:
+    of_formula = _plan_formula if options.command == "plan" else _write_formula
+    work = _each_file if options.formula is None else of_formula
+    try:
+        status = work(options, output)
+    except (WrongCall, library.LibraryMissing) as error:
+        output.message(f"rachdoum: {error}")
+        return WRONG_CALL
     if output.documents:
         import json
 
-        whole = output.documents[0] if len(options.files) == 1 else output.documents
+        whole = output.documents if len(options.files) > 1 else output.documents[0]
         output.table(json.dumps(whole, indent=2) + "\n")
     return status
 

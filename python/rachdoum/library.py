@@ -21,6 +21,7 @@ COLUMNS = 6
 MEMBERS = 32
 INTERACTIONS = 6
 TEXT_BYTES = 32_768
+FORMULA_BYTES = 256
 TABLE_BYTES = 32_768
 SHEET_BYTES = 32_768
 NAME_BYTES = 96
@@ -52,6 +53,7 @@ _SIGNATURES = {
     "name": _SLICE + _TABLE + _SLICE + [c_size_t] * 2 + [c_uint32, c_size_t] + _OUT + [POINTER(c_uint64)],
     "skeleton": _SLICE + _OUT + [POINTER(c_uint64)],
     "convert": _SLICE + _OUT + [POINTER(c_uint64)],
+    "formula": _SLICE + _OUT + [POINTER(c_uint64)],
 }
 
 
@@ -227,6 +229,22 @@ def convert(text: bytes) -> Tuple[int, bytes]:
     >>> convert(b"p:Section/Bench\\tp:Bench\\n1\\t1\\n2\\t1\\n")
     (23, b'')
     """
+    return _sheet(load().rachdoum_convert, text)
+
+
+def formula(text: bytes) -> Tuple[int, bytes]:
+    """Writes the sheet of a block formula. Answers the number and the sheet, which is empty after a refusal.
+
+    >>> formula(b"Hut=2/Pier=2")
+    (0, b'p:Hut\\tp:Pier\\n1\\t1\\n1\\t2\\n2\\t3\\n2\\t4\\n')
+    >>> formula(b"Hut=2/Pier"), formula(b"Hut=12/Pier=24")
+    ((17, b''), (18, b''))
+    """
+    return _sheet(load().rachdoum_formula, text)
+
+
+def _sheet(entry: Any, text: bytes) -> Tuple[int, bytes]:
+    """What an entry that makes a sheet of a text answers."""
     out, answer = (c_uint8 * SHEET_BYTES)(), (c_uint64 * 1)()
-    number = load().rachdoum_convert(text, len(text), out, SHEET_BYTES, answer)
+    number = entry(text, len(text), out, SHEET_BYTES, answer)
     return number, bytes(out)[: answer[0]]

@@ -59,6 +59,8 @@ def starting_again(table: Table, crossed: Sequence[Pair] = ()) -> List[Pair]:
     >>> starting_again(table), starting_again(table, [("Hut", "Pier")])
     ([('Pier', 'Hut')], [])
     """
+    if table.formula:
+        return []
     excused = {frozenset(pair) for pair in crossed}
     cells = {column.name: table.cells(column) for column in table.of_kind(PLOT)}
     found = [pair for pair in _pairs(table) if crosses(cells[pair[0]], cells[pair[1]]) and not _is_given(table, pair)]
@@ -72,6 +74,8 @@ def starting_again(table: Table, crossed: Sequence[Pair] = ()) -> List[Pair]:
 
 def other_readings(table: Table) -> List[List[Pair]]:
     """Other ways to read the numbers, likelier ones first: one column inside another, then several, each inside the one before."""
+    if table.formula:
+        return []
     cells = {column.name: table.cells(column) for column in table.of_kind(PLOT)}
     apart = [pair for pair in _pairs(table) if not _comparable(cells[pair[0]], cells[pair[1]])]
     readings = [[pair] for pair in apart] + [[(parent, child)] for child, parent in apart]

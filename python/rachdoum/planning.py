@@ -6,12 +6,12 @@ its name, or by `plots=` and `treatments=`. What the library refuses raises a `R
 """
 from __future__ import annotations
 
-from dataclasses import dataclass, field
+from dataclasses import dataclass, field, replace
 from typing import Any, List, Sequence, Tuple, Union
 
-from . import library, nesting, refusals
+from . import formulas, library, nesting, refusals
 from .refusals import Refusal
-from .sheets import read_table
+from .sheets import read_bytes, read_table
 from .tables import Sheet, Table, choose, converted, nest, sheet, slashes
 
 Nested = Union[str, Sequence[Any]]
@@ -435,3 +435,30 @@ def convert(table: Any, *, plots: Any = None, treatments: Any = None, nested: Ne
     if number:
         raise refusals.of_text(ready, number, strict=True)
     return text.decode("ascii")
+
+
+def formula(text: str) -> str:
+    """The sheet of a block formula: a plot column for each name, and the plots that its counts make.
+
+    `/` puts what comes later inside what comes before, `*` crosses the two. Blanks around the signs do not count. `plan` takes the sheet
+    as it is, or with some of its names as treatments.
+
+    >>> print(formula("Hut = 2 / Pier = 2").replace("\\t", " "), end="")
+    p:Hut p:Pier
+    1 1
+    1 2
+    2 3
+    2 4
+    >>> plan(formula("Block=4*Gain=3"), treatments="Gain").source("Gain").test
+    '6 df of E'
+    """
+    tidied = formulas.tidy(text)
+    number, made = library.formula(tidied.encode("utf-8", "replace"))
+    if number:
+        raise formulas.of_formula(tidied, number)
+    return made.decode("ascii")
+
+
+def formula_table(text: str) -> Table:
+    """The table of a formula's sheet."""
+    return replace(read_bytes(formula(text).encode("ascii"), formulas.SOURCE), formula=True)

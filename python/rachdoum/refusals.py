@@ -277,9 +277,10 @@ def _with_levels(table: Table, kind: str) -> str:
 
 
 def _plot_family(table: Table, sizes: Tuple[int, ...], k: int, accepts: Accepts) -> Tuple[str, str]:
+    inside = "write / and not * before what lies" if table.formula else "number consecutively what lies"
     return (
         f"the plot columns {_with_levels(table, PLOT)} {_make(table, PLOT)}.",
-        "number consecutively what lies inside something else, or leave out a plot column.",
+        f"{inside} inside something else, or leave out a plot column.",
     )
 
 

@@ -46,7 +46,8 @@ class Column:
 class Table:
     """Plots and their levels as texts. A row may have too many or too few fields: the library will refuse it.
 
-    The table of a file has the number of the line with the titles, and of the line of each row.
+    The table of a file has the number of the line with the titles, and of the line of each row. That of a formula is marked: it says
+    what lies inside what, and its numbers cannot be meant otherwise.
     """
 
     source: str
@@ -58,6 +59,7 @@ class Table:
     given: int = 0
     raw: Optional[bytes] = None
     fault: Tuple[str, ...] = ()
+    formula: bool = False
 
     def spot(self, *rows: int) -> str:
         """What a row, or some, are called in a message: lines of a file, or plots."""

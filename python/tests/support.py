@@ -115,6 +115,29 @@ def _numbered(chance, column):
     return [dict(zip(labels, numbers))[label] for label in column]
 
 
+def formula(seed):
+    """A random formula: mostly one that is taken, now and then with too many names or plots, or with a byte changed."""
+    chance = random.Random(seed)
+    names = chance.sample(["Hut", "Pier", "Week", "Aa", "Aaa", "AA", "Longestnam12", "N1", "Row", "Column"], chance.choice([1, 2, 3, 4, 5, 6, 7]))
+    most = 240 if chance.random() < 0.1 else 5 if len(names) < 5 else 3
+    text = _list(chance, [f"{name}={chance.randint(2, most)}" for name in names])
+    while chance.random() < 0.3:
+        place = chance.randrange(len(text) + 1)
+        text = text[:place] + chance.choice(["", "/", "*", "(", ")", "=", "2", "0", "A", " "]) + text[place + chance.randrange(2) :]
+    return text
+
+
+def _list(chance, items):
+    """Items joined by one operator, some of them together in brackets."""
+    parts = []
+    while items:
+        count = chance.randint(1, len(items))
+        part, items = items[:count], items[count:]
+        bracketed = count > 1 and (parts or items) or chance.random() < 0.1
+        parts.append(f"({_list(chance, part)})" if bracketed else chance.choice("/*").join(part))
+    return chance.choice("/*").join(parts) if len(parts) > 1 else parts[0]
+
+
 def with_parents(seed, titles):
     """The titles with a parent for some plot columns: mostly one further left, now and then any column or none of them."""
     chance, made = random.Random(seed), []

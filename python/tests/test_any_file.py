@@ -114,6 +114,19 @@ class AnyFile(unittest.TestCase):
         columns = [options for options in OPTIONS if set(options[::2]) <= {"--plots", "--treatments", "--nested"}]
         self.no_traceback("convert", FILES // 4, columns)
 
+    def test_no_traceback_of_formulas(self):
+        chance, pieces = random.Random(SEED), [piece.decode("utf-8", "surrogateescape") for piece in PIECES]
+        pieces += ["=", "/", "*", "(", ")", "Hut", "Pier", "2", "240", "Hut=2", "Pier=3", "(Row=3*Column=3)", " "] * 3
+        for number in range(FILES // 4):
+            text = "".join(chance.choice(pieces) for _ in range(chance.randint(0, 12)))
+            with self.subTest(text=text):
+                for words in (["formula", "--", text], ["plan", f"--formula={text}"]):
+                    status, out, err = run(*words)
+                    self.assertIn(status, (0, 1))
+                    if status == 1:
+                        self.assertRegex(err, r"^rachdoum: the formula: refused \(\d+\): .+\n  Remedy: .+\n$")
+                    self.assertTrue(all(c.isprintable() or c == "\n" for c in err), err)
+
 
 if __name__ == "__main__":
     unittest.main()

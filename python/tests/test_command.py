@@ -321,6 +321,57 @@ class Parents(unittest.TestCase):
                 self.assertEqual(run("convert", path)[:2], (int(number > 0), expected))
 
 
+class Formulas(unittest.TestCase):
+    """A block formula in place of a file, and its sheet."""
+
+    TABLE = b"""\
+stratum  source  df  tested against
+U        U        1  the mean, not tested
+         total    1
+Hut      total    3
+E        total    8
+all      total   12
+"""
+
+    def test_each_example(self):
+        paths = sorted(glob.glob(os.path.join(EXAMPLES, "*.formula")))
+        self.assertGreaterEqual(len(paths), 5)
+        for path in paths:
+            with self.subTest(os.path.basename(path)):
+                text, table = bytes_of(path).decode("ascii"), bytes_of(path[: -len("formula")] + "table")
+                refused = table.startswith(b"refused")
+                sheet = b"" if refused else bytes_of(path[: -len("formula")] + "sheet")
+                self.assertEqual(run("formula", text)[:2], (int(refused), sheet))
+                self.assertEqual(run("plan", "--tsv", "--formula", text)[:2], (int(refused), table))
+
+    def test_the_table(self):
+        for words in (["--formula", "Hut=4/Pier=3"], ["--formula=Hut=4/Pier=3"], ["--formula", " Hut = 4 / Pier = 3 "]):
+            self.assertEqual(run("plan", *words), (0, self.TABLE, ""))
+
+    def test_names_that_cross_get_no_note(self):
+        self.assertEqual(run("plan", "--formula", "Hut=3*Pier=3")[::2], (0, ""))
+        sheet = run("formula", "Hut=3*Pier=3")[1]
+        self.assertIn("note: Pier 1 is taken as one pier that all 3 huts share.", run("plan", "-", data=sheet)[2])
+
+    def test_names_as_treatments(self):
+        status, out, err = run("plan", "--formula", "Block=4*Gain=3", "--treatments", "Gain")
+        self.assertEqual((status, err), (0, ""))
+        self.assertIn("E        Gain       2  6 df of E", out.decode().splitlines())
+
+    def test_too_many_members(self):
+        status, out, err = run("plan", "--tsv", "--formula", "Site=2*Hut=2*Pier=2*Month=2*Week=2*Shift=2")
+        self.assertEqual((status, out), (1, b"refused\t8\t-\t-\n"))
+        self.assertTrue(err.endswith("  Remedy: Write / and not * before what lies inside something else, or leave out a plot column.\n"), err)
+        self.assertEqual(run("plan", "--tsv", "--formula", "(Site=2/Hut=2/Pier=2)*Month=2*Week=2*Shift=2")[0], 0)
+
+    def test_as_json(self):
+        status, out, err = run("plan", "--json", "--formula", "Hut=4/Pier=3")
+        document = json.loads(out)
+        self.assertEqual((status, document["file"], document["plots"], document["notes"]), (0, "the formula", 12, []))
+        refused = json.loads(run("plan", "--json", "--formula", "Hut=4/Pier")[1])["refused"]
+        self.assertEqual((refused["number"], refused["what"]), (17, "`Pier` has no count."))
+
+
 class Documents(unittest.TestCase):
     """What the documents show is what the command prints."""
 
@@ -345,6 +396,7 @@ class Documents(unittest.TestCase):
             self.assertEqual(shown, table.decode())
             self.assertEqual(run("plan", "-", "--quiet", data=self.sheet(lines))[:2], (0, table))
         self.assertIn(NOTE.splitlines()[0], text)
+        self.assertIn(Formulas.TABLE.decode(), text.split("```\n")[1::2])
         self.assertEqual(run("plan", os.path.join(EXAMPLES, "piers.csv")), (0, CROSSED_TABLE, NOTE))
 
     def test_refusals(self):
@@ -360,7 +412,9 @@ class Documents(unittest.TestCase):
 
     def test_examples(self):
         blocks = self.document("docs", "EXAMPLES.md").split("```\n")[1::2]
-        for name in ("sample.sheet", "sample.table", "sections.old", "sections.sheet", "sections.table"):
+        names = ["sample.sheet", "sample.table", "sections.old", "sections.sheet", "sections.table"]
+        names += [f"{name}.{part}" for name in ("hut-pier", "row-column", "row-column-sub") for part in ("sheet", "table")]
+        for name in names:
             self.assertIn(self.document("examples", name), blocks, name)
 
     def test_python_in_documents(self):
@@ -380,7 +434,12 @@ class WrongCalls(unittest.TestCase):
 
     def test_wrong_calls(self):
         self.refuses(message="required: COMMAND")
-        self.refuses("plan", message="required: FILE")
+        self.refuses("plan", message="one of the arguments FILE --formula is required")
+        self.refuses("plan", "-", "--formula", "Hut=2", message="--formula: not allowed with argument FILE")
+        self.refuses("plan", "--formula", message="--formula: expected one argument")
+        self.refuses("plan", "--formula", "Hut=2", "--nested", "Hut/Hat", message="there is no column 'Hat': the formula has Hut")
+        self.refuses("formula", message="required: FORMULA")
+        self.refuses("formula", "Hut=2", "--tsv", message="unrecognized arguments: --tsv")
         self.refuses("plot", message="invalid choice: 'plot'")
         self.refuses("convert", message="required: FILE")
         self.refuses("convert", "-", "--tsv", message="unrecognized arguments: --tsv")

@@ -240,6 +240,65 @@ FILES = {
 }
 
 
+COUNT = "A count is a whole number from 2 to 240, without leading zeros."
+ITEM = "Write a name and its count, such as Pier=3."
+MIXED = "Say by brackets which belong together, such as (Row=3*Column=3)/Sub=2 or Row=3*(Column=3/Sub=2)."
+NOTHING = "Put a name with its count there, or take the sign out."
+CROSS = "Write / if what comes later lies inside, * if the two cross."
+
+# the formula: (the number, what is wrong, the remedy)
+FORMULAS = {
+    "": (17, "it is empty.", "Write names and counts, such as Hut=4/Pier=3."),
+    " \n": (17, "it is empty.", "Write names and counts, such as Hut=4/Pier=3."),
+    "/".join(f"Longestnam{i:02}=2" for i in range(1, 18)) + "/Aa": (
+        17, "it has 257 bytes, and at most 256 are taken.", "Leave out names, of which at most 6 are taken, or brackets.",
+    ),
+    "Hut/Pier": (17, "`Hut` has no count.", "Write how many there are, such as Hut=3."),
+    "Hut=4/Pier": (17, "`Pier` has no count.", "Write how many there are, such as Pier=3."),
+    "Hut=4/Pier=": (17, "`Pier=` has no count.", COUNT),
+    "Hut=4/3": (17, f"`3` is no name: {FORM}.", ITEM),
+    "Hut=4/=3": (17, f"`=3` is no name: {FORM}.", ITEM),
+    "A=2/Bb=2": (17, f"`A` is no name: {FORM}.", ITEM),
+    "Hut=4/Pier no = 3": (17, f"`Pier no` is no name: {FORM}.", ITEM),
+    "Hütte=4": (17, f"`Hütte` is no name: {FORM}.", ITEM),
+    "Hut=4:Pier=3": (17, "`:` is no operator.", CROSS),
+    "Hut = 4 + Week = 2": (17, "`+` is no operator.", CROSS),
+    "Hut=4.5/Pier=3": (17, "`4.5` cannot be the count of Hut.", COUNT),
+    "Hut=1/Pier=3": (17, "`1` cannot be the count of Hut.", COUNT),
+    "Hut=04/Pier=3": (17, "`04` cannot be the count of Hut.", COUNT),
+    "Hut=241": (17, "`241` cannot be the count of Hut.", COUNT),
+    "Hut=4 2": (17, "`4 2` cannot be the count of Hut.", COUNT),
+    "Hut=four": (17, "`four` cannot be the count of Hut.", COUNT),
+    "Row=3*Column=3/Sub=2": (17, "`*` and `/` are mixed without brackets.", MIXED),
+    "Site=2/(Row=3/Sub=2*Column=3)": (17, "`/` and `*` are mixed without brackets.", MIXED),
+    "(Row=3*Column=3": (17, "a bracket is opened and not closed.", "Close it, or take it out."),
+    "Row=3*Column=3)/Sub=2": (17, "a bracket is closed that was not opened.", "Open it, or take it out."),
+    "Hut=4/": (17, "there is nothing after `/`.", NOTHING),
+    "*Hut=4": (17, "there is nothing before `*`.", NOTHING),
+    "Hut=4//Pier=3": (17, "there is nothing between `/` and `/`.", NOTHING),
+    "Hut=4/()": (17, "there is nothing between `(` and `)`.", NOTHING),
+    "(Row=3*Column=3)Sub=2": (17, "no operator stands between `)` and `Sub=2`.", CROSS),
+    "Hut=4(Pier=3)": (17, "no operator stands between `Hut=4` and `(`.", CROSS),
+    "Hut=4/Pier=3*": (17, "`/` and `*` are mixed without brackets.", MIXED),
+    "(Hut=4/Pier=3)*Hut=2": (17, "two names are `Hut`.", "Rename one of them."),
+    "Aa=2/Bb=2/Cc=2/Dd=2/Ee=2/Ff=2/Gg=2": (18, "it has 7 names, and at most 6 are taken.", "Leave some out."),
+    "Hut=12/Pier=24": (18, "its counts 12 and 24 make 288 plots, and at most 240 are taken.", "Lower a count, or split the trial."),
+    "Site=10*Hut=10*Pier=20": (
+        18, "its counts 10, 10 and 20 make 2,000 plots, and at most 240 are taken.", "Lower a count, or split the trial.",
+    ),
+}
+
+
+class DamagedFormulas(unittest.TestCase):
+    def test_messages(self):
+        for text, (number, what, remedy) in FORMULAS.items():
+            with self.subTest(text):
+                expected = f"rachdoum: the formula: refused ({number}): {what}\n  Remedy: {remedy}\n"
+                self.assertEqual(run("formula", text), (1, b"", expected))
+                self.assertEqual(run("plan", "--formula", text), (1, b"", expected))
+                self.assertEqual(run("plan", "--tsv", "--formula", text), (1, b"refused\t%d\t-\t-\n" % number, expected))
+
+
 class DamagedFiles(unittest.TestCase):
     def test_messages(self):
         self.assertGreaterEqual(len(FILES), 30)

@@ -99,8 +99,31 @@ class Entries(unittest.TestCase):
         ]:
             self.assertEqual(library.convert(text), (number, b""))
 
+    def test_formula(self):
+        for text, titles, columns in [
+            (b"Hut=3", b"p:Hut", ["123"]),
+            (b"Hut=2/Pier=2", b"p:Hut\tp:Pier", ["1122", "1234"]),
+            (b"Hut=2*Week=3", b"p:Hut\tp:Week", ["111222", "123123"]),
+            (b"Hut=2/(Pier=2*Week=2)", b"p:Hut\tp:Pier\tp:Week", ["11112222", "11223344", "12123434"]),
+            (b"(Hut=2*Week=2)/Pier=2", b"p:Hut\tp:Week\tp:Pier", ["11112222", "11221122", "12345678"]),
+            (b"(Hut=2/Pier=2)*Week=2", b"p:Hut\tp:Pier\tp:Week", ["11112222", "11223344", "12121212"]),
+            (b"(" * 126 + b"Aa=2" + b")" * 126, b"p:Aa", ["12"]),
+        ]:
+            rows = b"".join("\t".join(row).encode() + b"\n" for row in zip(*columns))
+            self.assertEqual(library.formula(text), (0, titles + b"\n" + rows))
+
+    def test_formula_refusals(self):
+        seven = b"/".join(b"%c%c=2" % (letter, letter) for letter in b"abcdefg")
+        for text, number in [
+            (b"", 17), (b"(" * 126 + b"Aaa=2" + b")" * 126, 17), (b"Aa=2\n", 17), (b"Aa = 2", 17), (b"A=2", 17), (b"Aa=1", 17),
+            (b"Aa=241", 17), (b"Aa=02", 17), (b"Aa=2/Aa=2", 17), (b"Aa=2*Bb=2/Cc=2", 17), (b"(Aa=2", 17), (seven + b"/", 17),
+            (b"Aa=240*Bb=241", 17), (seven, 18), (b"Aa=121*Bb=2", 18), (b"Aa=240*Bb=240", 18),
+        ]:
+            self.assertEqual(library.formula(text), (number, b""))
+
     def test_bytes_with_a_zero_in_them(self):
         self.assertEqual(library.skeleton(b"p:Hut\n1\0\n"), (0, b"refused\t4\t-\t-\n"))
+        self.assertEqual(library.formula(b"Hut=2\0"), (17, b""))
 
 
 class Header(unittest.TestCase):
@@ -116,7 +139,7 @@ class Header(unittest.TestCase):
         own = {
             "PLOTS": library.PLOTS, "COLUMNS": library.COLUMNS, "INTERACTION": library.INTERACTIONS, "MEMBERS": library.MEMBERS,
             "TEXT": library.TEXT_BYTES, "LEVELS": library.LEVEL_CELLS, "FAMILY": library.FAMILY_BYTES, "NAME": library.NAME_BYTES,
-            "TABLE": library.TABLE_BYTES, "SHEET": library.SHEET_BYTES,
+            "TABLE": library.TABLE_BYTES, "SHEET": library.SHEET_BYTES, "FORMULA": library.FORMULA_BYTES,
         }
         for name, number in re.findall(r"#define RACHDOUM_(\w+) (\d+)", self.text):
             self.assertEqual((name, int(number)), (name, own[name]))

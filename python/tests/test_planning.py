@@ -188,6 +188,22 @@ class Entries(unittest.TestCase):
                 rachdoum.convert(wrong)
             self.assertEqual(caught.exception.number, number)
 
+    def test_formula(self):
+        sheet = "p:Hut\tp:Pier\n1\t1\n1\t2\n2\t3\n2\t4\n"
+        for text in ("Hut=2/Pier=2", " Hut = 2 /\tPier = 2\n", "(Hut=2)/( Pier=2 )"):
+            self.assertEqual(rachdoum.formula(text), sheet)
+        for text, number in (("", 17), ("Hut 1=2", 17), ("Hut=1 2", 17), ("Hütte=2", 17), ("Hut=2\0", 17), ("Hut=12/Pier=24", 18)):
+            with self.assertRaises(Refusal) as caught:
+                rachdoum.formula(text)
+            refusal = caught.exception
+            self.assertEqual((refusal.number, refusal.source, refusal.tsv()), (number, "the formula", f"refused\t{number}\t-\t-\n"))
+
+    def test_the_plan_of_a_formula(self):
+        plan = rachdoum.plan(rachdoum.formula("(Row=3*Column=3)/Sub=2"))
+        self.assertEqual([(s.name, s.degrees) for s in plan.strata], [("U", 1), ("Row", 2), ("Column", 2), ("I(Row,Column)", 4), ("E", 9)])
+        source = rachdoum.plan(rachdoum.formula("Block=4*Gain=3"), treatments="Gain").source("Gain")
+        self.assertEqual((source.stratum, source.degrees, source.against), ("E", 2, 6))
+
     def test_levels(self):
         levels = rachdoum.read_sheet({"Hut": ["n", "s"], "Gain": [5, 5]}, plots=["Hut"], treatments=["Gain"])
         self.assertEqual((levels.plots, levels.plot_columns, levels.treatment_columns), (2, ((1, 2),), ((1, 1),)))

@@ -11,8 +11,9 @@ import subprocess
 import unittest
 
 from rachdoum import library
+from rachdoum.formulas import fault
 from rachdoum.groupings import uneven
-from support import design, run, sheet_bytes, with_parents
+from support import design, formula, run, sheet_bytes, with_parents
 
 DESIGNS = int(os.environ.get("RACHDOUM_DESIGNS", "2000"))
 SEED = int(os.environ.get("RACHDOUM_SEED", "1"))
@@ -127,6 +128,32 @@ class RandomParents(unittest.TestCase):
         seen = [self.check(seed) for seed in range(SEED, SEED + max(DESIGNS // 4, 50))]
         self.assertGreater(sum(refused for refused, _ in seen), len(seen) // 50)
         self.assertGreater(sum(parents and not refused for refused, parents in seen), len(seen) // 8)
+
+
+class RandomFormulas(unittest.TestCase):
+    """Random formulas: the command prints the sheet and its table, which is refused by 8 or not at all, and finds what is wrong."""
+
+    def check(self, seed):
+        text = formula(seed)
+        sheet = direct(text.encode(), "formula")
+        if REFERENCE:
+            self.assertEqual(second_source(text.encode(), "formula"), sheet, "the library and the second implementation differ")
+        self.assertEqual(fault(text) is None, sheet != b"refused\t17\t-\t-\n", text)
+        refused = sheet.startswith(b"refused")
+        expected = sheet if refused else direct(sheet)
+        spaced = re.sub("([=/*()])", r"  \1 ", text)
+        if " " not in text:
+            self.assertEqual(run("formula", "--", spaced)[:2], (1, b"") if refused else (0, sheet), text)
+            status, out, err = run("plan", "--tsv", f"--formula={text}")
+            self.assertEqual((status, out), (int(expected.startswith(b"refused")), expected), err)
+        if not refused and expected.startswith(b"refused"):
+            self.assertEqual((expected, text.count("=")), (b"refused\t8\t-\t-\n", library.COLUMNS), text)
+        return expected.split(b"\t")[1] if expected.startswith(b"refused") else b""
+
+    def test_formulas(self):
+        seen = [self.check(seed) for seed in range(SEED, SEED + max(DESIGNS // 2, 200))]
+        for number, least in ((b"", 4), (b"17", 10), (b"18", 20), (b"8", 200)):
+            self.assertGreaterEqual(seen.count(number), len(seen) // least, number)
 
 
 def orthogonal(first, second):

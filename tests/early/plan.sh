@@ -108,6 +108,14 @@ verdict 'help'
 run ./plan - --k 2
 ended 0 'plan - --k 2 42' 0
 verdict 'standard input'
+run ./plan --tsv --formula=Hut=4/Pier=3
+ended 0 'plan --tsv --formula=Hut=4/Pier=3 42' 0
+verdict 'a formula'
+for command in formula convert; do
+  run ./plan $command 'a b'
+  ended 0 "$command a b 42" 0
+  verdict "the subcommand $command"
+done
 cd "$work" || exit 1
 echo 'raise SystemExit("not this one")' >"$work/ctypes.py"
 run repo/plan 'a b.csv' c.csv
