@@ -99,7 +99,7 @@ prints 'the longest sheet' "$work/sheet"
 
 # no formula
 for text in A=2 Aaaaaaaaaaaaa=2 2a=2 Aa Aa= =2 2 Aa=0 Aa=1 Aa=02 Aa=241 Aa=2562 Aa=18446744073709551618 Aa=+2 Aa=2.5 'Aa = 2' Aa==2 Ää=2 \
-  Aa=2/ /Aa=2 Aa=2//Bb=2 Aa=2+Bb=2 Aa=2:Bb=2 Aa=2*Bb=2/Cc=2 'Aa=2/(Bb=2/Cc=2*Dd=2)' '()' '(Aa=2' 'Aa=2)' '(Aa=2))' ')Aa=2(' \
+  Aa=2/ /Aa=2 Aa=2//Bb=2 Aa=2+Bb=2 Aa=2:Bb=2 'Aa=2*Bb=2/Cc=2' 'Aa=2/(Bb=2/Cc=2*Dd=2)' '()' '(Aa=2' 'Aa=2)' '(Aa=2))' ')Aa=2(' \
   '(Aa=2)(Bb=2)' 'Aa=2(Bb=2)' '(Aa=2)Bb=2' '(Aa)=2' 'Aa=(2)' Aa=2/Aa=2 '(Aa=2*Bb=2)/Aa=3' 'Aa=2\0'; do
   refused "$text" 17
 done

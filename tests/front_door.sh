@@ -23,8 +23,12 @@ step() {
 # installed: the package goes into a folder by pip and its command runs there, with nothing of the repository
 installed() {
   python3 -m pip install --quiet --no-index --no-build-isolation --no-deps --target "$work/site" ./python || return 1
-  cp examples/huts.sheet examples/huts.table "$work" || return 1
-  (cd "$work" && env -u RACHDOUM_LIBRARY PYTHONPATH="$work/site" site/bin/rachdoum plan --tsv huts.sheet | cmp - huts.table)
+  cp examples/huts.sheet examples/huts.table examples/hut-pier.sheet "$work" || return 1
+  (
+    cd "$work" && unset RACHDOUM_LIBRARY && export PYTHONPATH=$work/site &&
+      site/bin/rachdoum plan --tsv huts.sheet | cmp - huts.table &&
+      site/bin/rachdoum formula 'Hut=4/Pier=3' | cmp - hut-pier.sheet
+  )
 }
 
 # old ARCHIVE: there is none, or a source is newer

@@ -1,5 +1,6 @@
 #!/usr/bin/env bash
-# `./plan` as a user meets it: README shows the example's sheet and what is printed for it; the tables of all examples and the exit statuses.
+# `./plan` as a user meets it: README shows the example's sheet and what is printed for it; the tables of all examples, the sheets of formulas
+# and the exit statuses.
 set -u
 cd "$(dirname "$0")/.." || exit 1
 work=$(mktemp -d) || exit 1
@@ -28,12 +29,15 @@ shown() {
 shown examples/huts.sheet 'the sheet'
 shown "$work/table" 'what ./plan prints'
 shown examples/huts.table 'what skeleton prints'
+./plan --formula 'Hut=4/Pier=3' >"$work/table" 2>"$work/err" || { cat "$work/err"; complain 'it fails with a formula'; }
+shown "$work/table" 'the table of a formula'
 
 count=0
-for sheet in examples/*.sheet examples/*.old; do
+for sheet in examples/*.sheet examples/*.old examples/*.formula; do
   count=$((count + 1))
   table=${sheet%.*}.table
-  ./plan --tsv "$sheet" >"$work/out" 2>"$work/err"
+  [[ $sheet == *.formula ]] && given=(--formula "$(cat "$sheet")") || given=("$sheet")
+  ./plan --tsv "${given[@]}" >"$work/out" 2>"$work/err"
   status=$?
   if grep -q '^refused' "$table"; then
     [[ $status -eq 1 && -s $work/err ]] || complain "$sheet: status $status, or no message"
@@ -41,8 +45,14 @@ for sheet in examples/*.sheet examples/*.old; do
     [[ $status -eq 0 ]] && cmp -s "$work/out" "$table" || complain "$sheet: status $status, or not its table"
   fi
 done
+# the sheets
+for sheet in examples/*.formula examples/*.old; do
+  [[ $sheet == *.formula ]] && given=(formula "$(cat "$sheet")") || given=(convert "$sheet")
+  [[ -e ${sheet%.*}.sheet ]] || continue
+  ./plan "${given[@]}" 2>&1 | cmp -s - "${sheet%.*}.sheet" || complain "$sheet: not its sheet"
+done
 ./plan "$work/missing" >"$work/out" 2>"$work/err"
 [[ $? -eq 2 && ! -s $work/out && -s $work/err ]] || complain 'a missing file'
 
-[[ $bad -eq 0 && $count -gt 0 ]] && echo "plan: README's screen and $count sheets as expected"
+[[ $bad -eq 0 && $count -gt 0 ]] && echo "plan: README's screen and $count sheets and formulas as expected"
 exit $bad
