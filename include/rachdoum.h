@@ -113,9 +113,10 @@ uint32_t rachdoum_convert(const uint8_t *old, size_t old_len, uint8_t *sheet, si
 /* Writes the sheet of a block formula such as `Hut=4/Pier=3` or `(Row=3*Column=3)/Sub=2`: questions 6 (`sheet` is too short), then 17 (the
  * text is no formula), then 18 (more than 6 names or 240 plots). A formula is one or more items, all joined by `/` (nesting: what comes
  * later lies inside all that comes before) or all by `*` (crossing). An item is a name, `=` and a count from 2 to 240, or a formula in round
- * brackets. There are no blanks. The plots are all combinations, the first name slowest. Each name becomes a plot column, in the order
- * written: plots share its level where they agree in that name and in every name that it is nested in; levels are numbered from 1 by first
- * appearance. Bytes of `sheet` past the one written, and all of them after a refusal, are not touched. Answer: the sheet's length. */
+ * brackets. Names have the form of a column's and all differ; there are no blanks. The plots are all combinations, the first name slowest.
+ * Each name becomes a plot column, in the order written: plots share its level where they agree in that name and in every name that it is
+ * nested in; levels are numbered from 1 by first appearance. Bytes of `sheet` past the one written, and all of them after a refusal, are not
+ * touched. Answer: the sheet's length. */
 uint32_t rachdoum_formula(const uint8_t *formula, size_t formula_len, uint8_t *sheet, size_t sheet_len, uint64_t answer[1]);
 
 #ifdef __cplusplus

@@ -151,7 +151,7 @@ static void formulas(void) {
   answers("a longer formula", write_sheet(bracketed(RACHDOUM_FORMULA + 1), RACHDOUM_SHEET), RACHDOUM_REFUSED_FORM_OF_FORMULA);
   answers("seven names", write_sheet("Aa=2/Bb=2/Cc=2/Dd=2/Ee=2/Ff=2/Gg=2", RACHDOUM_SHEET), RACHDOUM_REFUSED_SIZE_OF_FORMULA);
   answers("seven names and a blank", write_sheet("Aa=2/Bb=2/Cc=2/Dd=2/Ee=2/Ff=2/Gg=2 ", RACHDOUM_SHEET), RACHDOUM_REFUSED_FORM_OF_FORMULA);
-  answers("241 plots and more", write_sheet("Hut=121/Pier=2", RACHDOUM_SHEET), RACHDOUM_REFUSED_SIZE_OF_FORMULA);
+  answers("242 plots", write_sheet("Hut=121/Pier=2", RACHDOUM_SHEET), RACHDOUM_REFUSED_SIZE_OF_FORMULA);
   answers("nothing written", written[0] != 0 || length[0] != 0, RACHDOUM_ACCEPTED);
   answers("the longest formula", write_sheet(bracketed(RACHDOUM_FORMULA), RACHDOUM_SHEET), RACHDOUM_ACCEPTED);
   answers("240 plots", write_sheet("Hut=120/Pier=2", RACHDOUM_SHEET), RACHDOUM_ACCEPTED);
