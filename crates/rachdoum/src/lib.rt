@@ -1,6 +1,7 @@
 // The entries as functions that C, Rust and Python call. Each answers the number of the refusal, 0 for none, and writes its
 // numbers whole into `answer`, 0 where there is none.
 ghost use mathlib.Core.Path.{_≡_};
+ghost use mathlib.Core.List.{[], _∷_};
 ghost use lib.ListN.{length};
 ghost use Rattle.rules.specs.Sheet.{reading, levelsAfter};
 ghost use Rattle.rules.specs.Design.{plotDesign, plotBuffer, fullDesign, treatmentBuffer};
@@ -13,6 +14,7 @@ ghost use Rattle.rules.specs.SheetText.{sheetBuffer};
 ghost use Rattle.rules.specs.Parents.{conversion};
 ghost use Rattle.rules.specs.Formula.{formulaSheet};
 ghost use Rattle.naming.specs.Answers.{kindOf};
+ghost use Rattle.writer.specs.Answers.{writingNumbers};
 ghost use Rattle.rachdoum.specs.Numbers.{readingRefusal, readingNumbers, plotDesignNumbers, fullDesignNumbers, relationNumbers, strataNumbers, statedKind, namingNumbers, textNumbers, sheetNumbers};
 
 mod gather;
@@ -254,14 +256,11 @@ pub extern "C" fn rachdoum_skeleton(text: &[u8], out: &mut [u8], answer: &mut [u
     }
 }
 
-// Questions 6, 2 to 5 and 23 of an old sheet, numbered within a parent. The answer: how many bytes the converted sheet has.
-#[no_mangle]
-pub extern "C" fn rachdoum_convert(old: &[u8], sheet: &mut [u8], answer: &mut [u64; 1]) -> u32
-    ensures refusal { λ r. ⌜ r ≡ conversion (now (old .entry)) (length (now (sheet .entry))) .refusal ⌝ }
-    ensures buffer { λ _. ⌜ now (sheet .exit) ≡ sheetBuffer (now (sheet .entry)) (conversion (now (old .entry)) (length (now (sheet .entry)))) ⌝ }
-    ensures numbers { λ _. ⌜ now (answer .exit) ≡ sheetNumbers (conversion (now (old .entry)) (length (now (sheet .entry)))) ⌝ }
+// Hands over what an entry that writes a sheet answered: the number of the refusal, and how many bytes the sheet has.
+fn put_writing(found: Writing, answer: &mut [u64; 1]) -> u32
+    ensures refusal { λ r. ⌜ r ≡ writingNumbers found .refusal ⌝ }
+    ensures numbers { λ _. ⌜ now (answer .exit) ≡ writingNumbers found .size ∷ [] ⌝ }
 {
-    let found = conversion::convert(old, sheet);
     match found {
         Writing::Written(size) => {
             *answer = [size as u64];
@@ -274,6 +273,17 @@ pub extern "C" fn rachdoum_convert(old: &[u8], sheet: &mut [u8], answer: &mut [u
     }
 }
 
+// Questions 6, 2 to 5 and 23 of an old sheet, numbered within a parent. The answer: how many bytes the converted sheet has.
+#[no_mangle]
+pub extern "C" fn rachdoum_convert(old: &[u8], sheet: &mut [u8], answer: &mut [u64; 1]) -> u32
+    ensures refusal { λ r. ⌜ r ≡ conversion (now (old .entry)) (length (now (sheet .entry))) .refusal ⌝ }
+    ensures buffer { λ _. ⌜ now (sheet .exit) ≡ sheetBuffer (now (sheet .entry)) (conversion (now (old .entry)) (length (now (sheet .entry)))) ⌝ }
+    ensures numbers { λ _. ⌜ now (answer .exit) ≡ sheetNumbers (conversion (now (old .entry)) (length (now (sheet .entry)))) ⌝ }
+{
+    let found = conversion::convert(old, sheet);
+    put_writing(found, answer)
+}
+
 // Questions 6, 17 and 18 of a block formula. The answer: how many bytes its sheet has.
 #[no_mangle]
 pub extern "C" fn rachdoum_formula(formula: &[u8], sheet: &mut [u8], answer: &mut [u64; 1]) -> u32
@@ -282,14 +292,5 @@ pub extern "C" fn rachdoum_formula(formula: &[u8], sheet: &mut [u8], answer: &mu
     ensures numbers { λ _. ⌜ now (answer .exit) ≡ sheetNumbers (formulaSheet (now (formula .entry)) (length (now (sheet .entry)))) ⌝ }
 {
     let found = block_formula::expand(formula, sheet);
-    match found {
-        Writing::Written(size) => {
-            *answer = [size as u64];
-            0
-        }
-        Writing::Refused(refusal) => {
-            *answer = [0];
-            refusal
-        }
-    }
+    put_writing(found, answer)
 }
