@@ -4,5 +4,6 @@ pub mod NameLaws
 pub mod PartLaws
 pub mod NestingLaws
 pub mod TextLaws
+pub mod CodeLaws
 pub mod PlotLaws
 pub mod AnswerLaws

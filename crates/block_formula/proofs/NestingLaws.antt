@@ -8,15 +8,15 @@ use native.Mathlib.Nat.{not-suc-le-zero, le-of-suc-le-suc}
 use native.Mathlib.Numerals.{add-one, one-add}
 use native.Mathlib.Omega.{arith}
 use lib.Dec.{eqb, ltb}
-use lib.ListN.{length, getD, set, drop, replicate, length-append, length-set, length-replicate, getD-replicate, replicate-append-replicate, drop-of-length-le, List·getD-append}
-use lib.Seq.{drop-cons, ext-getD, getD-append-add, getD-set-same, getD-set-other}
+use lib.ListN.{length, getD, set, drop, replicate, length-append, length-replicate, getD-replicate, replicate-append-replicate, drop-of-length-le, List·getD-append}
+use lib.Seq.{drop-cons, getD-append-add}
 use borrow.Author.Tests.{eq-eqb, ne-eqb, eqb-true, eqb-false, lt-ltb, le-ltb, ltb-true, ltb-false}
 use Rattle.rules.specs.Limits.{mostColumns, mostNameTail, leastCount, mostCount}
 use Rattle.rules.specs.Lists.{tabulate}
 use Rattle.rules.specs.Sheet.{within, all, has, past, letter, digit, letterOrDigit, isName, decimal, noLeadingZero}
 use Rattle.rules.specs.Parents.{slash}
 use Rattle.rules.specs.Formula.{Operator, Formula, item, join, namesOf, nests, nestedIn, seen, equals, openBracket, closeBracket, star, operators, operatorOf, isCount, Part, anItem, items, Written, by-name, by-brackets, by-item, by-operator}
-use Rattle.rules.proofs.Lists.{length-tabulate, getD-tabulate}
+use Rattle.rules.proofs.Lists.{getD-tabulate, set-tabulate}
 use Rattle.rules.proofs.Numbering.{by-cases}
 use Rattle.rules.proofs.Members.{clash}
 use Rattle.rules.proofs.Sheet.{and-left, and-right, all-weaker}
@@ -118,24 +118,6 @@ module _ (xs : List ℕ) (i : ℕ) where
 
 -- ---- an array of marks
 
--- a store in a list that is given by its elements
-set-tabulate : (f : ℕ → Bool) (n i : ℕ) (v : Bool) → i < n → (g : ℕ → Bool) → g i ≡ v → ((k : ℕ) → (k ≡ i → ⊥) → g k ≡ f k) → set (tabulate f n) i v ≡ tabulate g n
-set-tabulate f n i v h g here other =
-    ext-getD false (set (tabulate f n) i v) (tabulate g n)
-    (size ∙ sym (length-tabulate g n))
-    (λ k l. at k (subst (λ (m : ℕ). k < m) size l) (eqb k i) refl)
-  where
-    size : length (set (tabulate f n) i v) ≡ n
-    size = length-set (tabulate f n) i v ∙ length-tabulate f n
-
-    at : (k : ℕ) → k < n → (b : Bool) → eqb k i ≡ b → getD (set (tabulate f n) i v) k false ≡ getD (tabulate g n) k false
-    at k l true e =
-        let w : i < length (tabulate f n) = rw (length-tabulate f n) h in
-        rw (eqb-true k i e) (getD-set-same (tabulate f n) i v false w ∙ sym (getD-tabulate g n i false h ∙ here))
-    at k l false e =
-        getD-set-other (tabulate f n) i k v false (eqb-false k i e)
-        ∙ getD-tabulate f n k false l ∙ sym (getD-tabulate g n k false l ∙ other k (eqb-false k i e))
-
 module _ (text : List ℕ) (i : ℕ) where
   -- the names before j that name i is nested in
   abbrev pub marked : ℕ → List Bool
@@ -149,7 +131,7 @@ module _ (text : List ℕ) (i : ℕ) where
   -- a turn marks name j
   pub mark-next : (j : ℕ) → j < mostColumns → set (marked j) j (nestedText text i j) ≡ marked (j + 1)
   mark-next j h =
-      set-tabulate (λ k. ltb k j && nestedText text i k) mostColumns j (nestedText text i j) h (λ k. ltb k (j + 1) && nestedText text i k)
+      set-tabulate false (λ k. ltb k j && nestedText text i k) (λ k. ltb k (j + 1) && nestedText text i k) mostColumns j (nestedText text i j) h
       (rw (lt-ltb j (j + 1) (omega arith)))
       (λ k n. ap (λ (b : Bool). b && nestedText text i k) (by-cases (ltb k j)
       (λ e. lt-ltb k (j + 1) (omega (arith, ltb-true k j e)) ∙ sym e)
@@ -162,7 +144,7 @@ module _ (text : List ℕ) (i : ℕ) where
   pub mark-self : i < mostColumns → set (marked i) i true ≡ seenText text i
   unfolding seenText
   mark-self h =
-      set-tabulate (λ k. ltb k i && nestedText text i k) mostColumns i true h (λ k. eqb i k || ltb k i && nestedText text i k)
+      set-tabulate false (λ k. ltb k i && nestedText text i k) (λ k. eqb i k || ltb k i && nestedText text i k) mostColumns i true h
       (rw (eq-eqb i i refl))
       (λ k n. rw (ne-eqb i k (λ e. n (sym e))))
 

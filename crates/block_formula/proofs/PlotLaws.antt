@@ -21,10 +21,10 @@ use Rattle.rules.proofs.Lists.{length-tabulate, getD-tabulate}
 use Rattle.rules.proofs.Places.{tabulate-ext}
 use Rattle.rules.proofs.Buffer.{put, members-add}
 use Rattle.rules.proofs.Agreement.{later, Split, split}
-use Rattle.rules.proofs.Codes.{radix, codeOf, code-less, column-codes}
 use Rattle.rules.proofs.Formula.{counts-names}
 use Rattle.block_formula.specs.Text.{seenText}
-use Rattle.block_formula.specs.Plots.{inSet, columnsIn}
+use Rattle.block_formula.specs.Plots.{codeOf, radix, inSet, columnsIn}
+use Rattle.block_formula.proofs.CodeLaws.{code-less, column-codes}
 
 -- ---- the number of plots
 

@@ -1,15 +1,11 @@
 -- Tables of class sizes.
 -- Assumes nothing.
-use mathlib.Core.List.{List, [], _∷_}
-use Prim.Native.Nat.{ℕ, zero, suc}
+use mathlib.Core.List.{List}
+use Prim.Native.Nat.{ℕ}
 use lib.Dec.{eqb}
 use lib.ListN.{length}
+use Rattle.rules.specs.Lists.{tabulate}
 use Rattle.rules.specs.Factor.{Column, at, count}
-
--- the list t 0, t 1, .., t (n - 1)
-unfoldable pub tabulate : (ℕ → ℕ) → ℕ → List ℕ
-tabulate t zero = []
-tabulate t (suc n) = t 0 ∷ tabulate (λ i. t (suc i)) n
 
 -- how many of the first n plots have the label x
 unfoldable pub labelled : ℕ → Column → ℕ → ℕ

@@ -28,7 +28,7 @@ use Rattle.rules.proofs.Sheet.{and-left, and-right, read-limits, plot-l
 use Rattle.rules.proofs.SheetText.{Levels, numbered-levels, Writable, text-short, sheet-read, table-back}
 use Rattle.rules.proofs.Crossed.{length-column, column-divides, Crossed, crossed-verdict}
 use Rattle.rules.proofs.CrossedStructure.{allSets, crossed-contained, crossed-structure, crossed-accepted}
-use Rattle.rules.proofs.Codes.{number-column}
+use Rattle.rules.proofs.Numbered.{number-column}
 use Rattle.rules.proofs.Combinations.{agree-places}
 
 -- ---- the columns of a formula

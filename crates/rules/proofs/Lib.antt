@@ -81,6 +81,6 @@ pub mod Combinations
 pub mod Crossed
 pub mod CrossedStructure
 pub mod Grammar
-pub mod Codes
+pub mod Numbered
 pub mod Formula
 pub mod FormulaTrials

@@ -1,10 +1,14 @@
 -- Laws of lists given by their elements.
 -- Assumes nothing.
-use mathlib.Core.Path.{_≡_, refl, ap}
+use mathlib.Core.Path.{_≡_, refl, sym, ap, _∙_, subst}
+use mathlib.Core.Bool.{Bool, true, false}
 use mathlib.Core.List.{List, [], _∷_, map}
 use Prim.Native.Nat.{ℕ, zero, suc, _<_}
 use native.Mathlib.Nat.{not-suc-le-zero, le-of-suc-le-suc}
-use lib.ListN.{length, getD}
+use lib.Dec.{eqb}
+use lib.ListN.{length, getD, set, length-set}
+use lib.Seq.{ext-getD, getD-set-same, getD-set-other}
+use borrow.Author.Tests.{eqb-true, eqb-false}
 use Rattle.rules.specs.Lists.{tabulate}
 
 module _ {A : Type 0} where
@@ -24,6 +28,18 @@ module _ {A : Type 0} where
   unfolding tabulate
   tabulate-getD d [] = refl
   tabulate-getD d (x ∷ xs) = ap (λ (r : List A). x ∷ r) (tabulate-getD d xs)
+
+  -- an element stored
+  pub set-tabulate : (d : A) (f g : ℕ → A) (n i : ℕ) (x : A) → i < n → g i ≡ x → ((k : ℕ) → (k ≡ i → ⊥) → g k ≡ f k) → set (tabulate f n) i x ≡ tabulate g n
+  set-tabulate d f g n i x h here other =
+      ext-getD d (set (tabulate f n) i x) (tabulate g n) (size ∙ sym (length-tabulate g n)) (λ k l. at k (subst (λ (m : ℕ). k < m) size l) (eqb k i) refl)
+    where
+      size : length (set (tabulate f n) i x) ≡ n
+      size = length-set (tabulate f n) i x ∙ length-tabulate f n
+
+      at : (k : ℕ) → k < n → (b : Bool) → eqb k i ≡ b → getD (set (tabulate f n) i x) k d ≡ getD (tabulate g n) k d
+      at k l true e = rw (eqb-true k i e) (getD-set-same (tabulate f n) i x d (rw (length-tabulate f n) h) ∙ sym (getD-tabulate g n i d h ∙ here))
+      at k l false e = getD-set-other (tabulate f n) i k x d (eqb-false k i e) ∙ getD-tabulate f n k d l ∙ sym (getD-tabulate g n k d l ∙ other k (eqb-false k i e))
 
   -- a function on each element
   module _ {B : Type 0} (g : A → B) where

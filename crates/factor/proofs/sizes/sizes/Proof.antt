@@ -7,8 +7,10 @@ use native.Mathlib.Omega.{arith}
 use denote.Ref.{now}
 use lib.ListN.{length, getD, set}
 use Rattle.rules.specs.Factor.{at}
-use Rattle.factor.specs.Sizes.{tabulate, labelled, sizes}
-use Rattle.factor.proofs.SizeTable.{getD-tabulate, labelled-le, sizes-start, sizes-step}
+use Rattle.rules.specs.Lists.{tabulate}
+use Rattle.rules.proofs.Lists.{getD-tabulate}
+use Rattle.factor.specs.Sizes.{labelled, sizes}
+use Rattle.factor.proofs.SizeTable.{labelled-le, sizes-start, sizes-step}
 use Rattle.factor.proofs.sizes.sizes.Statement.{statement}
 use Rattle.factor.proofs.sizes.sizes.Tie as tie
 
@@ -33,7 +35,7 @@ array-read-table c = omega (arith, c .shared-slice-known .given (c .before .befo
 -- the count that is read
 read : (c : tie.After-shared-slice-known Inv-loop μ-loop) → getD (c .before .before .loop .table) (getD (now (c .before .before .before .args .f)) (c .before .before .loop .u) 0) 0
     ≡ labelled (c .before .before .loop .u) (now (c .before .before .before .args .f)) (getD (now (c .before .before .before .args .f)) (c .before .before .loop .u) 0)
-read c = rw (c .before .before .loop .inv .2) (getD-tabulate _ 256 _ (omega (arith, c .shared-slice-known .given (c .before .before .loop .u))))
+read c = rw (c .before .before .loop .inv .2) (getD-tabulate _ 256 _ 0 (omega (arith, c .shared-slice-known .given (c .before .before .loop .u))))
 
 add-table : tie.Need-add-table Inv-loop μ-loop
 add-table c =
