@@ -1,8 +1,9 @@
 #!/usr/bin/env bash
-# The prover refused each must-fail edit where it should. `fails:` names what becomes false: a function, as `crate::module::function`, or a
-# law of the rules, as `crate::File::law`. A function has an error of its own: it does not count that a function it calls is not proved,
-# nor that the proof names a step or a place that the edited code has not. A law is refused itself, or rests on one that is. The script
-# reads what `rt ci` left of the edits it tried. That what is refused is false, and not only written for other code, a reader has to see.
+# The prover refused each must-fail edit where it should. `fails:` names what becomes false: a function, as `crate::module::function`, or
+# functions that call each other, as `crate::module::+one+other`, or a law of the rules, as `crate::File::law`. A function has an error of
+# its own: it does not count that a function it calls is not proved, nor that the proof names a step or a place that the edited code has
+# not. A law is refused itself, or rests on one that is. The script reads what `rt ci` left of the edits it tried. That what is refused is
+# false, and not only written for other code, a reader has to see.
 set -u
 cd "$(dirname "$0")/.." || exit 1
 named=0
