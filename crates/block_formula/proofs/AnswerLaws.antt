@@ -1,27 +1,25 @@
 -- Laws of questions 6, 17 and 18, asked in turn.
 -- Assumes nothing.
 use mathlib.Core.Path.{_≡_, refl, sym, ap, _∙_, subst}
-use mathlib.Core.Bool.{Bool, true, false, _&&_}
-use mathlib.Core.List.{List, [], _∷_, _++_, map, append-nil}
-use Prim.Native.Nat.{ℕ, zero, suc, _+_, _≤_, _<_, min}
-use native.Mathlib.Nat.{not-suc-le-zero, le-of-suc-le-suc}
+use mathlib.Core.Bool.{true, false}
+use mathlib.Core.List.{List, [], _∷_, append-nil}
+use Prim.Native.Nat.{ℕ, zero, suc, _≤_, _<_}
 use native.Mathlib.Omega.{arith}
 use lib.Dec.{leb}
-use lib.ListN.{length, take, drop, length-append}
-use lib.Seq.{take-at}
+use lib.ListN.{length, take}
 use borrow.Author.Tests.{le-leb, lt-leb, leb-true}
 use Rattle.rules.specs.Limits.{mostPlots, mostColumns, mostText, mostFormula}
-use Rattle.rules.specs.Sheet.{within, joined, namesDiffer}
+use Rattle.rules.specs.Sheet.{within, namesDiffer}
 use Rattle.rules.specs.Family.{columnsFrom, membersOf}
 use Rattle.rules.specs.SheetText.{noSheet}
-use Rattle.rules.specs.Formula.{Formula, namesOf, countsOf, plotCount, columnsOf, headerOf, sheetOf, operators, items, Written, IsFormula, Parsed, nothing, parsed, formulaAt, whole, formulaOf, question18, question17, formulaSheet}
+use Rattle.rules.specs.Formula.{Formula, namesOf, countsOf, plotCount, columnsOf, headerOf, operators, items, Written, IsFormula, Parsed, nothing, parsed, formulaAt, whole, formulaOf, question18, question17, formulaSheet}
 use Rattle.rules.proofs.Numbering.{by-cases}
 use Rattle.rules.proofs.Members.{clash}
 use Rattle.rules.proofs.Sheet.{and-left, and-right, and-false}
 use Rattle.rules.proofs.Grammar.{Begins, some, formula-begins}
-use Rattle.rules.proofs.Formula.{counts-names, Good, written-good, plots-some, answered-18}
+use Rattle.rules.proofs.Formula.{counts-names, written-good, plots-some, answered-18}
 use Rattle.writer.specs.Rows.{columnsAt}
-use Rattle.block_formula.specs.Text.{toEnd, readable, seenText}
+use Rattle.block_formula.specs.Text.{toEnd, readable}
 use Rattle.block_formula.specs.Plots.{columnsIn}
 use Rattle.block_formula.specs.Answers.{Within}
 use Rattle.block_formula.proofs.NestingLaws.{seen-text}

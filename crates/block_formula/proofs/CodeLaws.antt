@@ -1,7 +1,7 @@
 -- In the column of a set of names a plot's level is the place of its combination of these names, the first slowest.
 -- Assumes nothing.
 use mathlib.Core.Path.{_≡_, refl, sym, ap, ap₂, _∙_, subst}
-use mathlib.Core.Bool.{Bool, true, false}
+use mathlib.Core.Bool.{Bool, true}
 use mathlib.Core.List.{List, [], _∷_, _++_, map}
 use Prim.Native.Nat.{ℕ, zero, suc, _+_, _*_, _/_, _%_, _<_}
 use native.Mathlib.Nat.{not-suc-le-zero, suc-inj, zero-mul, zero-add, add-zero, add-suc, suc-add, suc-mul, mul-le-mul-right}

@@ -1,10 +1,9 @@
 -- Laws of the parts of a formula as they stand in a text: where each of them ends.
 -- Assumes nothing.
 use mathlib.Core.Path.{_≡_, refl, sym, ap, _∙_, subst}
-use mathlib.Core.Bool.{Bool, true, false, _&&_, _||_}
-use mathlib.Core.List.{List, [], _∷_, _++_}
+use mathlib.Core.Bool.{true, false, _&&_, _||_}
+use mathlib.Core.List.{List, [], _∷_}
 use Prim.Native.Nat.{ℕ, zero, suc, _+_, _-_, _≤_, _<_}
-use native.Mathlib.Nat.{not-suc-le-zero}
 use native.Mathlib.Numerals.{add-one}
 use native.Mathlib.Omega.{arith}
 use lib.Dec.{eqb, leb}
@@ -12,15 +11,15 @@ use lib.ListN.{length, getD, take, drop, length-append, length-drop, drop-of-len
 use lib.Seq.{drop-cons, drop-drop, drop-append-seam}
 use borrow.Author.Tests.{eq-eqb, ne-eqb, eqb-true, eqb-false, leb-true, le-leb, lt-leb}
 use Rattle.rules.specs.Limits.{leastCount, mostCount, mostFormula}
-use Rattle.rules.specs.Sheet.{within, all, upTo, past, has, digit, isName, decimal, noLeadingZero}
-use Rattle.rules.specs.Formula.{Operator, Formula, openBracket, closeBracket, equals, operators, operatorOf, isCount, Part, anItem, items, Written, by-name, by-brackets, by-item, by-operator, Parsed, nothing, parsed, leading, named, closed, itemBy, joinedTo, moreBy, formulaAt}
+use Rattle.rules.specs.Sheet.{within, all, upTo, has, digit, isName, decimal, noLeadingZero}
+use Rattle.rules.specs.Formula.{Operator, Formula, openBracket, closeBracket, equals, operators, operatorOf, isCount, Part, Written, by-name, by-brackets, by-item, by-operator, Parsed, nothing, parsed, leading, named, closed, itemBy, joinedTo, moreBy, formulaAt}
 use Rattle.rules.proofs.Numbering.{by-cases}
 use Rattle.rules.proofs.Members.{clash}
 use Rattle.rules.proofs.Sheet.{and-left, and-right, and-false}
-use Rattle.rules.proofs.Grammar.{Begins, none, some, item-begins, formula-begins}
+use Rattle.rules.proofs.Grammar.{Begins, some, item-begins, formula-begins}
 use Rattle.sheet.proofs.FirstByte.{rest-taken, upTo-take}
 use Rattle.block_formula.specs.Text.{endIn, allowed, toEnd, readable, countOf}
-use Rattle.block_formula.proofs.CountLaws.{place-is, place-inside, place-none, place-some, past-place, leading-short}
+use Rattle.block_formula.proofs.CountLaws.{place-is, place-none, place-some, past-place, leading-short}
 
 -- ---- a name, `=` and a count
 

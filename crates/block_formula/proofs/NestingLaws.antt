@@ -1,6 +1,6 @@
 -- Laws of nesting: the walks over a formula's bytes, byte by byte, and that they tell of the names what the formula tells.
 -- Assumes nothing.
-use mathlib.Core.Path.{_≡_, refl, sym, ap, ap₂, _∙_, subst}
+use mathlib.Core.Path.{_≡_, refl, sym, ap, ap₂, _∙_}
 use mathlib.Core.Bool.{Bool, true, false, _&&_, _||_}
 use mathlib.Core.List.{List, [], _∷_, _++_, append-assoc, append-nil}
 use Prim.Native.Nat.{ℕ, zero, suc, _+_, _-_, _≤_, _<_}
@@ -10,16 +10,16 @@ use native.Mathlib.Omega.{arith}
 use lib.Dec.{eqb, ltb}
 use lib.ListN.{length, getD, set, drop, replicate, length-append, length-replicate, getD-replicate, replicate-append-replicate, drop-of-length-le, List·getD-append}
 use lib.Seq.{drop-cons, getD-append-add}
-use borrow.Author.Tests.{eq-eqb, ne-eqb, eqb-true, eqb-false, lt-ltb, le-ltb, ltb-true, ltb-false}
-use Rattle.rules.specs.Limits.{mostColumns, mostNameTail, leastCount, mostCount}
+use borrow.Author.Tests.{eq-eqb, ne-eqb, lt-ltb, le-ltb, ltb-true, ltb-false}
+use Rattle.rules.specs.Limits.{mostColumns}
 use Rattle.rules.specs.Lists.{tabulate}
-use Rattle.rules.specs.Sheet.{within, all, has, past, letter, digit, letterOrDigit, isName, decimal, noLeadingZero}
+use Rattle.rules.specs.Sheet.{all, past, letterOrDigit}
 use Rattle.rules.specs.Parents.{slash}
-use Rattle.rules.specs.Formula.{Operator, Formula, item, join, namesOf, nests, nestedIn, seen, equals, openBracket, closeBracket, star, operators, operatorOf, isCount, Part, anItem, items, Written, by-name, by-brackets, by-item, by-operator}
+use Rattle.rules.specs.Formula.{Operator, Formula, item, join, namesOf, nests, nestedIn, seen, equals, openBracket, closeBracket, star, operators, operatorOf, Part, items, Written, by-name, by-brackets, by-item, by-operator}
 use Rattle.rules.proofs.Lists.{getD-tabulate, set-tabulate}
 use Rattle.rules.proofs.Numbering.{by-cases}
 use Rattle.rules.proofs.Members.{clash}
-use Rattle.rules.proofs.Sheet.{and-left, and-right, all-weaker}
+use Rattle.rules.proofs.Sheet.{and-left, and-right}
 use Rattle.rules.proofs.SheetText.{name-free, past-part}
 use Rattle.rules.proofs.Formula.{nested-before}
 use Rattle.block_formula.proofs.PartLaws.{Each, of-none, of-one, of-both, Joins, operator-equals, apart, name-plain, count-plain}

@@ -1,9 +1,9 @@
 -- The bytes of a formula tell its counts, its names and the first line of its sheet.
 -- Assumes nothing.
 use mathlib.Core.Path.{_≡_, refl, sym, ap, ap₂, _∙_}
-use mathlib.Core.Bool.{Bool, true, false, not, _&&_, _||_}
+use mathlib.Core.Bool.{Bool, true, false, not, _&&_}
 use mathlib.Core.List.{List, [], _∷_, _++_, map, append-assoc, append-nil}
-use Prim.Native.Nat.{ℕ, suc, _+_, _*_, _≤_}
+use Prim.Native.Nat.{ℕ, _+_, _*_, _≤_}
 use native.Mathlib.Nat.{not-suc-le-zero}
 use native.Mathlib.Omega.{arith}
 use lib.Dec.{eqb}
@@ -11,7 +11,7 @@ use lib.ListN.{length, length-append, length-map}
 use Rattle.rules.specs.Limits.{leastCount, mostCount}
 use Rattle.rules.specs.Sheet.{within, tab, newline, upTo, has, all, fields, free, digit, letterOrDigit, noLeadingZero, isName, plotMark, isColumn, isKind, columnNames, header, decimal, joined}
 use Rattle.rules.specs.SheetText.{plotHeading}
-use Rattle.rules.specs.Formula.{Formula, item, join, namesOf, countsOf, headerOf, equals, openBracket, closeBracket, star, operators, isCount, Part, anItem, items, Written, by-name, by-brackets, by-item, by-operator, leading}
+use Rattle.rules.specs.Formula.{Formula, namesOf, countsOf, headerOf, equals, openBracket, closeBracket, star, operators, isCount, Part, items, Written, by-name, by-brackets, by-item, by-operator}
 use Rattle.rules.specs.Parents.{slash}
 use Rattle.rules.proofs.Numbering.{by-cases}
 use Rattle.rules.proofs.Members.{clash}

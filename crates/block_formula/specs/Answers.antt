@@ -6,7 +6,7 @@ use mathlib.Core.Path.{_≡_}
 use Prim.Native.Nat.{ℕ, _≤_}
 use lib.ListN.{length, take}
 use Rattle.rules.specs.Limits.{mostText, tableCells, familyBytes}
-use Rattle.rules.specs.Sheet.{joined, namesDiffer}
+use Rattle.rules.specs.Sheet.{joined}
 use Rattle.rules.specs.Formula.{Formula, countsOf, plotCount, headerOf, IsFormula, question18, formulaSheet, Planned}
 
 -- "such a sheet is always read, and its plot design is refused by 8 or not at all": what an output that begins with a formula's sheet holds, for any

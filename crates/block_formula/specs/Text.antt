@@ -8,7 +8,7 @@ use lib.Dec.{eqb, ltb}
 use lib.ListN.{length, getD}
 use Rattle.rules.specs.Limits.{mostFormula, mostColumns}
 use Rattle.rules.specs.Lists.{tabulate}
-use Rattle.rules.specs.Sheet.{within, tab, upTo, past, letterOrDigit, plotMark, decimal, decimalFrom}
+use Rattle.rules.specs.Sheet.{within, tab, past, letterOrDigit, plotMark, decimal, decimalFrom}
 use Rattle.rules.specs.Parents.{slash}
 use Rattle.rules.specs.Formula.{openBracket, closeBracket, star, equals, operators, isCount, Parsed, nothing, parsed, leading, formulaAt}
 

@@ -25,7 +25,7 @@ use Rattle.rules.proofs.Lists.{length-tabulate, getD-tabulate}
 use Rattle.rules.proofs.Members.{clash}
 use Rattle.rules.proofs.Numbering.{by-cases, eqb-self}
 use Rattle.rules.proofs.Sheet.{and-left, and-right, read-limits, plot-levels-nonzero}
-use Rattle.rules.proofs.SheetText.{Levels, numbered-levels, Writable, text-short, sheet-read, table-back}
+use Rattle.rules.proofs.SheetText.{numbered-levels, Writable, text-short, sheet-read, table-back}
 use Rattle.rules.proofs.Crossed.{length-column, column-divides, Crossed, crossed-verdict}
 use Rattle.rules.proofs.CrossedStructure.{allSets, crossed-contained, crossed-structure, crossed-accepted}
 use Rattle.rules.proofs.Numbered.{number-column}

@@ -1,10 +1,10 @@
 -- `counts::count`: the digits are read one after the other. The loop's invariant: those left, after the number so far, write the whole number.
 -- Assumes nothing.
 use Prim.Native.Nat.{_+_, _-_, _*_, _≤_}
-use mathlib.Core.Path.{_≡_, refl, sym, ap, _∙_}
+use mathlib.Core.Path.{_≡_, refl, sym, _∙_}
 use native.Mathlib.Omega.{arith}
 use denote.Ref.{now}
-use lib.ListN.{length, getD, drop}
+use lib.ListN.{getD, drop}
 use Rattle.rules.specs.Sheet.{decimal, decimalFrom}
 use Rattle.block_formula.proofs.CountLaws.{digit-least, decimal-step, decimal-end, count-empty, count-zero, count-large, count-small, count-value}
 use Rattle.block_formula.proofs.counts.count.Statement.{statement}

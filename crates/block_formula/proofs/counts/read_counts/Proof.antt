@@ -1,9 +1,8 @@
 -- `counts::read_counts`: each `=` has a count after it. The loop's invariant: so many are listed, and those after this place are left.
 -- Assumes nothing.
-use Prim.Native.Nat.{ℕ, suc, _+_, _-_, _≤_, _<_}
+use Prim.Native.Nat.{ℕ, _+_, _-_, _≤_, _<_}
 use mathlib.Core.Path.{_≡_, refl, sym, ap, ap₂, _∙_}
-use mathlib.Core.Bool.{true, false}
-use mathlib.Core.List.{List, [], _∷_}
+use mathlib.Core.List.{List, _∷_}
 use native.Mathlib.Omega.{arith}
 use native.Mathlib.Numerals.{add-one}
 use denote.Ref.{now}
@@ -29,6 +28,16 @@ Inv-loop text counts₀ at₀ n₀ counts at n =
 abbrev μ-loop : tie.MeasureT-loop
 μ-loop text counts₀ at₀ n₀ counts at n = length text - at
 
+-- the text, the place of the next `=` and the place after it
+abbrev text : tie.After-place-of Inv-loop μ-loop → List ℕ
+text d = now (d .before .before .before .before .before .args .text)
+
+inside : (d : tie.After-place-of Inv-loop μ-loop) → d .before .before .loop .at + d .place-of .result ≤ length (text d)
+inside d = place-inside (text d) (d .before .before .loop .at) (d .place-of .result) (d .before .before .loop .inv .0) (d .place-of .ensures)
+
+abbrev start : tie.After-place-of Inv-loop μ-loop → ℕ
+start d = d .before .before .loop .at + d .place-of .result + 1
+
 loop-holds : tie.Need-loop-holds Inv-loop μ-loop
 loop-holds c = (omega arith, omega arith, refl, omega arith, refl, paste-zero (now (c .before .before .args .counts)) 0 (countsIn (now (c .before .before .args .text))))
 
@@ -45,13 +54,7 @@ place-of-requires : tie.Need-place-of-requires Inv-loop μ-loop
 place-of-requires c κs = tt
 
 add-e : tie.Need-add-e Inv-loop μ-loop
-add-e c =
-    let d = c in
-    let b = d .before .before in
-    let t = now (b .before .before .before .args .text) in
-    let e = d .place-of .ensures in
-    let k = place-inside t (b .loop .at) (d .place-of .result) (b .loop .inv .0) e in
-    omega (arith, k)
+add-e c = omega (arith, inside c)
 
 same-length : tie.Need-same-length Inv-loop μ-loop
 same-length c = c .before .before .before .loop .inv .2
@@ -69,90 +72,40 @@ returns c =
     (n, b .loop .inv .5 ∙ ap (paste (now (b .before .before .before .args .counts)) 0 cs) n ∙ paste-whole (now (b .before .before .before .args .counts)) cs)
 
 add-at : tie.Need-add-at Inv-loop μ-loop
-add-at c =
-    let d = c .before in
-    let b = d .before .before in
-    let t = now (b .before .before .before .args .text) in
-    let e = d .place-of .ensures in
-    let k = place-inside t (b .loop .at) (d .place-of .result) (b .loop .inv .0) e in
-    omega (arith, k)
+add-at c = omega (arith, inside (c .before))
 
 digits-end-requires : tie.Need-digits-end-requires Inv-loop μ-loop
 digits-end-requires c κs = tt
 
 sub-count : tie.Need-sub-count Inv-loop μ-loop
-sub-count c =
-    let d = c .before .before in
-    let b = d .before .before in
-    let t = now (b .before .before .before .args .text) in
-    let e = d .place-of .ensures in
-    let k = place-inside t (b .loop .at) (d .place-of .result) (b .loop .inv .0) e in
-    omega (arith, c .digits-end .ensures)
+sub-count c = omega (arith, c .digits-end .ensures)
 
 part-count-start : tie.Need-part-count-start Inv-loop μ-loop
-part-count-start c =
-    let d = c .before .before in
-    let b = d .before .before in
-    let t = now (b .before .before .before .args .text) in
-    let e = d .place-of .ensures in
-    let k = place-inside t (b .loop .at) (d .place-of .result) (b .loop .inv .0) e in
-    omega (arith, k)
+part-count-start c = omega (arith, inside (c .before .before))
 
 part-count-end : tie.Need-part-count-end Inv-loop μ-loop
 part-count-end c =
     let d = c .before .before in
-    let b = d .before .before in
-    let t = now (b .before .before .before .args .text) in
-    let e = d .place-of .ensures in
-    let k = place-inside t (b .loop .at) (d .place-of .result) (b .loop .inv .0) e in
-    omega (arith, digits-inside t (b .loop .at + d .place-of .result + 1) (c .digits-end .result) (omega arith) (c .digits-end .ensures))
+    digits-inside (text d) (start d) (c .digits-end .result) (omega (arith, inside d)) (c .digits-end .ensures)
 
 count-requires : tie.Need-count-requires Inv-loop μ-loop
 count-requires c κs =
     let d = c .before .before .before in
-    let b = d .before .before in
-    let t = now (b .before .before .before .args .text) in
-    let e = d .place-of .ensures in
-    let k = place-inside t (b .loop .at) (d .place-of .result) (b .loop .inv .0) e in
-    let start = b .loop .at + d .place-of .result + 1 in
-    ap (all digit) (digits-part t start (c .before .digits-end .result) (c .before .digits-end .ensures)) ∙ leading-digits (drop start t)
+    ap (all digit) (digits-part (text d) (start d) (c .before .digits-end .result) (c .before .digits-end .ensures)) ∙ leading-digits (drop (start d) (text d))
 
 cast-counts : tie.Need-cast-counts Inv-loop μ-loop
 cast-counts c =
     let d = c .before .before .before .before in
-    let b = d .before .before in
-    let t = now (b .before .before .before .args .text) in
-    let e = d .place-of .ensures in
-    let k = place-inside t (b .loop .at) (d .place-of .result) (b .loop .inv .0) e in
-    let start = b .loop .at + d .place-of .result + 1 in
-    omega (arith, c .count .ensures, count-most (take (c .before .before .digits-end .result - start) (drop start t)))
+    omega (arith, c .count .ensures, count-most (take (c .before .before .digits-end .result - start d) (drop (start d) (text d))))
 
 slice-write-counts : tie.Need-slice-write-counts Inv-loop μ-loop
-slice-write-counts c =
-    let d = c .before .before .before .before in
-    let b = d .before .before in
-    let t = now (b .before .before .before .args .text) in
-    let e = d .place-of .ensures in
-    let k = place-inside t (b .loop .at) (d .place-of .result) (b .loop .inv .0) e in
-    omega (arith, k, b .loop .inv .2)
+slice-write-counts c = omega (arith, inside (c .before .before .before .before), c .before .before .before .before .before .before .loop .inv .2)
 
 add-n : tie.Need-add-n Inv-loop μ-loop
-add-n c =
-    let d = c .before .before .before .before in
-    let b = d .before .before in
-    let t = now (b .before .before .before .args .text) in
-    let e = d .place-of .ensures in
-    let k = place-inside t (b .loop .at) (d .place-of .result) (b .loop .inv .0) e in
-    omega (arith, k)
+add-n c = omega (arith, inside (c .before .before .before .before))
 
 loop-less : tie.Need-loop-less Inv-loop μ-loop
-loop-less c =
-    let d = c .before .before .before .before in
-    let b = d .before .before in
-    let t = now (b .before .before .before .args .text) in
-    let e = d .place-of .ensures in
-    let k = place-inside t (b .loop .at) (d .place-of .result) (b .loop .inv .0) e in
-    omega (arith, k)
+loop-less c = omega (arith, inside (c .before .before .before .before))
 
 loop-again : tie.Need-loop-again Inv-loop μ-loop
 loop-again c =

@@ -1,15 +1,15 @@
 -- `grammar::formula_end` and `grammar::item_end`, which call each other: a bracket or an item takes a step, so the steps left fall.
 -- Assumes nothing.
 use Prim.Native.Nat.{ℕ, suc, _+_, _-_, _*_, _<_}
-use mathlib.Core.Path.{_≡_, refl, sym, ap, _∙_}
-use mathlib.Core.List.{List, []}
+use mathlib.Core.Path.{_≡_, sym, ap, _∙_}
+use mathlib.Core.List.{List}
 use native.Mathlib.Omega.{arith}
 use borrow.Author.Tests.{not-true, not-false}
 use denote.Ref.{now}
 use lib.ListN.{length, getD, drop}
 use borrow.Fn.Kinds.{In}
 use borrow.Fn.PlainCycle.{Measures, is, falls, and}
-use Rattle.rules.specs.Formula.{operators, Parsed, itemBy, formulaAt}
+use Rattle.rules.specs.Formula.{operators, formulaAt}
 use Rattle.rules.proofs.Grammar.{formula-begins}
 use Rattle.block_formula.specs.Text.{endIn, allowed}
 use Rattle.block_formula.proofs.GrammarLaws.{item-none, item-named, item-open, closed-none, closed-end, closed-other, closed-yes, allowed-one, more-none, more-end, more-stop, more-on}

@@ -1,19 +1,35 @@
 -- `grammar::named_end`: the name ends at the first `=`, and the count at the first byte that is no digit.
 -- Assumes nothing.
-use Prim.Native.Nat.{ℕ, _+_, _-_, _≤_, _<_}
-use mathlib.Core.Path.{_≡_, refl, sym, ap, _∙_}
+use Prim.Native.Nat.{ℕ, _+_, _-_}
+use mathlib.Core.Path.{_≡_, sym, ap, _∙_}
+use mathlib.Core.List.{List}
 use native.Mathlib.Omega.{arith}
 use borrow.Author.Needs.{needs}
 use borrow.Author.Tests.{not-true, not-false}
 use denote.Ref.{now}
 use lib.ListN.{length, take, drop, length-take, length-drop}
 use Rattle.rules.specs.Sheet.{all, digit}
-use Rattle.rules.specs.Formula.{leading}
 use Rattle.block_formula.specs.Text.{countOf}
 use Rattle.block_formula.proofs.CountLaws.{digits-part, digits-inside, leading-digits, place-inside}
 use Rattle.block_formula.proofs.GrammarLaws.{named-none, named-unnamed, named-uncounted, named-ends}
 use Rattle.block_formula.proofs.grammar.named_end.Statement.{statement}
 use Rattle.block_formula.proofs.grammar.named_end.Tie as tie
+
+-- where the function starts, seen from the place at which the `=` was looked for; the text, its rest and the place after the `=`
+abbrev start : tie.After-place-of → tie.Start
+start d = d .before .before .before
+
+abbrev text : tie.After-place-of → List ℕ
+text d = now (start d .args .text)
+
+abbrev rest : tie.After-place-of → List ℕ
+rest d = take (length (text d) - start d .args .at) (drop (start d .args .at) (text d))
+
+rest-length : (d : tie.After-place-of) → length (rest d) ≡ length (text d) - start d .args .at
+rest-length d = omega (arith, length-take (length (text d) - start d .args .at) (drop (start d .args .at) (text d)), length-drop (start d .args .at) (text d))
+
+abbrev after : tie.After-place-of → ℕ
+after d = start d .args .at + d .place-of .result + 1
 
 sub-rest : tie.Need-sub-rest
 sub-rest c = search needs
@@ -30,22 +46,12 @@ place-of-requires c κs = search needs
 returns : tie.Need-returns
 returns c =
     let d = c .before in
-    let s = d .before .before .before in
-    let a = s .args in
-    let t = now (a .text) in
-    let l = length-take (length t - a .at) (drop (a .at) t) in
-    let m = length-drop (a .at) t in
-    sym (named-none t (a .at) (d .place-of .result) (s .pre) (d .place-of .ensures) (omega (arith, l, m)))
+    sym (named-none (text d) (start d .args .at) (d .place-of .result) (start d .pre) (d .place-of .ensures) (omega (arith, rest-length d)))
 
 slice-aggregate-is-name : tie.Need-slice-aggregate-is-name
 slice-aggregate-is-name c =
     let d = c .before .before in
-    let s = d .before .before .before in
-    let a = s .args in
-    let t = now (a .text) in
-    let l = length-take (length t - a .at) (drop (a .at) t) in
-    let m = length-drop (a .at) t in
-    omega (arith, l, m, place-inside t (a .at) (d .place-of .result) (s .pre) (d .place-of .ensures), length-take (d .place-of .result) (take (length t - a .at) (drop (a .at) t)))
+    omega (arith, rest-length d, place-inside (text d) (start d .args .at) (d .place-of .result) (start d .pre) (d .place-of .ensures), length-take (d .place-of .result) (rest d))
 
 is-name-requires : tie.Need-is-name-requires
 is-name-requires c κs = search needs
@@ -53,12 +59,7 @@ is-name-requires c κs = search needs
 returns-2 : tie.Need-returns-2
 returns-2 c =
     let d = c .before .before .before .before in
-    let s = d .before .before .before in
-    let a = s .args in
-    let t = now (a .text) in
-    let l = length-take (length t - a .at) (drop (a .at) t) in
-    let m = length-drop (a .at) t in
-    sym (named-unnamed t (a .at) (d .place-of .result) (s .pre) (d .place-of .ensures) (sym (c .before .is-name .ensures) ∙ not-true _ (c .if2 .taken)))
+    sym (named-unnamed (text d) (start d .args .at) (d .place-of .result) (start d .pre) (d .place-of .ensures) (sym (c .before .is-name .ensures) ∙ not-true _ (c .if2 .taken)))
 
 add-start : tie.Need-add-start
 add-start c = search needs
@@ -78,49 +79,26 @@ part-count-start c = search needs
 part-count-end : tie.Need-part-count-end
 part-count-end c =
     let d = c .before .before .before .before .before in
-    let s = d .before .before .before in
-    let a = s .args in
-    let t = now (a .text) in
-    let l = length-take (length t - a .at) (drop (a .at) t) in
-    let m = length-drop (a .at) t in
-    omega (arith, digits-inside t (a .at + d .place-of .result + 1) (c .digits-end .result) (omega (arith, l, m)) (c .digits-end .ensures))
+    digits-inside (text d) (after d) (c .digits-end .result) (omega (arith, rest-length d)) (c .digits-end .ensures)
 
 count-requires : tie.Need-count-requires
 count-requires c κs =
     let d = c .before .before .before .before .before .before in
-    let s = d .before .before .before in
-    let a = s .args in
-    let t = now (a .text) in
-    let l = length-take (length t - a .at) (drop (a .at) t) in
-    let m = length-drop (a .at) t in
-    let start = a .at + d .place-of .result + 1 in
-    ap (all digit) (digits-part t start (c .before .digits-end .result) (c .before .digits-end .ensures)) ∙ leading-digits (drop start t)
+    ap (all digit) (digits-part (text d) (after d) (c .before .digits-end .result) (c .before .digits-end .ensures)) ∙ leading-digits (drop (after d) (text d))
 
 returns-3 : tie.Need-returns-3
 returns-3 c =
     let d = c .before .before .before .before .before .before .before .before in
-    let s = d .before .before .before in
-    let a = s .args in
-    let t = now (a .text) in
-    let l = length-take (length t - a .at) (drop (a .at) t) in
-    let m = length-drop (a .at) t in
-    let start = a .at + d .place-of .result + 1 in
     let k = c .before .before .before .digits-end in
-    sym (named-uncounted t (a .at) (d .place-of .result) (s .pre) (d .place-of .ensures) (sym (ap countOf (digits-part t start (k .result) (k .ensures))) ∙ sym (c .before .count .ensures) ∙ c .if3 .taken))
+    sym (named-uncounted (text d) (start d .args .at) (d .place-of .result) (start d .pre) (d .place-of .ensures) (sym (ap countOf (digits-part (text d) (after d) (k .result) (k .ensures))) ∙ sym (c .before .count .ensures) ∙ c .if3 .taken))
 
 returns-4 : tie.Need-returns-4
 returns-4 c =
     let d = c .before .before .before .before .before .before .before .before in
-    let s = d .before .before .before in
-    let a = s .args in
-    let t = now (a .text) in
-    let l = length-take (length t - a .at) (drop (a .at) t) in
-    let m = length-drop (a .at) t in
-    let start = a .at + d .place-of .result + 1 in
     let k = c .before .before .before .digits-end in
     k .ensures
-    ∙ sym (named-ends t (a .at) (d .place-of .result) (s .pre) (d .place-of .ensures) (omega (arith, l, m)) (sym (c .before .before .before .before .before .is-name .ensures) ∙ not-false _ (c .before .before .before .before .if2 .left))
-    (λ z. c .if3 .left (c .before .count .ensures ∙ ap countOf (digits-part t start (k .result) (k .ensures)) ∙ z)))
+    ∙ sym (named-ends (text d) (start d .args .at) (d .place-of .result) (start d .pre) (d .place-of .ensures) (omega (arith, rest-length d)) (sym (c .before .before .before .before .before .is-name .ensures) ∙ not-false _ (c .before .before .before .before .if2 .left))
+    (λ z. c .if3 .left (c .before .count .ensures ∙ ap countOf (digits-part (text d) (after d) (k .result) (k .ensures)) ∙ z)))
 
 pub named-end-spec : {M : Type 1} → statement M
 named-end-spec =

@@ -1,11 +1,11 @@
 -- `names::new_name`: the loop's invariant is that the name is new exactly when it is new among the names from this one on.
 -- Assumes nothing.
 use Prim.Native.Nat.{_+_, _-_, _≤_}
-use mathlib.Core.Path.{_≡_, refl, sym, ap, ap₂, _∙_}
+use mathlib.Core.Path.{_≡_, refl, sym, ap₂, _∙_}
 use mathlib.Core.List.{[], map}
 use native.Mathlib.Omega.{arith}
 use denote.Ref.{now}
-use lib.ListN.{length, getD, drop}
+use lib.ListN.{getD, drop}
 use Rattle.rules.specs.Sheet.{plotMark, header, columnNames, sameBytes, newName}
 use Rattle.rules.specs.SheetText.{plotHeading}
 use Rattle.block_formula.proofs.NameLaws.{new-here, new-on, new-end}
