@@ -23,7 +23,7 @@ use Rattle.rules.proofs.Buffer.{put, members-add}
 use Rattle.rules.proofs.Agreement.{later, Split, split}
 use Rattle.rules.proofs.Formula.{counts-names}
 use Rattle.block_formula.specs.Text.{seenText}
-use Rattle.block_formula.specs.Plots.{codeOf, radix, inSet, columnsIn}
+use Rattle.block_formula.specs.Plots.{codeOf, radix, inSet, columnsIn, levelsBy}
 use Rattle.block_formula.proofs.CodeLaws.{code-less, column-codes}
 
 -- ---- the number of plots
@@ -183,10 +183,6 @@ module _ (cs : List ℕ) (marks : List Bool) (u code rest size j : ℕ) (w : Cod
       rw size-next (omega (arith, code-few cs (inSet marks) u l, le-mul-of-pos-right n some))
 
 -- ---- the columns
-
--- the levels of all plots by the codes of the names that an array marks
-abbrev pub levelsBy : List ℕ → List Bool → ℕ → Column
-levelsBy cs marks plots = tabulate (λ u. suc (codeOf cs (inSet marks) u)) plots
 
 module _ (cs : List ℕ) (marks : List Bool) (plots : ℕ) where
   -- one for each plot

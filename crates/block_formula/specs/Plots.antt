@@ -35,6 +35,10 @@ pub record Counted (counts : List ℕ) (plots : ℕ) : Type 0 where
 abbrev pub inSet : List Bool → ℕ → Bool
 inSet seen j = getD seen j false
 
+-- the levels of a column that sees these names
+abbrev pub levelsBy : List ℕ → List Bool → ℕ → Column
+levelsBy counts seen plots = tabulate (λ u. suc (codeOf counts (inSet seen) u)) plots
+
 -- a text and a level table that all columns have room in
 pub record Placed (text levels : List ℕ) : Type 0 where
   pub short : length text ≤ mostFormula
@@ -43,4 +47,4 @@ pub record Placed (text levels : List ℕ) : Type 0 where
 -- the columns of all names
 unfoldable pub columnsIn : List ℕ → List ℕ → ℕ → List Column
 unfolding seenText tabulate codeOf
-columnsIn text counts plots = tabulate (λ i. tabulate (λ u. suc (codeOf counts (inSet (seenText text i)) u)) plots) (length counts)
+columnsIn text counts plots = tabulate (λ i. levelsBy counts (seenText text i) plots) (length counts)

@@ -2,13 +2,14 @@
 -- nested in. That these are the formula's own is shown in proofs/.
 -- Assumes nothing.
 use mathlib.Core.Bool.{Bool, true, false, not, _&&_, _||_}
-use mathlib.Core.List.{List, [], _∷_, _++_}
-use Prim.Native.Nat.{ℕ, zero, suc, _-_}
+use mathlib.Core.List.{List, [], _∷_, _++_, map}
+use Prim.Native.Nat.{ℕ, zero, suc, _+_, _-_}
 use lib.Dec.{eqb, ltb}
-use lib.ListN.{length, getD}
+use lib.ListN.{length, getD, drop}
 use Rattle.rules.specs.Limits.{mostFormula, mostColumns}
 use Rattle.rules.specs.Lists.{tabulate}
-use Rattle.rules.specs.Sheet.{within, tab, past, letterOrDigit, plotMark, decimal, decimalFrom}
+use Rattle.rules.specs.Sheet.{within, tab, past, letterOrDigit, plotMark, decimal, decimalFrom, header, columnNames, newName}
+use Rattle.rules.specs.SheetText.{plotHeading}
 use Rattle.rules.specs.Parents.{slash}
 use Rattle.rules.specs.Formula.{openBracket, closeBracket, star, equals, operators, isCount, Parsed, nothing, parsed, leading, formulaAt}
 
@@ -66,6 +67,14 @@ headingsFrom b (x ∷ xs) = headingPart b x ++ headingsFrom (inCount b x) xs
 -- the headings of all names, each with a tab after it, and the start of one more
 abbrev pub headings : List ℕ → List ℕ
 headings text = plotMark ∷ 58 ∷ headingsFrom false text
+
+-- the names of the plot columns in a first line
+abbrev pub namesIn : List ℕ → List (List ℕ)
+namesIn line = columnNames plotMark (header line)
+
+-- name i is that of none after it
+abbrev pub newAt : List (List ℕ) → ℕ → Bool
+newAt ns i = newName (plotHeading (getD ns i [])) (map plotHeading (drop (i + 1) ns))
 
 -- ---- nesting
 

@@ -1,8 +1,9 @@
 // The counts of a formula, and its number of plots.
 ghost use mathlib.Core.Path.{_≡_};
 ghost use mathlib.Core.Bool.{true};
-ghost use Prim.Native.Nat.{_+_, _≤_, min};
+ghost use Prim.Native.Nat.{suc, _+_, _≤_, min};
 ghost use lib.ListN.{length, drop};
+ghost use Rattle.rules.specs.Limits.{mostPlots};
 ghost use Rattle.rules.specs.Sheet.{all, digit};
 ghost use Rattle.rules.specs.Formula.{leading, plotCount};
 ghost use Rattle.factor.specs.Lent.{overlay};
@@ -76,7 +77,7 @@ pub fn read_counts(text: &[u8], counts: &mut [u8]) -> usize
 
 // A number, or 1 more than the plots that a sheet may have where it is larger.
 fn capped(plots: usize) -> usize
-    ensures { λ r. ⌜ r ≡ min 241 plots ⌝ }
+    ensures { λ r. ⌜ r ≡ min (suc mostPlots) plots ⌝ }
 {
     if PLOTS < plots {
         return PLOTS + 1;
@@ -86,7 +87,7 @@ fn capped(plots: usize) -> usize
 
 // How many combinations the counts have, up to 241.
 pub fn plot_count(counts: &[u8]) -> usize
-    ensures { λ r. ⌜ r ≡ min 241 (plotCount (now (counts .entry))) ⌝ }
+    ensures { λ r. ⌜ r ≡ min (suc mostPlots) (plotCount (now (counts .entry))) ⌝ }
 {
     let mut plots = 1;
     for i in 0..counts.len() {

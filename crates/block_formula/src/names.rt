@@ -1,12 +1,12 @@
 // The names of a formula: the first line of its sheet, and whether they differ.
 ghost use mathlib.Core.Path.{_≡_};
 ghost use mathlib.Core.List.{[], map};
-ghost use Prim.Native.Nat.{_+_, _<_};
-ghost use lib.ListN.{length, getD, drop};
-ghost use Rattle.rules.specs.Sheet.{plotMark, header, columnNames, newName, namesDiffer};
+ghost use Prim.Native.Nat.{_<_};
+ghost use lib.ListN.{length, getD};
+ghost use Rattle.rules.specs.Sheet.{namesDiffer};
 ghost use Rattle.rules.specs.SheetText.{plotHeading};
 ghost use Rattle.decimal.specs.Writing.{Wrote};
-ghost use Rattle.block_formula.specs.Text.{inCount, headingPart, headings};
+ghost use Rattle.block_formula.specs.Text.{inCount, headingPart, headings, namesIn, newAt};
 use decimal::write_byte;
 use decimal::write_bytes;
 
@@ -55,7 +55,7 @@ pub fn write_headings(text: &[u8], out: &mut [u8]) -> usize
 
 // The name of plot column `i`, from 0, of a first line; no bytes where there is none.
 fn name(line: &[u8], i: usize) -> &[u8]
-    ensures { λ r. ⌜ now r ≡ getD (columnNames plotMark (header (now (line .entry)))) i [] ⌝ }
+    ensures { λ r. ⌜ now r ≡ getD (namesIn (now (line .entry))) i [] ⌝ }
 {
     let span = sheet::column_name(line, b'p', i);
     let start = span.start;
@@ -65,8 +65,8 @@ fn name(line: &[u8], i: usize) -> &[u8]
 
 // Whether no name after name `i` of so many is the same.
 fn new_name(line: &[u8], i: usize, names: usize) -> bool
-    requires { ⌜ (names ≡ length (columnNames plotMark (header (now line)))) × (i < names) ⌝ }
-    ensures { λ r. ⌜ r ≡ newName (plotHeading (getD (columnNames plotMark (header (now (line .entry)))) i [])) (map plotHeading (drop (i + 1) (columnNames plotMark (header (now (line .entry)))))) ⌝ }
+    requires { ⌜ (names ≡ length (namesIn (now line))) × (i < names) ⌝ }
+    ensures { λ r. ⌜ r ≡ newAt (namesIn (now (line .entry))) i ⌝ }
 {
     for j in i + 1..names {
         if sheet::same_bytes(name(line, i), name(line, j)) {
@@ -78,8 +78,8 @@ fn new_name(line: &[u8], i: usize, names: usize) -> bool
 
 // Whether no two names of a first line of so many plot columns are the same.
 pub fn names_differ(line: &[u8], names: usize) -> bool
-    requires { ⌜ names ≡ length (columnNames plotMark (header (now line))) ⌝ }
-    ensures { λ r. ⌜ r ≡ namesDiffer (map plotHeading (columnNames plotMark (header (now (line .entry))))) ⌝ }
+    requires { ⌜ names ≡ length (namesIn (now line)) ⌝ }
+    ensures { λ r. ⌜ r ≡ namesDiffer (map plotHeading (namesIn (now (line .entry)))) ⌝ }
 {
     for i in 0..names {
         if !new_name(line, i, names) {

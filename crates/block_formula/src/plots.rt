@@ -1,13 +1,12 @@
 // The plots of a formula: all combinations of the counts, the first name slowest, and their levels.
 use crate::nesting;
 ghost use mathlib.Core.Path.{_≡_};
-ghost use Prim.Native.Nat.{ℕ, suc, _+_, _*_, _<_, _≤_};
+ghost use Prim.Native.Nat.{_+_, _*_, _<_, _≤_};
 ghost use lib.ListN.{length};
 ghost use lib.Seq.{paste};
 ghost use Rattle.rules.specs.Limits.{mostPlots};
-ghost use Rattle.rules.specs.Lists.{tabulate};
 ghost use Rattle.rules.specs.Family.{membersOf};
-ghost use Rattle.block_formula.specs.Plots.{codeOf, Counted, inSet, Placed, columnsIn};
+ghost use Rattle.block_formula.specs.Plots.{codeOf, Counted, inSet, levelsBy, Placed, columnsIn};
 use limits::COLUMNS;
 use limits::Level;
 use limits::PLOTS;
@@ -34,7 +33,7 @@ fn code(counts: &[u8], seen: [bool; COLUMNS], plots: usize, u: usize) -> usize
 // Writes the levels of column `i`, from 0.
 fn write_column(counts: &[u8], seen: [bool; COLUMNS], plots: usize, i: usize, levels: &mut [Level])
     requires { ⌜ Counted (now counts) plots × (mostPlots * i + plots ≤ length (now levels)) ⌝ }
-    ensures { λ _. ⌜ now (levels .exit) ≡ paste (now (levels .entry)) (mostPlots * i) (tabulate (λ (u : ℕ). suc (codeOf (now (counts .entry)) (inSet seen) u)) plots) plots ⌝ }
+    ensures { λ _. ⌜ now (levels .exit) ≡ paste (now (levels .entry)) (mostPlots * i) (levelsBy (now (counts .entry)) seen plots) plots ⌝ }
 {
     for u in 0..plots {
         levels[PLOTS * i + u] = (code(counts, seen, plots, u) + 1) as Level;

@@ -3,10 +3,8 @@
 ghost use mathlib.Core.Path.{_≡_};
 ghost use Prim.Native.Nat.{_≤_};
 ghost use lib.ListN.{length, take};
-ghost use Rattle.rules.specs.Formula.{formulaSheet};
 ghost use Rattle.decimal.specs.Writing.{Wrote};
-ghost use Rattle.writer.specs.Answers.{answerText};
-ghost use Rattle.formula.specs.Input.{withoutEnd};
+ghost use Rattle.formula.specs.Input.{withoutEnd, formulaText};
 use input::read_input;
 use libc::STDOUT_FILENO;
 
@@ -30,7 +28,7 @@ fn formula_size(input: &[u8]) -> usize
 
 // Writes what is printed for an input.
 fn print(input: &[u8], out: &mut [u8]) -> usize
-    ensures { λ r. ⌜ Wrote (now (out .entry)) 0 (answerText (formulaSheet (withoutEnd (now (input .entry))) (length (now (out .entry))))) (now (out .exit)) r ⌝ }
+    ensures { λ r. ⌜ Wrote (now (out .entry)) 0 (formulaText (now (input .entry)) (length (now (out .entry)))) (now (out .exit)) r ⌝ }
 {
     let size = formula_size(input);
     let answer = block_formula::expand(&input[..size], out);

@@ -9,8 +9,8 @@ use denote.Ref.{now}
 use lib.ListN.{length, getD, set, length-set}
 use lib.Seq.{paste, paste-zero, paste-suc}
 use Rattle.rules.specs.Limits.{mostPlots}
-use Rattle.block_formula.specs.Plots.{inSet}
-use Rattle.block_formula.proofs.PlotLaws.{code-few, levelsBy, length-levels, level-at}
+use Rattle.block_formula.specs.Plots.{inSet, levelsBy}
+use Rattle.block_formula.proofs.PlotLaws.{code-few, length-levels, level-at}
 use Rattle.block_formula.proofs.plots.write_column.Statement.{statement}
 use Rattle.block_formula.proofs.plots.write_column.Tie as tie
 

@@ -11,8 +11,8 @@ use lib.Seq.{paste, length-paste}
 use Rattle.rules.specs.Limits.{mostPlots}
 use Rattle.rules.specs.Family.{columnsFrom, membersOf}
 use Rattle.block_formula.specs.Text.{seenText}
-use Rattle.block_formula.specs.Plots.{columnsIn}
-use Rattle.block_formula.proofs.PlotLaws.{levelsBy, length-levels, columns-all, columns-turn}
+use Rattle.block_formula.specs.Plots.{columnsIn, levelsBy}
+use Rattle.block_formula.proofs.PlotLaws.{length-levels, columns-all, columns-turn}
 use Rattle.block_formula.proofs.plots.write_columns.Statement.{statement}
 use Rattle.block_formula.proofs.plots.write_columns.Tie as tie
 
