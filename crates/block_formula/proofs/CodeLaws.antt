@@ -144,7 +144,3 @@ column-codes cs S h = sym (number-column cs S) ∙ number-unique (columnOf cs S)
       to = λ u v hu hv e. at-plot u hu ∙ ap suc (agree-code cs S u v (column-divides cs S .to u v hu hv e)) ∙ sym (at-plot v hv);
       from = λ u v hu hv e. column-divides cs S .from u v hu hv (code-agree cs S u v hu hv (suc-inj (sym (at-plot u hu) ∙ e ∙ at-plot v hv)));
     })
-
--- plot by plot
-pub level-code : (cs : List ℕ) (S : ℕ → Bool) (u : ℕ) → u < plotCount cs → at (columnOf cs S) u ≡ suc (codeOf cs S u)
-level-code cs S u h = ap (λ (F : Column). at F u) (column-codes cs S (omega arith)) ∙ getD-tabulate (λ u. suc (codeOf cs S u)) (plotCount cs) u 0 h
