@@ -280,8 +280,8 @@ pub extern "C" fn rachdoum_convert(old: &[u8], sheet: &mut [u8], answer: &mut [u
     ensures buffer { λ _. ⌜ now (sheet .exit) ≡ sheetBuffer (now (sheet .entry)) (conversion (now (old .entry)) (length (now (sheet .entry)))) ⌝ }
     ensures numbers { λ _. ⌜ now (answer .exit) ≡ sheetNumbers (conversion (now (old .entry)) (length (now (sheet .entry)))) ⌝ }
 {
-    let found = conversion::convert(old, sheet);
-    put_writing(found, answer)
+    let converted = conversion::convert(old, sheet);
+    put_writing(converted, answer)
 }
 
 // Questions 6, 17 and 18 of a block formula. The answer: how many bytes its sheet has.
@@ -291,6 +291,6 @@ pub extern "C" fn rachdoum_formula(formula: &[u8], sheet: &mut [u8], answer: &mu
     ensures buffer { λ _. ⌜ now (sheet .exit) ≡ sheetBuffer (now (sheet .entry)) (formulaSheet (now (formula .entry)) (length (now (sheet .entry)))) ⌝ }
     ensures numbers { λ _. ⌜ now (answer .exit) ≡ sheetNumbers (formulaSheet (now (formula .entry)) (length (now (sheet .entry)))) ⌝ }
 {
-    let found = block_formula::expand(formula, sheet);
-    put_writing(found, answer)
+    let expanded = block_formula::expand(formula, sheet);
+    put_writing(expanded, answer)
 }
