@@ -77,6 +77,10 @@ data Ended (text : List ℕ) : Parsed → ℕ → Type 0 where
   nowhere : Ended text nothing 0
   there : {f : Formula} {rest : List ℕ} {e : ℕ} → 0 < e → e ≤ length text → rest ≡ drop e text → Ended text (parsed f rest) e
 
+-- an end is not 0
+not-nowhere : (e : ℕ) → 0 < e → e ≡ 0 → ⊥
+not-nowhere e pos z = omega arith
+
 ended : (text : List ℕ) (at : ℕ) {p : Part} (q : Parsed) → Begins p (drop at text) q → Ended text q (endIn (length text) q)
 ended text at nothing b = nowhere
 ended text at (parsed f rest) (some s e w) =
@@ -122,10 +126,7 @@ module _ (text : List ℕ) where
       where
         go : (q : Parsed) → Ended text q r → endIn (length text) (closed q) ≡ 0
         go nothing x = refl
-        go (parsed f rest) (there pos l y) = absurd (no pos z)
-          where
-            no : 0 < r → r ≡ 0 → ⊥
-            no pos z = omega arith
+        go (parsed f rest) (there pos l y) = absurd (not-nowhere r pos z)
 
     pub closed-end : length text ≤ r → endIn (length text) (closed q) ≡ 0
     unfolding closed
@@ -183,10 +184,7 @@ module _ (text : List ℕ) (at k : ℕ) (os : List ℕ) (r : ℕ) (is : r ≡ en
     where
       go : (q : Parsed) → Ended text q r → endIn (length text) (more q) ≡ 0
       go nothing x = refl
-      go (parsed f rest) (there pos l y) = absurd (no pos z)
-        where
-          no : 0 < r → r ≡ 0 → ⊥
-          no pos z = omega arith
+      go (parsed f rest) (there pos l y) = absurd (not-nowhere r pos z)
 
   module _ (there-is : r ≡ 0 → ⊥) where
     -- an item at the text's end
