@@ -26,7 +26,7 @@ pub const LEVELS: usize = 2_880;
 /// Bytes that a family buffer has to hold.
 pub const FAMILY: usize = 7_680;
 /// Bytes that a name's buffer has to hold.
-pub const NAME: usize = 96;
+pub const NAME: usize = 160;
 /// Bytes that the buffer for the printed table has to hold.
 pub const TABLE: usize = 32_768;
 /// Bytes that the buffer for a sheet has to hold.

@@ -6,34 +6,78 @@ use super::order::{ones, Family};
 use super::sheet::Header;
 use super::work::with_work;
 use crate::{Level, COLUMNS, FAMILY, LEVELS, NAME, PLOTS, TEXT};
+use std::cell::OnceCell;
 
-/// The columns of one kind, ready for naming.
+/// Most columns that are looked at.
+const LOOKED: usize = 2 * COLUMNS;
+
+/// The names and the columns of one kind.
+pub type Kind<'a> = ([&'a [u8]; COLUMNS], &'a Columns);
+
+/// A column that is looked at.
+#[derive(Clone, Copy)]
+struct Looked<'a> {
+    name: &'a [u8],
+    column: &'a [u8],
+    classes: u8,
+}
+
+/// For each column a word of columns that stand in its place in a list.
+type Instead = [u32; LOOKED];
+
+/// The columns that the members of a family look at, ready for naming: those of its own kind come last.
 pub struct Namer<'a> {
-    pub names: [&'a [u8]; COLUMNS],
-    pub columns: &'a Columns,
+    looked: [Looked<'a>; LOOKED],
+    /// The first of the family's own kind, and how many there are in all.
+    own: usize,
+    count: usize,
     plots: usize,
-    /// For each column those that stand in its place in a list: strictly finer ones, and lower ones equivalent to it.
-    instead: [u32; COLUMNS],
+    leaders: OnceCell<[Column; LOOKED]>,
+    /// Of the family's kind: strictly finer ones, and earlier ones equivalent to it.
+    finer: OnceCell<Instead>,
+    /// Strictly coarser ones, and earlier ones equivalent to it.
+    coarser: OnceCell<Instead>,
 }
 
 impl<'a> Namer<'a> {
-    pub fn new(names: [&'a [u8]; COLUMNS], columns: &'a Columns, plots: usize) -> Namer<'a> {
-        let mut namer = Namer { names, columns, plots, instead: [0; COLUMNS] };
-        for d in 0..columns.count {
-            let first = leaders(namer.column(d));
+    /// From the kinds of columns that are looked at, the family's own kind last.
+    pub fn new(kinds: &[Kind<'a>], plots: usize) -> Namer<'a> {
+        let none = Looked { name: &[], column: &[], classes: 0 };
+        let (finer, coarser) = (OnceCell::new(), OnceCell::new());
+        let mut namer = Namer { looked: [none; LOOKED], own: 0, count: 0, plots, leaders: OnceCell::new(), finer, coarser };
+        for (names, columns) in kinds {
+            namer.own = namer.count;
             for c in 0..columns.count {
-                let (of_c, of_d) = (columns.classes[c], columns.classes[d]);
-                let before = of_d > of_c || of_d == of_c && d < c;
-                if before && is_finer(&first, namer.column(c)) {
-                    namer.instead[c] |= 1 << d;
-                }
+                let column = &columns.columns[c][..plots];
+                namer.looked[namer.count] = Looked { name: names[c], column, classes: columns.classes[c] };
+                namer.count += 1;
             }
         }
         namer
     }
 
-    fn column(&self, c: usize) -> &[u8] {
-        &self.columns.columns[c][..self.plots]
+    /// For each plot the first plot of its class in a column.
+    fn leaders(&self, c: usize) -> &Column {
+        &self.leaders.get_or_init(|| self.looked.map(|one| leaders(one.column)))[c]
+    }
+
+    /// For each column from a first one on those that stand in its place: those that are before it in this order of the classes, and
+    /// earlier ones equivalent to it.
+    fn instead(&self, from: usize, before: fn(&u8, &u8) -> bool) -> Instead {
+        let mut words = [0; LOOKED];
+        for c in from..self.count {
+            for d in from..self.count {
+                let (of_c, of_d) = (self.looked[c].classes, self.looked[d].classes);
+                if !before(&of_d, &of_c) && (of_d != of_c || d >= c) {
+                    continue;
+                }
+                let (fine, coarse) = if of_c < of_d { (d, c) } else { (c, d) };
+                if is_finer(self.leaders(fine), self.looked[coarse].column) {
+                    words[c] |= 1 << d;
+                }
+            }
+        }
+        words
     }
 
     /// Writes the name of a member at the beginning of the bytes; answers its length.
@@ -44,13 +88,17 @@ impl<'a> Namer<'a> {
         if usize::from(classes) == self.plots {
             return put(name, 0, b"E");
         }
-        let equivalent = |c: &usize| self.columns.classes[*c] == classes && self.column(*c) == member;
-        if let Some(c) = (0..self.columns.count).find(equivalent) {
-            return put(name, 0, self.names[c]);
+        let own = &self.looked[self.own..self.count];
+        if let Some(one) = own.iter().find(|one| one.classes == classes && one.column == member) {
+            return put(name, 0, one.name);
         }
         match self.infimum(member, classes, walk) {
+            0 => {}
+            listed => return self.list(b"I(", listed, name),
+        }
+        match self.supremum(member, classes, walk) {
             0 => number(name, place),
-            listed => self.list(listed, name),
+            listed => self.list(b"S(", listed, name),
         }
     }
 
@@ -58,9 +106,13 @@ impl<'a> Namer<'a> {
     /// each class tells: the columns have to part them all.
     fn infimum(&self, member: &[u8], classes: u8, walk: &mut Walk) -> u32 {
         let first = leaders(member);
-        let coarser = |c: &usize| self.columns.classes[*c] < classes && is_finer(&first, self.column(*c));
-        let among = (0..self.columns.count).filter(coarser).fold(0u32, |word, c| word | 1 << c);
-        let listed = ones(among).filter(|&c| self.instead[c] & among == 0).fold(0u32, |word, c| word | 1 << c);
+        let coarser = |c: &usize| self.looked[*c].classes < classes && is_finer(&first, self.looked[*c].column);
+        let among = word((self.own..self.count).filter(coarser));
+        if among == 0 {
+            return 0;
+        }
+        let instead = self.finer.get_or_init(|| self.instead(self.own, u8::gt));
+        let listed = word(ones(among).filter(|&c| instead[c] & among == 0));
         let count = usize::from(classes);
         let mut plots = [0u8; PLOTS];
         let mut next = 0;
@@ -72,11 +124,12 @@ impl<'a> Namer<'a> {
         }
         let (mut infimum, mut parted): (Column, u8) = ([1; PLOTS], 1);
         for c in ones(listed) {
+            let one = &self.looked[c];
             let mut column = [0; PLOTS];
             for (number, &plot) in column[..count].iter_mut().zip(&plots) {
-                *number = self.columns.columns[c][usize::from(plot)];
+                *number = one.column[usize::from(plot)];
             }
-            walk.meet(&infimum[..count], parted, &column[..count], self.columns.classes[c]);
+            walk.meet(&infimum[..count], parted, &column[..count], one.classes);
             (infimum, parted) = (walk.infimum, walk.cells as u8);
         }
         if parted == classes {
@@ -86,16 +139,55 @@ impl<'a> Namer<'a> {
         }
     }
 
-    fn list(&self, listed: u32, name: &mut [u8]) -> usize {
-        let mut length = put(name, 0, b"I(");
+    /// The columns that an `S(` lists, a bit each; 0 when the member is not the supremum of its finer columns. A column of
+    /// single plots is never listed and joins nothing, so it is left out.
+    fn supremum(&self, member: &[u8], classes: u8, walk: &mut Walk) -> u32 {
+        let finer = |c: &usize| {
+            let of_column = self.looked[*c].classes;
+            classes <= of_column && usize::from(of_column) < self.plots && is_finer(self.leaders(*c), member)
+        };
+        let among = word((0..self.count).filter(finer));
+        if among == 0 || !self.join(among, classes, walk) {
+            return 0;
+        }
+        let instead = self.coarser.get_or_init(|| self.instead(0, u8::lt));
+        word(ones(among).filter(|&c| instead[c] & among == 0))
+    }
+
+    /// Whether the supremum of these columns has so many classes, which is the least that it can have.
+    fn join(&self, among: u32, classes: u8, walk: &mut Walk) -> bool {
+        let first = among.trailing_zeros() as usize;
+        let (mut supremum, mut joined) = ([0; PLOTS], self.looked[first].classes);
+        supremum[..self.plots].copy_from_slice(self.looked[first].column);
+        for c in ones(among).skip(1) {
+            if joined == classes {
+                break;
+            }
+            let one = &self.looked[c];
+            walk.meet(&supremum[..self.plots], joined, one.column, one.classes);
+            walk.join(joined);
+            let before = supremum;
+            walk.supremum(&before[..self.plots], &mut supremum);
+            joined = walk.joined as u8;
+        }
+        joined == classes
+    }
+
+    fn list(&self, opening: &[u8], listed: u32, name: &mut [u8]) -> usize {
+        let mut length = put(name, 0, opening);
         for (i, c) in ones(listed).enumerate() {
             if i > 0 {
                 length = put(name, length, b",");
             }
-            length = put(name, length, self.names[c]);
+            length = put(name, length, self.looked[c].name);
         }
         put(name, length, b")")
     }
+}
+
+/// A bit for each of these.
+fn word(columns: impl Iterator<Item = usize>) -> u32 {
+    columns.fold(0, |word, c| word | 1 << c)
 }
 
 /// Puts bytes at a place; answers where they end.
@@ -136,16 +228,17 @@ pub fn name(
     if !within || levels.len() < LEVELS || family.len() < FAMILY || name.len() < NAME {
         return (6, [0]);
     }
-    let treatment = kind != 0;
-    let (first, count) = if treatment { (COLUMNS, header.treatment_columns) } else { (0, header.plot_columns) };
-    if !no_level_missing(levels, first, count, plots) {
+    // The kinds of columns that are looked at.
+    let (kinds, counts) = (if kind == 0 { 1 } else { 2 }, [header.plot_columns, header.treatment_columns]);
+    if !(0..kinds).all(|kind| no_level_missing(levels, COLUMNS * kind, counts[kind], plots)) {
         return (7, [0]);
     }
     let Some(family) = Family::read(family, plots, size) else {
         return (15, [0]);
     };
-    let columns = Columns::number(levels, first, count, plots);
-    let namer = Namer::new(header.names(treatment), &columns, plots);
+    let columns = [0, 1].map(|kind| Columns::number(levels, COLUMNS * kind, if kind < kinds { counts[kind] } else { 0 }, plots));
+    let looked = [(header.names(false), &columns[0]), (header.names(true), &columns[1])];
+    let namer = Namer::new(&looked[..kinds], plots);
     let classes = family.classes[place - 1];
     let length = with_work(|work| namer.write(family.column(place - 1), classes, place, name, &mut work.walk));
     (0, [length as u64])

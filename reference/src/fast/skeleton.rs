@@ -60,7 +60,7 @@ impl Text<'_> {
     }
 }
 
-/// A family in a buffer with the names of its kind.
+/// A family in a buffer with what names its members.
 struct Named<'a> {
     family: Family<'a>,
     namer: Namer<'a>,
@@ -130,12 +130,13 @@ fn print(sheet: &[u8], text: &mut Text) {
     with_work(|work| {
         let design = judge(&of_plots, &of_treatments, INTERACTIONS, plots, &mut plot_buffer, &mut treatment_buffer, work);
         let walk = &mut work.walk;
-        let named = |buffer, size, classes: [u8; MEMBERS], treatment, columns| Named {
+        let kinds = [(header.names(false), &of_plots), (header.names(true), &of_treatments)];
+        let named = |buffer, size, classes: [u8; MEMBERS], looked| Named {
             family: Family { buffer, plots, size, classes },
-            namer: Namer::new(header.names(treatment), columns, plots),
+            namer: Namer::new(looked, plots),
         };
-        let plot_family = named(&plot_buffer, design.plot_size, design.plot_classes, false, &of_plots);
-        let treatment_family = named(&treatment_buffer, design.treatment_size, design.treatment_classes, true, &of_treatments);
+        let plot_family = named(&plot_buffer, design.plot_size, design.plot_classes, &kinds[..1]);
+        let treatment_family = named(&treatment_buffer, design.treatment_size, design.treatment_classes, &kinds);
         if design.refusal == 0 {
             table(text, &plot_family, &treatment_family, walk);
         } else {
