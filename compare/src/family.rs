@@ -3,13 +3,14 @@
 use crate::call::Call;
 use crate::entries::Entry;
 use crate::memory::family_buffer;
+use crate::names::{infimum, supremum};
 use crate::random::Random;
-use crate::trial::trial;
-use reference::PLOTS;
+use crate::trial::{trial, Trial};
+use reference::{Level, PLOTS};
 use std::collections::BTreeMap;
 
 /// Numbered by first appearance.
-fn numbered(labels: &[usize]) -> Vec<u8> {
+fn numbered<T: Ord>(labels: &[T]) -> Vec<u8> {
     let mut seen = BTreeMap::new();
     let mut next = 0;
     labels.iter().map(|label| *seen.entry(label).or_insert_with(|| { next += 1; next })).collect()
@@ -33,13 +34,48 @@ fn family(random: &mut Random) -> (usize, Vec<Vec<u8>>) {
             found.push(numbered(&(0..plots).map(|_| random.below(classes)).collect::<Vec<usize>>()));
         }
     }
-    found.sort_by_key(|member| (member.iter().copied().max(), member.clone()));
-    found.dedup();
+    in_order(&mut found);
     found.truncate(if random.once_in(10) { 34 } else { 32 });
     if found.is_empty() {
         found.push(vec![1; plots]);
     }
     (plots, found)
+}
+
+/// A family of suprema and infima of the columns that its members look at, or of any, and of others near them; in order and mostly not
+/// closed.
+pub fn of_columns(random: &mut Random, trial: &Trial, kind: usize) -> Vec<Vec<u8>> {
+    let all = trial.columns.concat();
+    let looked = if kind == 0 && !trial.columns[0].is_empty() { &trial.columns[0] } else { &all };
+    let mut found: Vec<Vec<u8>> = Vec::new();
+    for _ in 0..16 {
+        let from = if random.once_in(4) { &all } else { looked };
+        let some: Vec<&[Level]> = (0..random.pick(&[1, 2, 2, 2, 3, 3, 4])).map(|_| from[random.below(from.len())].as_slice()).collect();
+        let mut labels = if random.once_in(4) { infimum(&some, trial.plots) } else { supremum(&some, trial.plots, false) };
+        if random.once_in(6) {
+            // Two classes become one, or a plot a class of its own.
+            let [from, to] = [0, 1].map(|_| labels[random.below(trial.plots)]);
+            match random.below(2) {
+                0 => labels.iter_mut().filter(|label| **label == from).for_each(|label| *label = to),
+                _ => labels[random.below(trial.plots)] = trial.plots,
+            }
+        }
+        found.push(numbered(&labels));
+    }
+    // Most of those that have a name by an earlier rule are left out: U, E and columns.
+    let columns: Vec<Vec<u8>> = trial.columns[kind].iter().map(|column| numbered(column)).collect();
+    let classes = |member: &Vec<u8>| member.iter().copied().max().map_or(0, usize::from);
+    let plain = |member: &Vec<u8>| [1, trial.plots].contains(&classes(member)) || columns.contains(member);
+    found.retain(|member| !plain(member) || random.once_in(8));
+    found.truncate(1 + random.below(12));
+    in_order(&mut found);
+    if found.is_empty() { vec![vec![1; trial.plots]] } else { found }
+}
+
+/// By number of classes, then by the first plot where two differ; none twice.
+fn in_order(members: &mut Vec<Vec<u8>>) {
+    members.sort_by_key(|member| (member.iter().copied().max(), member.clone()));
+    members.dedup();
 }
 
 /// Damages a family now and then: a number changed, two members exchanged, all of them permuted, one twice.

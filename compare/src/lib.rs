@@ -12,6 +12,7 @@ pub mod faults;
 pub mod formula;
 pub mod levels;
 pub mod memory;
+pub mod names;
 pub mod old_sheet;
 pub mod random;
 pub mod sheet;

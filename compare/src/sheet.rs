@@ -1,12 +1,27 @@
 //! Sheets made at random: whole ones, damaged ones, and scribbled bytes.
 
 use crate::random::Random;
-use crate::trial::{trial_with_columns, Trial};
+use crate::trial::{sharing_trial, trial_with_columns, Trial};
 use reference::{Level, TEXT};
+
+/// The names of a sheet's columns, in the order of the first line.
+type Names = [&'static str; 12];
+
+const NAMES: Names = ["Hut", "Pier", "Week", "Gain", "Cable", "Filter", "Aa", "A1", "Zz9", "Mule", "B2B", "Longestname1"];
+
+/// Names as long as they can be.
+pub const LONG_NAMES: Names = [
+    "Longestname1", "Longestname2", "Longestname3", "Longestname4", "Longestname5", "Longestname6", "Longestname7", "Longestname8",
+    "Longestname9", "Longestnam10", "Longestnam11", "Longestnam12",
+];
 
 /// A first line and the plot lines of a sheet, kinds in any order.
 pub fn sheet_text(random: &mut Random, plots: usize, trial: &Trial) -> Vec<u8> {
-    const NAMES: [&str; 12] = ["Hut", "Pier", "Week", "Gain", "Cable", "Filter", "Aa", "A1", "Zz9", "Mule", "B2B", "Longestname1"];
+    named_text(random, plots, trial, &NAMES)
+}
+
+/// The same with these names.
+pub fn named_text(random: &mut Random, plots: usize, trial: &Trial, names: &Names) -> Vec<u8> {
     let mut fields: Vec<(char, &Vec<Level>)> = trial.columns[0].iter().map(|column| ('p', column)).collect();
     let mut at = 0;
     for column in &trial.columns[1] {
@@ -15,7 +30,7 @@ pub fn sheet_text(random: &mut Random, plots: usize, trial: &Trial) -> Vec<u8> {
         fields.insert(at, ('t', column));
         at += 1;
     }
-    let heading: Vec<String> = fields.iter().zip(NAMES).map(|(field, name)| format!("{}:{name}", field.0)).collect();
+    let heading: Vec<String> = fields.iter().zip(names).map(|(field, name)| format!("{}:{name}", field.0)).collect();
     let mut text = heading.join("\t") + "\n";
     for u in 0..plots {
         let line: Vec<String> = fields.iter().map(|(_, column)| column[u].to_string()).collect();
@@ -114,6 +129,13 @@ fn scribble(random: &mut Random) -> Vec<u8> {
     let mut text = start.to_vec();
     text.extend((0..length).map(|_| random.pick(alphabet)));
     text
+}
+
+/// A sheet of a trial with members that are suprema of columns, now and then with long names.
+pub fn sharing_text(random: &mut Random) -> Vec<u8> {
+    let trial = sharing_trial(random);
+    let names = if random.once_in(4) { LONG_NAMES } else { NAMES };
+    named_text(random, trial.plots, &trial, &names)
 }
 
 /// A sheet, a damaged one, or scribbled bytes.

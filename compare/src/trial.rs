@@ -79,6 +79,11 @@ fn factorial(random: &mut Random) -> Vec<usize> {
 /// A column of sums of two-level digits, 1 to 4 sums taken together: any two of these are orthogonal.
 fn sums(random: &mut Random, plots: usize, bits: usize) -> Vec<usize> {
     let chosen: Vec<usize> = (0..1 + random.below(4)).map(|_| random.below(1 << bits)).collect();
+    sums_of(plots, &chosen)
+}
+
+/// These sums of two-level digits taken together.
+fn sums_of(plots: usize, chosen: &[usize]) -> Vec<usize> {
     let odd = |u: usize, sum: usize| ((u & sum).count_ones() % 2) as usize;
     (0..plots).map(|u| chosen.iter().fold(0, |label, &sum| 2 * label + odd(u, sum))).collect()
 }
@@ -150,6 +155,77 @@ pub fn trial(random: &mut Random) -> Trial {
         found.iter().map(|column| as_levels(random, &moved(column))).collect()
     };
     Trial { plots, columns: [kind(), kind()] }
+}
+
+/// A column that is finer than or equivalent to another one: within its classes some plots are joined, pair by pair.
+fn within(random: &mut Random, base: &[usize]) -> Vec<usize> {
+    let mut column: Vec<usize> = (0..base.len()).collect();
+    for _ in 0..random.below(2 * base.len()) {
+        let (u, v) = (random.below(base.len()), random.below(base.len()));
+        if base[u] == base[v] {
+            let (from, to) = (column[u], column[v]);
+            column.iter_mut().filter(|label| **label == from).for_each(|label| *label = to);
+        }
+    }
+    column
+}
+
+/// A maker of columns that have a coarser factor in common: two digits, a sum, or classes of plots.
+fn sharing(random: &mut Random) -> (usize, Box<dyn Fn(&mut Random) -> Vec<usize>>) {
+    match random.below(3) {
+        0 => {
+            let radix = random.pick(&[vec![2; 4], vec![2; 5], vec![3, 2, 2], vec![2, 3, 3], vec![2, 2, 3, 2], vec![2, 2, 2, 3, 2]]);
+            // Where there are more plots, the digits begin again.
+            let plots = radix.iter().product::<usize>() * (1 + random.below(2));
+            let column = move |random: &mut Random| {
+                // One of the two alone, or most of the digits.
+                let alone = random.pick(&[Some(0), Some(1), None, None, None]);
+                let mut digit = |i: usize| alone.map_or_else(|| !random.once_in(if i < 2 { 8 } else { 2 }), |digit| i == digit);
+                together(plots, &radix, &(0..radix.len()).map(&mut digit).collect::<Vec<bool>>())
+            };
+            (plots, Box::new(column))
+        }
+        1 => {
+            let bits = 3 + random.below(3);
+            let first = 1 + random.below((1 << bits) - 1);
+            let column = move |random: &mut Random| {
+                let more = (0..random.pick(&[0, 1, 1, 2, 2, 3])).map(|_| random.below(1 << bits)).collect::<Vec<usize>>();
+                sums_of(1 << bits, &[&[first], &more[..]].concat())
+            };
+            (1 << bits, Box::new(column))
+        }
+        _ => {
+            let plots = 4 + random.below(21);
+            let classes = 2 + random.below(3);
+            let base: Vec<usize> = (0..plots).map(|_| random.below(classes)).collect();
+            (plots, Box::new(move |random| within(random, &base)))
+        }
+    }
+}
+
+/// A trial of 2 to 12 columns with members that are suprema of columns: most of them have a coarser factor in common, and many are
+/// equivalent to an earlier one of either kind.
+pub fn sharing_trial(random: &mut Random) -> Trial {
+    let (plots, column) = sharing(random);
+    let mut columns: [Vec<Vec<usize>>; 2] = [Vec::new(), Vec::new()];
+    for _ in 0..2 + random.below(11) {
+        let earlier = columns.concat();
+        let column = match random.below(20) {
+            0..=3 if !earlier.is_empty() => random.pick(&earlier),
+            4 => scattered(random, plots),
+            5 => (0..plots).collect(),
+            6 => vec![0; plots],
+            _ => column(random),
+        };
+        let kind = random.below(2);
+        let kind = if columns[kind].len() < COLUMNS { kind } else { 1 - kind };
+        columns[kind].push(column);
+    }
+    let mut order: Vec<usize> = (0..plots).collect();
+    random.shuffle(&mut order);
+    let mut levels = |column: &Vec<usize>| as_levels(random, &order.iter().map(|&u| column[u]).collect::<Vec<usize>>());
+    let columns = columns.each_ref().map(|kind| kind.iter().map(&mut levels).collect());
+    Trial { plots, columns }
 }
 
 /// A trial with at least one column, as a sheet needs.

@@ -204,6 +204,48 @@ fn refused_designs_are_printed_with_names() {
     prints(&sheet(&five, &[("Gg", sums), ("Hh", four)]), &["refused 14 - -"]);
 }
 
+/// A pair that is not orthogonal, of which one is no column: six points of four plots each, paired in one way by a factor that is no column
+/// and in another way by Cc. Aa and Bb cut each of those pairs in two, each in its own way, so their supremum is that factor; Pp are the
+/// points.
+#[test]
+fn refused_members_are_named_as_suprema() {
+    let (aa, bb) = (("Aa", column(24, |u| u / 8 * 2 + u / 2 % 2)), ("Bb", column(24, |u| u / 8 * 2 + u % 2)));
+    let (cc, pp) = (("Cc", column(24, |u| [0, 1, 0, 2, 1, 2][u / 4])), ("Pp", column(24, |u| u / 4)));
+    let both = [aa.clone(), bb.clone()];
+    let all = [aa, bb, cc.clone()];
+    prints(&sheet(&all, &[]), &["refused 10 S(Aa,Bb) Cc"]);
+    prints(&sheet(&[], &all), &["refused 12 S(Aa,Bb) Cc"]);
+    prints(&sheet(std::slice::from_ref(&pp), &all), &["refused 12 S(Pp,Aa,Bb) Cc"]);
+    prints(&sheet(std::slice::from_ref(&cc), &both), &["refused 13 Cc S(Aa,Bb)"]);
+    prints(&sheet(&[cc, pp], &both), &["refused 13 Cc S(Pp,Aa,Bb)"]);
+    // The supremum has classes of four plots and of two.
+    prints(&sheet(&[("Aa", vec![1, 1, 2, 2, 3, 3]), ("Bb", vec![1, 2, 1, 2, 3, 3])], &[]), &["refused 9 S(Aa,Bb) -"]);
+}
+
+#[test]
+fn suprema_are_printed_as_strata_and_sources() {
+    // Two ways to pair four plots, twice: as plot columns, as treatment columns, and one of each.
+    let (aa, bb) = (("Aa", vec![1, 1, 2, 2, 3, 3, 4, 4]), ("Bb", vec![1, 2, 1, 2, 3, 4, 3, 4]));
+    let plots = [
+        "stratum source df", "U U 1", "U =total 1", "S(Aa,Bb) =total 1", "Aa =total 2", "Bb =total 2", "E =total 2", "=all =total 8",
+    ];
+    prints(&sheet(&[aa.clone(), bb.clone()], &[]), &plots);
+    let treatments = [
+        "stratum source df", "U U 1", "U =total 1", "E S(Aa,Bb) 1", "E Aa 2", "E Bb 2", "E E 2", "E =total 7", "=all =total 8",
+    ];
+    prints(&sheet(&[], &[aa.clone(), bb.clone()]), &treatments);
+    let one_of_each = [
+        "stratum source df", "U U 1", "U =total 1", "Aa S(Aa,Bb) 1", "Aa =residual 2", "Aa =total 3", "E Bb 2", "E =residual 2", "E =total 4",
+        "=all =total 8",
+    ];
+    prints(&sheet(&[aa], &[bb]), &one_of_each);
+    // The final family has the plot column, and a treatment for each plot.
+    let nested = [
+        "stratum source df", "U U 1", "U =total 1", "Hut S(Hut) 1", "Hut =total 1", "E E 2", "E =total 2", "=all =total 4",
+    ];
+    prints(&sheet(&[("Hut", vec![1, 1, 2, 2])], &[("Gain", vec![1, 2, 3, 4])]), &nested);
+}
+
 #[test]
 fn a_sheet_without_treatments_has_u_as_its_only_source() {
     let table = ["stratum source df", "U U 1", "U =total 1", "Aa =total 1", "E =total 2", "=all =total 4"];

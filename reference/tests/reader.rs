@@ -3,7 +3,7 @@
 mod common;
 
 use common::*;
-use reference::{Level, LEVELS, NAME, PLOTS, TEXT};
+use reference::{Level, LEVELS, PLOTS, TEXT};
 
 /// Both implementations answer this number, and a refusal leaves the table as it was.
 fn reads(text: &[u8], number: u32) {
@@ -212,68 +212,5 @@ fn the_program_prints_one_line_for_a_refused_sheet() {
         for (text, expected) in cases {
             assert_eq!(output(entries, text), lines(&[expected]), "{}", entries.title);
         }
-    }
-}
-
-#[test]
-fn naming_asks_2_3_6_7_15_in_that_order() {
-    let family = family_buffer(&[vec![1, 1], vec![1, 2]]);
-    let unordered = family_buffer(&[vec![1, 2], vec![1, 1]]);
-    let (full, missing) = (level_table(&[vec![1, 2]], &[vec![1, 1]]), level_table(&[vec![1, 0]], &[vec![1, 1]]));
-    for entries in &BOTH {
-        let mut name = pattern(NAME);
-        let mut asked = |text: &[u8], levels: &[Level], family: &[u8], size, place| {
-            (entries.name)(text, levels, family, 2, size, 0, place, &mut name)
-        };
-        assert_eq!(asked(b"", &[], &[], 0, 0), (2, [0]));
-        assert_eq!(asked(&[b'p'; TEXT + 1], &[], &[], 0, 0), (2, [0]));
-        assert_eq!(asked(b"p:Hut", &[], &[], 0, 0), (3, [0]));
-        assert_eq!(asked(b"p:Hut\nrubbish", &[], &[], 0, 0), (6, [0]));
-        assert_eq!(asked(b"p:Hut\nrubbish", &missing, &unordered, 2, 3), (6, [0]));
-        assert_eq!(asked(b"p:Hut\nrubbish", &missing, &unordered, 2, 2), (7, [0]));
-        assert_eq!(asked(b"p:Hut\nrubbish", &full, &unordered, 2, 2), (15, [0]));
-        assert_eq!(asked(b"p:Hut\nrubbish", &full, &family, 2, 2), (0, [1]));
-        assert_eq!(name[0], b'E');
-        let mut short = pattern(NAME - 1);
-        assert_eq!((entries.name)(b"p:Hut\n", &full, &family, 2, 2, 0, 2, &mut short), (6, [0]));
-        assert_eq!(short, pattern(NAME - 1));
-        let treatment = (entries.name)(b"p:Hut\n", &missing, &family, 2, 2, 9, 1, &mut name);
-        assert_eq!((treatment, name[0]), ((0, [1]), b'U'));
-    }
-}
-
-#[test]
-fn an_infimum_lists_all_its_finest_coarser_columns() {
-    let columns = [vec![1, 1, 2, 2, 1, 1, 2, 2], vec![1, 2, 1, 2, 1, 2, 1, 2], vec![1, 2, 2, 1, 1, 2, 2, 1]];
-    let member = vec![1, 2, 3, 4, 1, 2, 3, 4];
-    for entries in &BOTH {
-        let mut name = pattern(NAME);
-        let levels = level_table(&columns, &[]);
-        let family = family_buffer(&[member.clone()]);
-        let (number, [length]) = (entries.name)(b"p:Aa\tt:Dd\tp:Bb\tp:Cc\n", &levels, &family, 8, 1, 0, 1, &mut name);
-        assert_eq!((number, &name[..length as usize]), (0, &b"I(Aa,Bb,Cc)"[..]), "{}", entries.title);
-        let twice = level_table(&[columns[0].clone(), columns[1].clone(), columns[0].clone(), vec![5; 8]], &[]);
-        let (number, [length]) =
-            (entries.name)(b"p:Aa\tp:Bb\tp:Cc\tp:Dd\n", &twice, &family, 8, 1, 0, 1, &mut name);
-        assert_eq!((number, &name[..length as usize]), (0, &b"I(Aa,Bb)"[..]), "{}", entries.title);
-        let (number, [length]) = (entries.name)(b"p:Aa\n", &levels, &family, 8, 1, 0, 1, &mut name);
-        assert_eq!((number, &name[..length as usize]), (0, &b"#1"[..]), "{}", entries.title);
-    }
-}
-
-#[test]
-fn the_longest_name_fits() {
-    // Six two-level columns on 64 plots doubled: their infimum has 64 classes of two plots.
-    let names: Vec<String> = (0..6).map(|c| format!("t:Abcdefghijk{c}")).collect();
-    let columns: Vec<Vec<Level>> = (0..6).map(|c| (0..128).map(|u: usize| (u >> c & 1) as Level + 1).collect()).collect();
-    let member: Vec<u8> = (0..128).map(|u| (u % 64 + 1) as u8).collect();
-    for entries in &BOTH {
-        let mut name = pattern(NAME);
-        let text = names.join("\t") + "\n";
-        let levels = level_table(&[], &columns);
-        let family = family_buffer(&[member.clone()]);
-        let answer = (entries.name)(text.as_bytes(), &levels, &family, 128, 1, 1, 1, &mut name);
-        assert_eq!(answer, (0, [80]), "{}", entries.title);
-        assert_eq!(name[80..], pattern(NAME)[80..]);
     }
 }

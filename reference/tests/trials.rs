@@ -84,8 +84,8 @@ fn a_supremum_between_the_columns_and_the_top() {
         let levels = level_table(&columns, &[]);
         let family = family_buffer(&found);
         let answer = (entries.name)(b"p:Aa\tp:Bb\n", &levels, &family, 8, 5, 0, 2, &mut name);
-        assert_eq!((answer, &name[..2]), ((0, [2]), &b"#2"[..]), "{}", entries.title);
-        assert_eq!(name[2..], pattern(NAME)[2..]);
+        assert_eq!((answer, &name[..8]), ((0, [8]), &b"S(Aa,Bb)"[..]), "{}", entries.title);
+        assert_eq!(name[8..], pattern(NAME)[8..]);
     }
 }
 

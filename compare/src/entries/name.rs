@@ -2,12 +2,12 @@
 
 use super::Entry;
 use crate::call::{Call, Outcome};
-use crate::family::damage;
+use crate::family::{damage, of_columns};
 use crate::memory::{family_buffer, inner, lent_bytes};
 use crate::random::Random;
-use crate::sheet::{damage_text, sheet_text};
+use crate::sheet::{damage_text, named_text, sheet_text, LONG_NAMES};
 use crate::shrink;
-use crate::trial::trial_with_columns;
+use crate::trial::{sharing_trial, trial_with_columns};
 use reference::{Entries, COLUMNS, FAMILY, LEVELS, NAME, PLOTS};
 
 pub static ENTRY: Entry = Entry {
@@ -22,18 +22,20 @@ pub static ENTRY: Entry = Entry {
 };
 
 fn make(random: &mut Random) -> Call {
-    let trial = trial_with_columns(random);
+    let sharing = !random.once_in(3);
+    let trial = if sharing { sharing_trial(random) } else { trial_with_columns(random) };
     // Only the first line counts; what follows it may be anything.
     let lines = if random.once_in(3) { trial.plots } else { 0 };
-    let mut text = sheet_text(random, lines, &trial);
+    let mut text = if random.once_in(8) { named_text(random, lines, &trial, &LONG_NAMES) } else { sheet_text(random, lines, &trial) };
     damage_text(random, &mut text);
     let mut levels = trial.level_table();
     let of_treatments = random.below(2);
-    let found = &trial.families()[of_treatments];
-    if random.once_in(40) {
+    let closed = !sharing || random.once_in(4);
+    let found = if closed { trial.families()[of_treatments].clone() } else { of_columns(random, &trial, of_treatments) };
+    if random.once_in(20) {
         levels[PLOTS * random.below(2 * COLUMNS) + random.below(trial.plots)] = 0;
     }
-    let mut family = family_buffer(found);
+    let mut family = family_buffer(&found);
     damage(random, trial.plots, found.len().max(1), &mut family);
     levels.resize(random.length(LEVELS), 1);
     family.resize(random.length(FAMILY), 1);
@@ -43,7 +45,7 @@ fn make(random: &mut Random) -> Call {
         kind: if random.once_in(8) { random.pick(&[0, 1, 2, u32::MAX as usize]) } else { of_treatments },
         place: if random.once_in(20) { random.count(size.saturating_add(1)) } else { 1 + random.below(size) },
         sizes: [size, 0],
-        lent: [random.length(NAME), 0],
+        lent: [if random.once_in(20) { random.pick(&[95, 96, 97, NAME - 1, NAME + 1]) } else { random.length(NAME) }, 0],
         text,
         levels,
         families: [family, Vec::new()],
@@ -61,7 +63,8 @@ fn run(call: &Call, entries: &Entries) -> Outcome {
 #[cfg(feature = "library")]
 pub mod library {
     use crate::entries::{cut, Fault, LIBRARY, STALE};
-    use reference::{Entries, Level};
+    use crate::names::{self, MISTAKES};
+    use reference::{Entries, Level, COLUMNS, NAME, PLOTS};
 
     extern "C" {
         fn rachdoum_name(
@@ -89,7 +92,33 @@ pub mod library {
     pub const FAULTS: &[Fault] = &[
         Fault { title: "one byte past a name written", entries: Entries { name: past_name, ..LIBRARY } },
         Fault { title: "labels cut to 16 bits", entries: Entries { name: cut_labels, ..LIBRARY } },
+        Fault { title: "96 bytes enough for a name", entries: Entries { name: shorter, ..LIBRARY } },
+        Fault { title: "161 bytes needed for a name", entries: Entries { name: longer, ..LIBRARY } },
+        Fault { title: "7 asked of the family's kind alone", entries: Entries { name: own_kind_asked, ..LIBRARY } },
+        Fault { title: "7 asked of both kinds for a plot family", entries: Entries { name: both_kinds_asked, ..LIBRARY } },
+        Fault { title: "7 asked of columns that the first line does not count", entries: Entries { name: six_columns_asked, ..LIBRARY } },
+        mistake::<1>(), mistake::<2>(), mistake::<3>(), mistake::<4>(), mistake::<5>(), mistake::<6>(), mistake::<7>(), mistake::<8>(),
+        mistake::<9>(), mistake::<10>(), mistake::<11>(), mistake::<12>(), mistake::<13>(), mistake::<14>(), mistake::<15>(),
+        mistake::<16>(), mistake::<17>(),
     ];
+
+    /// One of the mistakes that a rule of names can be taken for.
+    const fn mistake<const PLACE: usize>() -> Fault {
+        Fault { title: MISTAKES[PLACE].1, entries: Entries { name: mistaken::<PLACE>, ..LIBRARY } }
+    }
+
+    #[allow(clippy::too_many_arguments)]
+    fn mistaken<const PLACE: usize>(
+        text: &[u8], levels: &[Level], family: &[u8], plots: usize, size: usize, kind: u32, place: usize, name: &mut [u8],
+    ) -> (u32, [u64; 1]) {
+        let found = (LIBRARY.name)(text, levels, family, plots, size, kind, place, &mut name.to_vec());
+        if found.0 != 0 {
+            return found;
+        }
+        let other = names::name(text, levels, family, plots, kind, place, MISTAKES[PLACE].0);
+        name[..other.len()].copy_from_slice(&other);
+        (0, [other.len() as u64])
+    }
 
     #[allow(clippy::too_many_arguments)]
     fn past_name(
@@ -108,5 +137,69 @@ pub mod library {
         text: &[u8], levels: &[Level], family: &[u8], plots: usize, size: usize, kind: u32, place: usize, name: &mut [u8],
     ) -> (u32, [u64; 1]) {
         (LIBRARY.name)(text, &cut(levels), family, plots, size, kind, place, name)
+    }
+
+    /// The length that a name's buffer had to have before there were suprema.
+    const BEFORE: usize = 96;
+
+    #[allow(clippy::too_many_arguments)]
+    fn shorter(
+        text: &[u8], levels: &[Level], family: &[u8], plots: usize, size: usize, kind: u32, place: usize, name: &mut [u8],
+    ) -> (u32, [u64; 1]) {
+        if !(BEFORE..NAME).contains(&name.len()) {
+            return (LIBRARY.name)(text, levels, family, plots, size, kind, place, name);
+        }
+        let mut longer = [&name[..], &[0; NAME]].concat();
+        let found = (LIBRARY.name)(text, levels, family, plots, size, kind, place, &mut longer);
+        name.copy_from_slice(&longer[..name.len()]);
+        found
+    }
+
+    #[allow(clippy::too_many_arguments)]
+    fn longer(
+        text: &[u8], levels: &[Level], family: &[u8], plots: usize, size: usize, kind: u32, place: usize, name: &mut [u8],
+    ) -> (u32, [u64; 1]) {
+        let lent = if name.len() == NAME { NAME - 1 } else { name.len() };
+        (LIBRARY.name)(text, levels, family, plots, size, kind, place, &mut name[..lent])
+    }
+
+    /// The levels with another one in the place of each that is missing in columns of a kind.
+    fn filled(levels: &[Level], kind: usize) -> Vec<Level> {
+        let mut levels = levels.to_vec();
+        let cells = levels.iter_mut().skip(PLOTS * COLUMNS * kind).take(PLOTS * COLUMNS);
+        cells.filter(|level| **level == 0).for_each(|level| *level = Level::MAX);
+        levels
+    }
+
+    #[allow(clippy::too_many_arguments)]
+    fn own_kind_asked(
+        text: &[u8], levels: &[Level], family: &[u8], plots: usize, size: usize, kind: u32, place: usize, name: &mut [u8],
+    ) -> (u32, [u64; 1]) {
+        let levels = if kind == 0 { levels.to_vec() } else { filled(levels, 0) };
+        (LIBRARY.name)(text, &levels, family, plots, size, kind, place, name)
+    }
+
+    /// A plot family's name, but refused where that of a treatment family would be by 7.
+    #[allow(clippy::too_many_arguments)]
+    fn both_kinds_asked(
+        text: &[u8], levels: &[Level], family: &[u8], plots: usize, size: usize, kind: u32, place: usize, name: &mut [u8],
+    ) -> (u32, [u64; 1]) {
+        match (LIBRARY.name)(text, levels, family, plots, size, 1, place, &mut name.to_vec()) {
+            (7, answer) => (7, answer),
+            _ => (LIBRARY.name)(text, levels, family, plots, size, kind, place, name),
+        }
+    }
+
+    #[allow(clippy::too_many_arguments)]
+    fn six_columns_asked(
+        text: &[u8], levels: &[Level], family: &[u8], plots: usize, size: usize, kind: u32, place: usize, name: &mut [u8],
+    ) -> (u32, [u64; 1]) {
+        let found = (LIBRARY.name)(text, levels, family, plots, size, kind, place, &mut name.to_vec());
+        let kinds = if kind == 0 { 0..COLUMNS } else { 0..2 * COLUMNS };
+        let missing = |c: usize| levels[PLOTS * c..PLOTS * c + plots].contains(&0);
+        if matches!(found.0, 0 | 15) && kinds.into_iter().any(missing) {
+            return (7, [0]);
+        }
+        (LIBRARY.name)(text, levels, family, plots, size, kind, place, name)
     }
 }

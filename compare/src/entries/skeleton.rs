@@ -19,7 +19,8 @@ pub static ENTRY: Entry = Entry {
 };
 
 fn make(random: &mut Random) -> Call {
-    Call { lent: [random.length(TABLE), 0], text: sheet::text(random), ..Call::new(&ENTRY) }
+    let text = if random.once_in(3) { sheet::sharing_text(random) } else { sheet::text(random) };
+    Call { lent: [random.length(TABLE), 0], text, ..Call::new(&ENTRY) }
 }
 
 fn run(call: &Call, entries: &Entries) -> Outcome {
@@ -54,11 +55,35 @@ pub mod library {
         (number, answer[0])
     }
 
-    pub const FAULTS: &[Fault] =
-        &[Fault { title: "last byte of a long table missing", entries: Entries { skeleton: cut_short, ..LIBRARY } }];
+    pub const FAULTS: &[Fault] = &[
+        Fault { title: "last byte of a long table missing", entries: Entries { skeleton: cut_short, ..LIBRARY } },
+        Fault { title: "a supremum in a table printed as a place", entries: Entries { skeleton: places_in_tables, ..LIBRARY } },
+        Fault { title: "a supremum in a refusal printed as a place", entries: Entries { skeleton: places_in_refusals, ..LIBRARY } },
+    ];
 
     fn cut_short(text: &[u8], out: &mut [u8]) -> (u32, u64) {
         let (number, length) = (LIBRARY.skeleton)(text, out);
         (number, if length > 300 { length - 1 } else { length })
+    }
+    /// The printed text, a table or not, with `#2` in the place of each field that is a supremum.
+    fn with_places(text: &[u8], out: &mut [u8], refused: bool) -> (u32, u64) {
+        let mut printed = out.to_vec();
+        let (number, length) = (LIBRARY.skeleton)(text, &mut printed);
+        let printed = &printed[..length as usize];
+        if number != 0 || printed.starts_with(b"refused") != refused {
+            return (LIBRARY.skeleton)(text, out);
+        }
+        let field = |field: &[u8]| if field.starts_with(b"S(") { [b"#2", &field[field.len() - 1..]].concat() } else { field.to_vec() };
+        let other: Vec<u8> = printed.split_inclusive(|&byte| byte == 9 || byte == 10).flat_map(field).collect();
+        out[..other.len()].copy_from_slice(&other);
+        (0, other.len() as u64)
+    }
+
+    fn places_in_tables(text: &[u8], out: &mut [u8]) -> (u32, u64) {
+        with_places(text, out, false)
+    }
+
+    fn places_in_refusals(text: &[u8], out: &mut [u8]) -> (u32, u64) {
+        with_places(text, out, true)
     }
 }
