@@ -2,18 +2,20 @@
 //!
 //! Each line has a word and what belongs to it. `text "..."` adds to the sheet, so often as a number after it says. `levels LENGTH`
 //! and `family PLACE LENGTH` begin a table of zeros, and `at OFFSET: ...` fills cells of the last one: `7` is a number, `1,2x3` is
-//! 1 2 1 2 1 2. A line that begins with `#` is a remark. `refusal` and `answer` say what is expected. The words of counts, texts and
-//! tables are those of [`Call::counts`], [`Call::texts`] and [`Call::tables`].
+//! 1 2 1 2 1 2. A line that begins with `#` is a remark. `refusal`, `answer` and `written` say what is expected; `written` is a text, as
+//! `text` is. The words of counts, texts and tables are those of [`Call::counts`], [`Call::texts`] and [`Call::tables`].
 
 use crate::call::{Call, Outcome};
 use crate::cells::number;
 use crate::entries;
+use crate::memory::GUARD;
 
-/// A kept call and, if known, what it must answer: the refusal, and the first numbers.
+/// A kept call and, if known, what it must answer: the refusal, the first numbers, and the first bytes of the first buffer.
 pub struct Case {
     pub call: Call,
     pub refusal: Option<u32>,
     pub answer: Vec<i128>,
+    pub written: Vec<u8>,
 }
 
 impl Case {
@@ -22,8 +24,12 @@ impl Case {
         if self.refusal.is_some_and(|number| number != outcome.refusal) {
             return Some(format!("refusal {} is not the expected one", outcome.refusal));
         }
-        let same = outcome.answer.starts_with(&self.answer);
-        (!same).then(|| format!("answer {:?} is not the expected one", &outcome.answer[..self.answer.len().min(outcome.answer.len())]))
+        if !outcome.answer.starts_with(&self.answer) {
+            return Some(format!("answer {:?} is not the expected one", &outcome.answer[..self.answer.len().min(outcome.answer.len())]));
+        }
+        let bytes = outcome.bytes.first().map_or(&[][..], |bytes| &bytes[GUARD..]);
+        let found = &bytes[..self.written.len().min(bytes.len())];
+        (found != self.written).then(|| format!("{} is not the expected text", found.escape_ascii()))
     }
 }
 
@@ -55,7 +61,7 @@ fn write_text(word: &str, text: &[u8]) -> String {
 
 /// Reads a kept case.
 pub fn read(text: &str) -> Result<Case, String> {
-    let mut case = Case { call: Call::default(), refusal: None, answer: Vec::new() };
+    let mut case = Case { call: Call::default(), refusal: None, answer: Vec::new(), written: Vec::new() };
     let mut table = String::new();
     for (i, line) in text.lines().enumerate().filter(|(_, line)| !line.is_empty() && !line.starts_with('#')) {
         read_line(&mut case, &mut table, line).map_err(|what| format!("line {}: {what}", i + 1))?;
@@ -71,6 +77,7 @@ fn read_line(case: &mut Case, last: &mut String, line: &str) -> Result<(), Strin
         "entry" => call.entry = entries::titled(rest).ok_or(format!("no entry {rest}"))?,
         "refusal" => case.refusal = Some(number(rest)?),
         "answer" => case.answer = numbers(rest)?,
+        "written" => case.written.extend(read_text(rest)?),
         "at" => {
             let (offset, list) = rest.split_once(": ").ok_or("no offset")?;
             let mut tables = call.tables();

@@ -1,8 +1,9 @@
-//! Random comparison of the fast implementation with the literal one: answers and lent memory, byte for byte.
+//! Random comparison of the fast implementation with the literal one: answers and lent memory, byte for byte. And the kept cases.
 //!
 //! The seed is printed; `REFERENCE_SEED` sets it, `REFERENCE_CASES` the number of cases of each entry and `REFERENCE_FIRST` the
 //! index of the first one. `REFERENCE_ENTRY` names one entry alone.
 
+use compare::case;
 use compare::entries::{Entry, ALL};
 use reference::{FAST, LITERAL};
 use std::collections::BTreeMap;
@@ -40,6 +41,24 @@ fn agree(entry: &'static Entry) {
 /// What the printed tables tell.
 fn more(printed: &BTreeMap<u32, u64>) -> String {
     if printed.is_empty() { String::new() } else { format!(", as printed {printed:?}") }
+}
+
+/// The kept cases of the comparison: each is answered as it says, by both.
+#[test]
+fn both_answer_the_kept_cases() {
+    let folder = concat!(env!("CARGO_MANIFEST_DIR"), "/../compare/cases");
+    let mut count = 0;
+    for file in std::fs::read_dir(folder).expect("a folder of cases") {
+        let path = file.expect("a file").path();
+        let text = std::fs::read_to_string(&path).expect("a text");
+        let case = case::read(&text).unwrap_or_else(|what| panic!("{}: {what}", path.display()));
+        for entries in [&FAST, &LITERAL] {
+            let unexpected = case.unexpected(&(case.call.entry.run)(&case.call, entries));
+            assert_eq!(unexpected, None, "{}: {}", path.display(), entries.title);
+        }
+        count += 1;
+    }
+    assert!(count > 0, "no case");
 }
 
 #[test]
