@@ -3,8 +3,8 @@
 #
 # For each sheet R fits aov() to random numbers: all treatment columns crossed, and Error() with the strata that the table names,
 # U and E apart, which R calls the intercept and Within. In each stratum the treatments' degrees of freedom, the residual and the
-# total must be the table's. Names are compared too, but for members that no column names (`#` and a place): R puts these under
-# the name of the column that they come from.
+# total must be the table's. Names are compared too, but for members that no column or infimum names (`S(..)`, or `#` and a place): R puts
+# these under the name of the column that they come from.
 #
 # For each formula, R has to find the same strata in its sheet by the formula itself, without the counts: Error(Hut/Pier) for
 # Hut=4/Pier=3. The stratum E is for R the combinations of all names.
@@ -48,7 +48,7 @@ difference <- function(lines, df) {
     if (!identical(sort(as.integer(own$df)), sort(as.integer(theirs)))) "treatments",
     if (residual != sum(df["Residuals"], na.rm = TRUE)) "residual",
     if (total != sum(df)) "total",
-    if (!all(in_r(own$source[!grepl("^#", own$source)]) %in% names(theirs))) "names"
+    if (!all(in_r(own$source[!grepl("^(#|S\\()", own$source)]) %in% names(theirs))) "names"
   )
   paste(found, collapse = ", ")
 }

@@ -3,6 +3,7 @@
 mod common;
 
 use common::*;
+use compare::case::{self, Case};
 use compare::entries::titled;
 use compare::memory::GUARD;
 use compare::names::{self, Mistake, MISTAKES};
@@ -435,4 +436,22 @@ fn random_sheets_print_suprema() {
     println!("{seen:?}");
     let missing: Vec<&str> = ["0", "9", "10", "12", "13"].into_iter().filter(|number| !seen.contains_key(&(number.to_string(), "S("))).collect();
     assert!(missing.is_empty(), "no supremum where this is printed: {missing:?}");
+}
+
+/// Each mistake shows in a kept case of the comparison too.
+#[test]
+fn kept_cases_show_every_mistake() {
+    let folder = concat!(env!("CARGO_MANIFEST_DIR"), "/../compare/cases");
+    let files = std::fs::read_dir(folder).expect("a folder of cases").map(|file| file.expect("a file").path());
+    let texts = files.map(|path| std::fs::read_to_string(path).expect("a text"));
+    let cases: Vec<Case> = texts.map(|text| case::read(&text).expect("a case")).collect();
+    let names: Vec<&Case> = cases.iter().filter(|case| case.call.entry.title == "name" && !case.written.is_empty()).collect();
+    for (mistake, title) in MISTAKES {
+        let shows = |case: &Case| {
+            let call = &case.call;
+            let name = names::name(&call.text, &call.levels, &call.families[0], call.plots, call.kind as u32, call.place, mistake);
+            name != case.written
+        };
+        assert_eq!(names.iter().any(|case| shows(case)), mistake != Mistake::None, "{title}");
+    }
 }
