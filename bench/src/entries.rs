@@ -24,7 +24,9 @@ pub static ALL: &[Entry] = &[
     Entry { title: "relation", call: relation },
     Entry { title: "degrees", call: degrees },
     Entry { title: "strata", call: strata },
-    Entry { title: "name", call: name },
+    Entry { title: "name", call: |trial| name(trial, 0) },
+    Entry { title: "name_treatment", call: |trial| name(trial, 1) },
+    Entry { title: "name_all", call: name_all },
     NUMBER,
     Entry { title: "convert", call: convert },
 ];
@@ -141,12 +143,27 @@ fn strata(trial: &Trial) -> Call {
     Box::new(move |entries, keep| keep(&((entries.strata)(&first, a, &second, b, plots), &first, &second)))
 }
 
-fn name(trial: &Trial) -> Call {
-    let Trial { text, levels, plots, families: [family, _], sizes: [size, _], .. } = trial.clone();
+/// The member in the middle of the plot family or of the treatment family.
+fn name(trial: &Trial, kind: usize) -> Call {
+    let Trial { text, levels, plots, families, sizes, .. } = trial.clone();
     let mut name = vec![0; NAME];
     Box::new(move |entries, keep| {
-        let answer = (entries.name)(&text, &levels, &family, plots, size, 0, size.div_ceil(2), &mut name);
-        keep(&(answer, &text, &levels, &family, &name));
+        let (family, size) = (&families[kind], sizes[kind]);
+        let answer = (entries.name)(&text, &levels, family, plots, size, kind as u32, size.div_ceil(2), &mut name);
+        keep(&(answer, &text, &levels, family, &name));
+    })
+}
+
+/// All members of both families, one after the other.
+fn name_all(trial: &Trial) -> Call {
+    let Trial { text, levels, plots, families, sizes, .. } = trial.clone();
+    let mut names = vec![((0, [0]), [0; NAME]); sizes[0] + sizes[1]];
+    Box::new(move |entries, keep| {
+        for (i, (answer, name)) in names.iter_mut().enumerate() {
+            let (kind, place) = if i < sizes[0] { (0, i + 1) } else { (1, i - sizes[0] + 1) };
+            *answer = (entries.name)(&text, &levels, &families[kind], plots, sizes[kind], kind as u32, place, name);
+        }
+        keep(&(&names, &text, &levels, &families));
     })
 }
 

@@ -95,6 +95,30 @@ fn serial_numbers() -> Sheet {
     })
 }
 
+/// Sheets of twelve columns whose members are mostly suprema of columns and no infima.
+fn suprema() -> Vec<Sheet> {
+    let names = ["Aa", "Bb", "Cc", "Dd", "Ee", "Ff", "Gg", "Hh", "Ii", "Jj", "Kk", "Ll"];
+    let headings = |name: &dyn Fn(usize) -> String| {
+        let heading = |f: usize| format!("{}:{}", if f < 6 { 'p' } else { 't' }, name(f));
+        (0..12).map(heading).collect::<Vec<_>>().join(" ")
+    };
+    let short = headings(&|f| names[f].to_string());
+    // 30 blocks of eight plots, which are three digits of two levels. A column joins the two plots of a block that differ by its number;
+    // those of 16 and more join the same plots of all blocks too.
+    let joined = |columns: [usize; 12]| move |u: usize, f: usize| {
+        let plot = u % 8;
+        plot.min(plot ^ columns[f] % 8) + if columns[f] < 16 { 8 * (u / 8) } else { 0 }
+    };
+    // Six digits of two levels: all columns tell the first, and each tells a sum of others.
+    let sums = [2, 4, 6, 10, 12, 14, 16, 32, 48, 24, 40, 56];
+    let sum = |u: usize, f: usize| u % 2 * 2 + (u & sums[f]).count_ones() as usize % 2;
+    vec![
+        sheet("suprema: 12 columns, 32 + 32 members", &short, 240, joined([1, 2, 4, 7, 16, 3, 5, 6, 1, 2, 16, 4])),
+        sheet("suprema: each column of both kinds", &short, 240, joined([1, 2, 4, 7, 16, 17, 2, 1, 7, 4, 16, 17])),
+        sheet("suprema: names of up to 158 bytes", &headings(&|f| format!("Longname{:04}", f + 1)), 64, sum),
+    ]
+}
+
 /// Sheets of many members that are accepted.
 fn accepted() -> Vec<Sheet> {
     let both = format!("{FIVE} {FIVE_TREATED}");
@@ -191,6 +215,7 @@ pub fn all() -> io::Result<Vec<Sheet>> {
     let mut sheets = folder(&here.join("../examples"), ".sheet")?;
     sheets.extend(folder(&here.join("sheets"), ".sheet")?);
     sheets.extend(accepted());
+    sheets.extend(suprema());
     sheets.extend(refused());
     sheets.extend(chains());
     Ok(sheets)

@@ -242,3 +242,18 @@ pub fn leaders(column: &[u8]) -> Column {
 pub fn is_finer(leaders: &Column, column: &[u8]) -> bool {
     column.iter().zip(leaders).all(|(class, &leader)| column[usize::from(leader)] == *class)
 }
+
+/// Whether a column, numbered by first appearance, is finer than or equivalent to another one: each of its classes lies in one of the
+/// other's.
+#[inline]
+pub fn refines(fine: &[u8], coarse: &[u8]) -> bool {
+    let mut of_class: ByClass = [0; 256];
+    let mut count = 0;
+    fine.iter().zip(coarse).all(|(&class, &other)| {
+        if class > count {
+            count = class;
+            of_class[usize::from(class)] = other;
+        }
+        of_class[usize::from(class)] == other
+    })
+}

@@ -1,6 +1,6 @@
 //! Names of members: questions 2, 3, 6, 7 and 15.
 
-use super::column::{is_finer, leaders, Column, Columns, Walk};
+use super::column::{is_finer, leaders, refines, Column, Columns, Walk};
 use super::design::no_level_missing;
 use super::order::{ones, Family};
 use super::sheet::Header;
@@ -32,7 +32,6 @@ pub struct Namer<'a> {
     own: usize,
     count: usize,
     plots: usize,
-    leaders: OnceCell<[Column; LOOKED]>,
     /// Of the family's kind: strictly finer ones, and earlier ones equivalent to it.
     finer: OnceCell<Instead>,
     /// Strictly coarser ones, and earlier ones equivalent to it.
@@ -41,10 +40,10 @@ pub struct Namer<'a> {
 
 impl<'a> Namer<'a> {
     /// From the kinds of columns that are looked at, the family's own kind last.
-    pub fn new(kinds: &[Kind<'a>], plots: usize) -> Namer<'a> {
+    pub fn new(kinds: impl Iterator<Item = Kind<'a>>, plots: usize) -> Namer<'a> {
         let none = Looked { name: &[], column: &[], classes: 0 };
         let (finer, coarser) = (OnceCell::new(), OnceCell::new());
-        let mut namer = Namer { looked: [none; LOOKED], own: 0, count: 0, plots, leaders: OnceCell::new(), finer, coarser };
+        let mut namer = Namer { looked: [none; LOOKED], own: 0, count: 0, plots, finer, coarser };
         for (names, columns) in kinds {
             namer.own = namer.count;
             for c in 0..columns.count {
@@ -56,25 +55,19 @@ impl<'a> Namer<'a> {
         namer
     }
 
-    /// For each plot the first plot of its class in a column.
-    fn leaders(&self, c: usize) -> &Column {
-        &self.leaders.get_or_init(|| self.looked.map(|one| leaders(one.column)))[c]
-    }
-
-    /// For each column from a first one on those that stand in its place: those that are before it in this order of the classes, and
-    /// earlier ones equivalent to it.
-    fn instead(&self, from: usize, before: fn(&u8, &u8) -> bool) -> Instead {
+    /// For each column from a first one on those that stand in its place: strictly finer or strictly coarser ones, and earlier ones
+    /// equivalent to it.
+    fn instead(&self, first: usize, finer: bool) -> Instead {
         let mut words = [0; LOOKED];
-        for c in from..self.count {
-            for d in from..self.count {
-                let (of_c, of_d) = (self.looked[c].classes, self.looked[d].classes);
-                if !before(&of_d, &of_c) && (of_d != of_c || d >= c) {
+        for fine in first..self.count {
+            for coarse in first..self.count {
+                let [f, c] = [fine, coarse].map(|c| &self.looked[c]);
+                if fine == coarse || f.classes < c.classes || !refines(f.column, c.column) {
                     continue;
                 }
-                let (fine, coarse) = if of_c < of_d { (d, c) } else { (c, d) };
-                if is_finer(self.leaders(fine), self.looked[coarse].column) {
-                    words[c] |= 1 << d;
-                }
+                let by_rank = if finer { (coarse, fine) } else { (fine, coarse) };
+                let (dropped, kept) = if f.classes == c.classes { (fine.max(coarse), fine.min(coarse)) } else { by_rank };
+                words[dropped] |= 1 << kept;
             }
         }
         words
@@ -111,7 +104,7 @@ impl<'a> Namer<'a> {
         if among == 0 {
             return 0;
         }
-        let instead = self.finer.get_or_init(|| self.instead(self.own, u8::gt));
+        let instead = self.finer.get_or_init(|| self.instead(self.own, true));
         let listed = word(ones(among).filter(|&c| instead[c] & among == 0));
         let count = usize::from(classes);
         let mut plots = [0u8; PLOTS];
@@ -143,14 +136,14 @@ impl<'a> Namer<'a> {
     /// single plots is never listed and joins nothing, so it is left out.
     fn supremum(&self, member: &[u8], classes: u8, walk: &mut Walk) -> u32 {
         let finer = |c: &usize| {
-            let of_column = self.looked[*c].classes;
-            classes <= of_column && usize::from(of_column) < self.plots && is_finer(self.leaders(*c), member)
+            let one = &self.looked[*c];
+            classes <= one.classes && usize::from(one.classes) < self.plots && refines(one.column, member)
         };
         let among = word((0..self.count).filter(finer));
         if among == 0 || !self.join(among, classes, walk) {
             return 0;
         }
-        let instead = self.coarser.get_or_init(|| self.instead(0, u8::lt));
+        let instead = self.coarser.get_or_init(|| self.instead(0, false));
         word(ones(among).filter(|&c| instead[c] & among == 0))
     }
 
@@ -228,17 +221,18 @@ pub fn name(
     if !within || levels.len() < LEVELS || family.len() < FAMILY || name.len() < NAME {
         return (6, [0]);
     }
-    // The kinds of columns that are looked at.
-    let (kinds, counts) = (if kind == 0 { 1 } else { 2 }, [header.plot_columns, header.treatment_columns]);
-    if !(0..kinds).all(|kind| no_level_missing(levels, COLUMNS * kind, counts[kind], plots)) {
+    let (treatment, plot_columns, treatment_columns) = (kind != 0, header.plot_columns, header.treatment_columns);
+    let none_missing = |first, count| no_level_missing(levels, first, count, plots);
+    if !none_missing(0, plot_columns) || treatment && !none_missing(COLUMNS, treatment_columns) {
         return (7, [0]);
     }
     let Some(family) = Family::read(family, plots, size) else {
         return (15, [0]);
     };
-    let columns = [0, 1].map(|kind| Columns::number(levels, COLUMNS * kind, if kind < kinds { counts[kind] } else { 0 }, plots));
-    let looked = [(header.names(false), &columns[0]), (header.names(true), &columns[1])];
-    let namer = Namer::new(&looked[..kinds], plots);
+    let of_plots = Columns::number(levels, 0, plot_columns, plots);
+    let of_treatments = treatment.then(|| Columns::number(levels, COLUMNS, treatment_columns, plots));
+    let looked = [Some((header.names(false), &of_plots)), of_treatments.as_ref().map(|columns| (header.names(true), columns))];
+    let namer = Namer::new(looked.into_iter().flatten(), plots);
     let classes = family.classes[place - 1];
     let length = with_work(|work| namer.write(family.column(place - 1), classes, place, name, &mut work.walk));
     (0, [length as u64])

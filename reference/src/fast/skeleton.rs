@@ -131,12 +131,12 @@ fn print(sheet: &[u8], text: &mut Text) {
         let design = judge(&of_plots, &of_treatments, INTERACTIONS, plots, &mut plot_buffer, &mut treatment_buffer, work);
         let walk = &mut work.walk;
         let kinds = [(header.names(false), &of_plots), (header.names(true), &of_treatments)];
-        let named = |buffer, size, classes: [u8; MEMBERS], looked| Named {
+        let named = |buffer, size, classes: [u8; MEMBERS], looked: usize| Named {
             family: Family { buffer, plots, size, classes },
-            namer: Namer::new(looked, plots),
+            namer: Namer::new(kinds.into_iter().take(looked), plots),
         };
-        let plot_family = named(&plot_buffer, design.plot_size, design.plot_classes, &kinds[..1]);
-        let treatment_family = named(&treatment_buffer, design.treatment_size, design.treatment_classes, &kinds);
+        let plot_family = named(&plot_buffer, design.plot_size, design.plot_classes, 1);
+        let treatment_family = named(&treatment_buffer, design.treatment_size, design.treatment_classes, 2);
         if design.refusal == 0 {
             table(text, &plot_family, &treatment_family, walk);
         } else {
