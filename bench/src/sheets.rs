@@ -95,7 +95,7 @@ fn serial_numbers() -> Sheet {
     })
 }
 
-/// Sheets of twelve columns whose members are mostly suprema of columns and no infima.
+/// Sheets, most of them of twelve columns, whose members are mostly suprema of columns and no infima.
 fn suprema() -> Vec<Sheet> {
     let names = ["Aa", "Bb", "Cc", "Dd", "Ee", "Ff", "Gg", "Hh", "Ii", "Jj", "Kk", "Ll"];
     let headings = |name: &dyn Fn(usize) -> String| {
@@ -112,10 +112,18 @@ fn suprema() -> Vec<Sheet> {
     // Six digits of two levels: all columns tell the first, and each tells a sum of others.
     let sums = [2, 4, 6, 10, 12, 14, 16, 32, 48, 24, 40, 56];
     let sum = |u: usize, f: usize| u % 2 * 2 + (u & sums[f]).count_ones() as usize % 2;
+    // Six points of four plots, paired in one way by the first column and in another way by the supremum of the others.
+    let refused = |u: usize, f: usize| match f {
+        0 => [0, 1, 0, 2, 1, 2][u / 4],
+        1 => u / 4,
+        2 => u / 8 * 2 + u / 2 % 2,
+        _ => u / 8 * 2 + u % 2,
+    };
     vec![
         sheet("suprema: 12 columns, 32 + 32 members", &short, 240, joined([1, 2, 4, 7, 16, 3, 5, 6, 1, 2, 16, 4])),
         sheet("suprema: each column of both kinds", &short, 240, joined([1, 2, 4, 7, 16, 17, 2, 1, 7, 4, 16, 17])),
         sheet("suprema: names of up to 158 bytes", &headings(&|f| format!("Longname{:04}", f + 1)), 64, sum),
+        sheet("suprema: one named in a refusal by 13", "p:Cc p:Pp t:Aa t:Bb", 24, refused),
     ]
 }
 

@@ -61,9 +61,9 @@ impl Sheet {
 /// One change of a sheet that has a plot.
 type Change = fn(&mut Sheet, &mut Chance);
 
-const CHANGES: [Change; 17] = [
-    copy_level, copy_level, exchange_levels, exchange_plots, regular_column, regular_column, combined_column, merged_levels, raised_level,
-    add_column, remove_column, other_kind, other_parent, no_parent, repeat_plots, copy_plot, remove_plot,
+const CHANGES: [Change; 18] = [
+    copy_level, copy_level, exchange_levels, exchange_plots, regular_column, regular_column, combined_column, finer_columns, merged_levels,
+    raised_level, add_column, remove_column, other_kind, other_parent, no_parent, repeat_plots, copy_plot, remove_plot,
 ];
 
 /// A plot takes another's level.
@@ -107,6 +107,15 @@ fn combined_column(sheet: &mut Sheet, chance: &mut Chance) {
     for plot in &mut sheet.plots {
         let (x, y) = (plot[a] % 256, plot[b] % 256);
         plot[c] = if sum { (x + y) % most + 1 } else { x * 256 + y + 1 };
+    }
+}
+
+/// Two columns become the combinations of a third with each of them: their supremum is finer than the third then, or the third itself.
+fn finer_columns(sheet: &mut Sheet, chance: &mut Chance) {
+    let (a, c, d) = (sheet.place(chance).1, sheet.place(chance).1, sheet.place(chance).1);
+    for plot in &mut sheet.plots {
+        let first = plot[a] % 256;
+        [c, d].into_iter().filter(|&f| f != a).for_each(|f| plot[f] = first * 256 + plot[f] % 256 + 1);
     }
 }
 
