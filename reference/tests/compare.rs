@@ -3,8 +3,10 @@
 //! The seed is printed; `REFERENCE_SEED` sets it, `REFERENCE_CASES` the number of cases of each entry and `REFERENCE_FIRST` the
 //! index of the first one. `REFERENCE_ENTRY` names one entry alone.
 
+use compare::call::Outcome;
 use compare::case;
 use compare::entries::{Entry, ALL};
+use compare::memory::GUARD;
 use reference::{FAST, LITERAL};
 use std::collections::BTreeMap;
 
@@ -17,7 +19,7 @@ fn setting(name: &str, default: u64) -> u64 {
 fn agree(entry: &'static Entry) {
     let (seed, first) = (setting("REFERENCE_SEED", 20_080_101), setting("REFERENCE_FIRST", 0));
     let count = setting("REFERENCE_CASES", entry.calls);
-    let (mut seen, mut printed) = (BTreeMap::new(), BTreeMap::new());
+    let (mut seen, mut printed, mut suprema) = (BTreeMap::new(), BTreeMap::new(), 0);
     for index in first..first.saturating_add(count) {
         let call = entry.call(seed, index);
         let found = (entry.run)(&call, &FAST);
@@ -29,13 +31,26 @@ fn agree(entry: &'static Entry) {
         if let Some(text) = entry.printed.as_ref().filter(|_| found.refusal == 0) {
             *printed.entry((text.told)(&found)).or_insert(0) += 1;
         }
+        suprema += u64::from(names(entry) && found.refusal == 0 && has_supremum(&found));
     }
-    println!("{}: seed {seed}, {count} cases, by refusal {seen:?}{}", entry.title, more(&printed));
+    let with = if names(entry) { format!(", {suprema} with a supremum named") } else { String::new() };
+    println!("{}: seed {seed}, {count} cases, by refusal {seen:?}{}{with}", entry.title, more(&printed));
     if count >= entry.calls {
         assert!(entry.refusals.iter().all(|number| seen.contains_key(number)), "{}: each refusal occurs: {seen:?}", entry.title);
         let told = entry.printed.as_ref().map_or(&[][..], |text| text.refusals);
         assert!(told.iter().all(|number| printed.contains_key(number)), "{}: each refusal is printed: {printed:?}", entry.title);
+        assert!(!names(entry) || suprema > count / 20, "{}: suprema are named often: {suprema}", entry.title);
     }
+}
+
+/// Whether an entry writes names.
+fn names(entry: &Entry) -> bool {
+    matches!(entry.title, "name" | "skeleton")
+}
+
+/// Whether `S(` stands in what was written.
+fn has_supremum(found: &Outcome) -> bool {
+    found.bytes[0][GUARD..GUARD + found.answer[0] as usize].windows(2).any(|pair| pair == b"S(")
 }
 
 /// What the printed tables tell.
