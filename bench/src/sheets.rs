@@ -107,7 +107,7 @@ fn suprema() -> Vec<Sheet> {
     // those of 16 and more join the same plots of all blocks too.
     let joined = |columns: [usize; 12]| move |u: usize, f: usize| {
         let plot = u % 8;
-        plot.min(plot ^ columns[f] % 8) + if columns[f] < 16 { 8 * (u / 8) } else { 0 }
+        plot.min(plot ^ (columns[f] % 8)) + if columns[f] < 16 { 8 * (u / 8) } else { 0 }
     };
     // Six digits of two levels: all columns tell the first, and each tells a sum of others.
     let sums = [2, 4, 6, 10, 12, 14, 16, 32, 48, 24, 40, 56];

@@ -138,7 +138,7 @@ pub fn name(text: &[u8], levels: &[Level], family: &[u8], plots: usize, kind: u3
     let (all, treatment) = (columns(text, levels, plots), kind != 0);
     let every: Vec<&Looked> = all.iter().collect();
     let own: Vec<&Looked> = all.iter().filter(|one| one.treatment == treatment).collect();
-    // What a treatment member looks at and a plot member does not, unless that is the mistake.
+    // All columns for a treatment member where this is the mistake, else those of the member's kind.
     let both = |mistaken: Mistake| if treatment && mistake == mistaken { &every } else { &own };
     let alone = own.iter().chain(both(Mistake::PlotColumnAlone));
     if let Some(one) = alone.copied().find(|one| equivalent(one.levels, member)) {

@@ -170,8 +170,11 @@ fn within(random: &mut Random, base: &[usize]) -> Vec<usize> {
     column
 }
 
-/// A maker of columns that have a coarser factor in common: two digits, a sum, or classes of plots.
-fn sharing(random: &mut Random) -> (usize, Box<dyn Fn(&mut Random) -> Vec<usize>>) {
+/// Makes one column after another.
+type Maker = Box<dyn Fn(&mut Random) -> Vec<usize>>;
+
+/// The number of plots, and a maker of columns that have a coarser factor in common: two digits, a sum, or classes of plots.
+fn sharing(random: &mut Random) -> (usize, Maker) {
     match random.below(3) {
         0 => {
             let radix = random.pick(&[vec![2; 4], vec![2; 5], vec![3, 2, 2], vec![2, 3, 3], vec![2, 2, 3, 2], vec![2, 2, 2, 3, 2]]);

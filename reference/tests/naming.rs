@@ -93,7 +93,7 @@ fn an_infimum_lists_all_its_finest_coarser_columns() {
 }
 
 #[test]
-fn the_longest_name_fits() {
+fn the_longest_infimum_fits() {
     // Six two-level columns on 64 plots doubled: their infimum has 64 classes of two plots.
     let names: Vec<String> = (0..6).map(|c| format!("t:Abcdefghijk{c}")).collect();
     let columns: Vec<Vec<Level>> = (0..6).map(|c| (0..128).map(|u: usize| (u >> c & 1) as Level + 1).collect()).collect();
