@@ -15,7 +15,7 @@ mod rachdoum {
     pub const MEMBERS: usize = 32;
     pub const LEVELS: usize = 2880;
     pub const FAMILY: usize = 7680;
-    pub const NAME: usize = 96;
+    pub const NAME: usize = 160;
     pub const TABLE: usize = 32768;
     pub const SHEET: usize = 32768;
     pub type Level = u32;

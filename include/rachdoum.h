@@ -34,7 +34,7 @@ extern "C" {
 /* At least so long is what a caller lends. */
 #define RACHDOUM_LEVELS 2880 /* numbers of a level table: 240 for each of 12 columns */
 #define RACHDOUM_FAMILY 7680 /* bytes of a family buffer: 240 for each of 32 members */
-#define RACHDOUM_NAME 96 /* bytes of a name buffer */
+#define RACHDOUM_NAME 160 /* bytes of a name buffer; the longest name has 158 */
 #define RACHDOUM_TABLE 32768 /* bytes for the printed table */
 #define RACHDOUM_SHEET 32768 /* bytes for a sheet that is converted or made of a formula */
 
@@ -94,8 +94,11 @@ uint32_t rachdoum_strata(const uint8_t *plot_family, size_t plot_family_len, siz
                          size_t treatment_family_len, size_t treatment_size, size_t plots, int64_t answer[2 * RACHDOUM_MEMBERS]);
 
 /* The name of the member at a place (from 1) of a family: questions 2, 3, 6, 7 and 15. `kind` is 0 for a plot family, any other number
- * for a treatment family; the sheet's first line gives the column names, the level table the columns. Bytes of the name buffer past the
- * name are not touched. Answer: the name's length. */
+ * for a treatment family; the sheet's first line gives the column names, the level table the columns. The name is the first of these that
+ * fits: `U` for one class; `E` for a class for each plot; the name of an equivalent column; `I(Hut,Week)` for the combinations of columns;
+ * `S(Hut,Week)` for the grouping that columns share, in which a chain joins two plots, each step within a hut or within a week; `#` and the
+ * place. `S(..)` looks at the plot columns and, in a treatment family, at the treatment columns after them; question 7 covers all of these.
+ * The other names look at columns of the family's kind. Bytes of the name buffer past the name are not touched. Answer: the name's length. */
 uint32_t rachdoum_name(const uint8_t *text, size_t text_len, const rachdoum_level *levels, size_t levels_len, const uint8_t *family,
                        size_t family_len, size_t plots, size_t size, uint32_t kind, size_t place, uint8_t *name, size_t name_len,
                        uint64_t answer[1]);

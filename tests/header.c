@@ -1,6 +1,6 @@
-/* The header against the library: memory of the stated length is enough and one less is refused, levels of 32 bits are taken whole, each
- * refusal has the number that its name stands for, and threads with small stacks may call at once. Called from the root of the
- * repository. */
+/* The header against the library: memory of the stated length is enough and one less is refused, names look at the columns that it says,
+ * levels of 32 bits are taken whole, each refusal has the number that its name stands for, and threads with small stacks may call at once.
+ * Called from the root of the repository. */
 #include "../include/rachdoum.h"
 
 #include <pthread.h>
@@ -68,6 +68,27 @@ static void lengths(void) {
   /* The exception: a refused sheet, here an empty one. */
   answers("the table of no text", rachdoum_skeleton(text, 0, table, RACHDOUM_TABLE, length), RACHDOUM_ACCEPTED);
   answers("its line", memcmp(table, "refused\t2\t", 10) != 0, RACHDOUM_ACCEPTED);
+}
+
+/* The plot family U, Hut, E, taken for a treatment family. */
+static uint32_t treatment_name(size_t place) {
+  return rachdoum_name(text, SHEET, levels, RACHDOUM_LEVELS, plot_family, RACHDOUM_FAMILY, PLOTS, made[2], 1, place, name, RACHDOUM_NAME,
+                       length);
+}
+
+static void member_names(void) {
+  static const char wanted[] = "S(Hut)";
+  rachdoum_level *plot_level = levels, *treatment_level = levels + RACHDOUM_COLUMNS * RACHDOUM_PLOTS;
+  answers("a treatment member that is a plot column", treatment_name(2), RACHDOUM_ACCEPTED);
+  answers("its length", length[0] != sizeof wanted - 1, RACHDOUM_ACCEPTED);
+  answers("its name", memcmp(name, wanted, sizeof wanted - 1) != 0, RACHDOUM_ACCEPTED);
+  *treatment_level = 0;
+  answers("a plot member beside a treatment without a level", name_at(2, RACHDOUM_NAME), RACHDOUM_ACCEPTED);
+  answers("a treatment without a level", treatment_name(2), RACHDOUM_REFUSED_LEVEL_ZERO);
+  *treatment_level = 1;
+  *plot_level = 0;
+  answers("a treatment member beside a plot column without a level", treatment_name(2), RACHDOUM_REFUSED_LEVEL_ZERO);
+  *plot_level = 1;
 }
 
 /* A column for each bit of the plot's number: 2, 4, .. members. */
@@ -228,6 +249,7 @@ static void threads(void) {
 
 int main(void) {
   lengths();
+  member_names();
   families();
   wide_levels();
   parents();
