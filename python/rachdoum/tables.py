@@ -293,10 +293,14 @@ class Sheet:
     own: Dict[str, str] = field(default_factory=dict)
 
     def columns(self, name: str) -> List[str]:
-        """The user's names of the columns whose levels together tell a member's classes apart; none for U, E, `S(` and `#`."""
-        if name in OWN_NAMES or name.startswith(("#", "S(")):
+        """The user's names of the columns whose levels together tell a member's classes apart; none for U, E, `#` and `S(` of several.
+
+        >>> [Sheet(b"").columns(name) for name in ("Hut", "I(Hut,Week)", "S(Hut)", "S(Hut,Week)", "#2")]
+        [['Hut'], ['Hut', 'Week'], ['Hut'], [], []]
+        """
+        inner = name[2:-1].split(",") if name.startswith(("I(", "S(")) else [name]
+        if name in OWN_NAMES or name.startswith("#") or name.startswith("S(") and len(inner) > 1:
             return []
-        inner = name[2:-1].split(",") if name.startswith("I(") else [name]
         return [self.own.get(part, part) for part in inner]
 
     def show(self, name: str) -> str:

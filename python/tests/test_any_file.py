@@ -11,7 +11,7 @@ FILES = int(os.environ.get("RACHDOUM_FILES", "3000"))
 SEED = int(os.environ.get("RACHDOUM_SEED", "1"))
 PIECES = [
     b"\t", b"\n", b"\r\n", b"\r", b",", b";", b'"', b"'", b" ", b"\0", b"\xff", b"\xef\xbb\xbf", b"\xff\xfe", b"0", b"1", b"65536",
-    b"-1", b"NA", b"p:", b"t:", b"p:Hut", b"t:Gain", b"/", b"/Hut", b"p:Pier/Hut", b"sep=", b"=", b"#", b"(", b"I(", b"\xc3\xa4", b"\xe2\x80\xa8",
+    b"-1", b"NA", b"p:", b"t:", b"p:Hut", b"t:Gain", b"/", b"/Hut", b"p:Pier/Hut", b"sep=", b"=", b"#", b"(", b"I(", b"S(", b"\xc3\xa4", b"\xe2\x80\xa8",
     b"\x1f", b"\x1b[31m", b"U", b"E", b"p:p:", b"99999999999999999999999", b"4294967295", b"4294967296",
     b"\xed\xa0\x80", b"\xf0\x9f\x8c\xb2",
 ]

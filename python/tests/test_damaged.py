@@ -80,6 +80,10 @@ FILES = {
         b"p:Hut;t:I(a)\n1;1\n2;1\n", [], 3,
         "line 1, field 2: `I(a)` cannot be a name: names that begin with I( are the planner's own.", "Rename the column.",
     ),
+    "a column called like a grouping that columns share": (
+        b"p:S(Hut)\n1\n2\n", [], 3,
+        "line 1, field 1: `S(Hut)` cannot be a name: names that begin with S( are the planner's own.", "Rename the column.",
+    ),
     "a comma in a name": (
         b"p:Hut;t:Gain, dB\n1;1\n2;1\n", [], 3, "line 1, field 2: `Gain, dB` cannot be a name: a name has no comma.",
         "Rename the column.",
@@ -195,6 +199,12 @@ FILES = {
         b"p:Hut,p:Week\n1,1\n1,1\n1,2\n2,1\n2,2\n2,2\n", [], 9,
         "Hut 1 with Week 1 has 2 plots, Hut 1 with Week 2 has 1.",
         "Give all classes of I(Hut,Week) the same number of plots: add plots to the small ones, or take some out of the large "
+        "ones.",
+    ),
+    "a hut in a week of its own": (
+        b"p:Hut,p:Week\n1,1\n1,2\n2,1\n2,2\n3,3\n3,3\n", [], 9,
+        "the class of S(Hut,Week) with lines 2, 3, 4, 5 has 4 plots, the class of S(Hut,Week) with lines 6, 7 has 2.",
+        "Give all classes of S(Hut,Week) the same number of plots: add plots to the small ones, or take some out of the large "
         "ones.",
     ),
     "a week that a hut misses": (

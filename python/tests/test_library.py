@@ -79,8 +79,44 @@ class Entries(unittest.TestCase):
         _, _, levels = library.read_sheet(HUTS)
         plots = family([1] * 4, [1, 1, 2, 2], [1, 2, 3, 4])
         self.assertEqual(library.name(HUTS, levels, plots, 4, 3, library.PLOT, 2), (0, b"Hut"))
-        self.assertEqual(library.name(HUTS, levels, plots, 4, 3, library.TREATMENT, 2), (0, b"#2"))
+        self.assertEqual(library.name(HUTS, levels, plots, 4, 3, library.TREATMENT, 2), (0, b"S(Hut)"))
         self.assertEqual(library.name(HUTS, levels, plots, 4, 3, library.PLOT, 4), (6, b""))
+
+    def test_names_of_suprema(self):
+        text = b"t:Gain\tp:Hut\tp:Week\n" + b"".join(b"%d\t%d\t%d\n" % (u + 1, u // 2 + 1, u // 4 * 2 + u % 2 + 1) for u in range(8))
+        _, counts, levels = library.read_sheet(text)
+        number, answer, first, second = library.full_design(levels, *counts, 6)
+        self.assertEqual((number, answer), (0, (0, 0, 5, 5)))
+        names = [library.name(text, levels, first, 8, 5, library.PLOT, place)[1] for place in range(1, 6)]
+        self.assertEqual(names, [b"U", b"S(Hut,Week)", b"Hut", b"Week", b"E"])
+        names = [library.name(text, levels, second, 8, 5, library.TREATMENT, place)[1] for place in range(1, 6)]
+        self.assertEqual(names, [b"U", b"S(Hut,Week)", b"S(Hut)", b"S(Week)", b"E"])
+        others = family([1, 2] * 4)
+        self.assertEqual(library.name(text, levels, others, 8, 1, library.PLOT, 1), (0, b"#1"))
+
+    def test_the_longest_name(self):
+        names = [f"Longestnam{i}" for i in range(10, 22)]
+        titles = [("p:" if i < 6 else "t:") + name for i, name in enumerate(names)]
+        # Column c joins plots c and c + 1, from 0, and no others: no column is coarser than another.
+        rows = [[u if u != c + 1 else c for c in range(12)] for u in range(14)]
+        text = "".join("\t".join(row) + "\n" for row in [titles] + [[str(level + 1) for level in row] for row in rows]).encode()
+        _, counts, levels = library.read_sheet(text)
+        self.assertEqual(counts, (14, 6, 6))
+        whole = family([1] * 13 + [2])
+        name = f"S({','.join(names)})".encode()
+        self.assertEqual(len(name), 158)
+        self.assertEqual(library.name(text, levels, whole, 14, 1, library.TREATMENT, 1), (0, name))
+        self.assertEqual(library.name(text, levels, whole, 14, 1, library.PLOT, 1), (0, b"#1"))
+
+    def test_missing_levels_of_names(self):
+        plots = family([1] * 4, [1, 1, 2, 2], [1, 2, 3, 4])
+        for place, kind, number in (
+            (0, library.PLOT, 7), (0, library.TREATMENT, 7), (240 * 6, library.PLOT, 0), (240 * 6, library.TREATMENT, 7),
+            (4, library.TREATMENT, 0), (240, library.TREATMENT, 0), (240 * 7, library.TREATMENT, 0),
+        ):
+            _, _, levels = library.read_sheet(HUTS)
+            levels[place] = 0
+            self.assertEqual(library.name(HUTS, levels, plots, 4, 3, kind, 1), (number, b"" if number else b"U"), (place, kind))
 
     def test_skeleton(self):
         self.assertEqual(library.skeleton(b"p:Hut\n1\n"), (0, b"stratum\tsource\tdf\nU\tU\t1\nU\t=total\t1\n=all\t=total\t1\n"))

@@ -55,6 +55,17 @@ class Plans(unittest.TestCase):
         self.assertEqual([s.name for s in plan.strata], ["U", "A", "E"])
         self.assertEqual(plan.source("Gain but longer").stratum, "E")
 
+    def test_names_of_what_columns_share(self):
+        plan = rachdoum.plan({"p:Pier no.": [1, 1, 2, 2, 3, 3, 4, 4], "t:Sensor": [1, 2, 1, 2, 3, 4, 3, 4]})
+        self.assertEqual([s.name for s in plan.sources], ["U", "S(Pier no.,Sensor)", "Sensor"])
+        self.assertEqual(plan.source("S(Pier no.,Sensor)").test, "2 df of Pier no.")
+        plan = rachdoum.plan({"p:Hut": [1, 1, 1, 1, 2, 2, 2, 2], "t:Sensor": [1, 1, 2, 2, 3, 3, 4, 4]})
+        self.assertEqual([s.name for s in plan.sources], ["U", "S(Hut)", "Sensor"])
+        self.assertEqual(plan.source("S(Hut)").test, "cannot be tested: Hut has no residual")
+        plan = rachdoum.plan({"p:Row": [1, 1, 1, 1, 2, 2, 2, 2], "p:Column": [1, 1, 2, 2, 1, 1, 2, 2], "t:Sensor": list(range(1, 9))})
+        self.assertEqual([s.name for s in plan.strata], ["U", "Row", "Column", "I(Row,Column)", "E"])
+        self.assertEqual([s.name for s in plan.sources], ["U", "S(Row)", "S(Column)", "#4", "E"])
+
     def test_degrees_of_freedom_add_up(self):
         accepted = 0
         for seed in range(1, 200):
@@ -119,12 +130,28 @@ class Refusals(unittest.TestCase):
         self.assertEqual((refusal.number, refusal.names), (9, ("Hut number",)))
         self.assertEqual(refusal.what, "Hut number x has 2 plots, Hut number y has 1.")
 
-    def test_a_grouping_without_a_name(self):
-        table = {"p:Aa": [1, 1, 2, 2, 3, 3], "p:Bb": [1, 2, 1, 2, 3, 3]}
-        refusal = self.refusal(table)
-        self.assertEqual((refusal.number, refusal.names), (9, ("#2",)))
+    def test_a_grouping_that_columns_share(self):
+        refusal = self.refusal({"p:Hut": [1, 1, 2, 2, 3, 3], "p:Week no.": [1, 2, 1, 2, 3, 3]})
+        self.assertEqual((refusal.number, refusal.names), (9, ("S(Hut,Week no.)",)))
         self.assertEqual(
-            refusal.what, "the class of #2 with plots 1, 2, 3, 4 has 4 plots, the class of #2 with plots 5, 6 has 2."
+            refusal.what,
+            "the class of S(Hut,Week no.) with plots 1, 2, 3, 4 has 4 plots, the class of S(Hut,Week no.) with plots 5, 6 has 2.",
+        )
+        self.assertIn("give all classes of S(Hut,Week no.) the same number of plots", refusal.remedy)
+
+    def test_a_treatment_that_is_a_plot_column(self):
+        # What Gain and Cable share is the huts.
+        table = {"p:Hut": [1] * 4 + [2] * 4, "t:Gain": [1, 1, 2, 2, 3, 3, 4, 4], "t:Cable": [1, 2, 1, 2, 3, 4, 3, 4]}
+        refusal = self.refusal({**table, "t:Filter": [1, 1, 1, 2, 1, 2, 2, 2]})
+        self.assertEqual((refusal.number, refusal.names), (12, ("S(Hut)", "Filter")))
+        self.assertEqual(refusal.what, "Hut 1 has 3 of the 4 plots with Filter 1, but 1 of the 4 with Filter 2.")
+
+    def test_a_grouping_without_a_name(self):
+        # What the combinations of Aa and Cc share with Bb.
+        refusal = self.refusal({"p:Aa": [1, 1, 1, 2, 2, 2], "p:Bb": [1, 2, 2, 3, 3, 1], "p:Cc": [1, 2, 2, 2, 1, 1]})
+        self.assertEqual((refusal.number, refusal.names), (9, ("#3",)))
+        self.assertEqual(
+            refusal.what, "the class of #3 with plots 1, 4, 5, 6 has 4 plots, the class of #3 with plots 2, 3 has 2."
         )
 
     def test_k(self):

@@ -116,6 +116,8 @@ class Tables(unittest.TestCase):
         self.assertEqual(sheet(table).text.split(b"\n")[0], b"p:Column2\tt:Column1\tt:Column3\tt:Column4")
         self.assertEqual(sheet(table).own, {"Column2": "A", "Column3": "Verstärkung", "Column4": "a very long name"})
         self.assertEqual(sheet(table).show("I(Column2,Column1,Column4)"), "I(A,Column1,a very long name)")
+        self.assertEqual(sheet(table).show("S(Column2,Column3)"), "S(A,Verstärkung)")
+        self.assertEqual(sheet(table).columns("S(Column2)"), ["A"])
         self.assertEqual(sheet(table, strict=True).own, {})
 
 
