@@ -412,7 +412,7 @@ class Documents(unittest.TestCase):
 
     def test_examples(self):
         blocks = self.document("docs", "EXAMPLES.md").split("```\n")[1::2]
-        names = ["sample.sheet", "sample.table", "sections.old", "sections.sheet", "sections.table"]
+        names = ["sample.sheet", "sample.table", "supremum.sheet", "supremum.table", "sections.old", "sections.sheet", "sections.table"]
         names += [f"{name}.{part}" for name in ("hut-pier", "row-column", "row-column-sub") for part in ("sheet", "table")]
         for name in names:
             self.assertIn(self.document("examples", name), blocks, name)
