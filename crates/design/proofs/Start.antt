@@ -4,35 +4,17 @@ use mathlib.Core.Path.{_≡_, refl, sym, ap, _∙_, subst}
 use mathlib.Core.Logic.{_⊎_, inl, inr}
 use mathlib.Core.List.{List, [], _∷_, _++_, map, map-append, List·Memᴰ·head, List·Memᴰ·not-nil, List·Memᴰ·append-cases, List·Memᴰ·eq-of-singleton, Memᴰ·cast, Memᴰ·append-left, Memᴰ·append-right}
 use Prim.Native.Nat.{ℕ, zero, suc, _+_, _-_, _≤_, _<_}
-use native.Mathlib.Nat.{not-suc-le-zero, le-of-suc-le-suc, add-zero, zero-add}
+use native.Mathlib.Nat.{not-suc-le-zero, le-of-suc-le-suc, zero-add}
 use native.Mathlib.Numerals.{add-one}
 use native.Mathlib.Omega.{arith}
 use lib.ListN.{length, take, replicate, length-append, length-map}
-use Rattle.rules.specs.Factor.{Column, number, universal, upFrom, equality}
+use Rattle.rules.specs.Factor.{Column, number, universal, equality}
 use Rattle.rules.specs.Family.{Family, _∈_, Distinct, none-left, columnsFrom, membersOf}
 use Rattle.rules.specs.Closing.{plotGenerators}
 use Rattle.rules.proofs.WorkList.{member-in, distinct-more}
 use Rattle.rules.proofs.Buffer.{length-columns, columns-snoc, length-members}
 use Rattle.design.specs.State.{columnAt, Held, PlacedMember, full, old, new, grownTo, Begun}
 use Rattle.design.proofs.Placing.{grown-new, grown-old}
-
--- ---- E
-
--- one number more
-up-snoc : (n i : ℕ) → upFrom i (suc n) ≡ upFrom i n ++ (i + n) ∷ []
-unfolding upFrom
-up-snoc zero i = ap (λ (x : ℕ). x ∷ []) (sym (add-zero i))
-up-snoc (suc n) i = ap (λ (l : Column). i ∷ l) (up-snoc n (suc i) ∙ ap (λ (x : ℕ). upFrom (suc i) n ++ x ∷ []) (across i n))
-  where
-    across : (i n : ℕ) → suc i + n ≡ i + suc n
-    across i n = omega arith
-
--- E on one plot more
-pub equality-more : (n : ℕ) → equality (n + 1) ≡ equality n ++ (n + 1) ∷ []
-unfolding equality
-equality-more n =
-    let e : n + 1 ≡ 1 + n = omega arith in
-    ap equality (add-one n) ∙ up-snoc n 1 ∙ ap (λ (x : ℕ). upFrom 1 n ++ x ∷ []) (sym e)
 
 -- ---- placing
 

@@ -19,11 +19,7 @@ pub fn equality(n: usize) -> [u8; PLOTS]
     requires { ⌜ n ≤ mostPlots ⌝ }
     ensures { λ r. ⌜ take n r ≡ equality n ⌝ }
 {
-    let mut column = [0u8; PLOTS];
-    for u in 0..n {
-        column[u] = (u + 1) as u8;
-    }
-    column
+    factor::equality(n)
 }
 
 // Places U and E as the first members; answers how many they are.

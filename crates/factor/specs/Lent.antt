@@ -2,9 +2,9 @@
 -- Assumes nothing.
 use mathlib.Core.List.{List, _++_}
 use Prim.Native.Nat.{ℕ, _*_, min}
-use lib.ListN.{length, take, drop}
+use lib.ListN.{length, take, drop, replicate}
 use Rattle.rules.specs.Limits.{mostPlots}
-use Rattle.rules.specs.Factor.{Column}
+use Rattle.rules.specs.Factor.{Column, equality}
 
 -- the column at place i, from 0, of a level table or a family buffer on n plots: as much of it as is there
 abbrev pub columnAt : ℕ → List ℕ → ℕ → Column
@@ -29,3 +29,7 @@ testCommon test F G = onCommon (test (common F G)) F G
 -- what an output array holds: the numbers, then what was there
 abbrev pub overlay : List ℕ → Column → List ℕ
 overlay out X = X ++ drop (length X) out
+
+-- the equality factor on n plots, on 240 at most, in such an array; the bytes past them are 0
+abbrev pub equalityIn : ℕ → List ℕ
+equalityIn n = overlay (replicate mostPlots 0) (equality (min mostPlots n))

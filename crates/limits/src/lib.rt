@@ -13,7 +13,7 @@ pub const LEVELS: usize = 2880;
 // bytes of a family buffer
 pub const FAMILY: usize = 7680;
 // bytes of a name buffer
-pub const NAME: usize = 96;
+pub const NAME: usize = 160;
 // bytes of a sheet's text
 pub const TEXT: usize = 32768;
 // bytes of a formula

@@ -1,7 +1,7 @@
-pub mod Numbered
-pub mod Tables
-pub mod Listing
-pub mod Rules
-pub mod Entry
-pub mod Members
 pub mod Apart
+pub mod Listing
+pub mod SideWalks
+pub mod Tables
+pub mod Rules
+pub mod Members
+pub mod Entry

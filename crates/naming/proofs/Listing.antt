@@ -6,12 +6,15 @@ use mathlib.Core.List.{List, [], _∷_, _++_, append-nil}
 use Prim.Native.Nat.{ℕ, suc, _+_, _-_, _≤_, _<_}
 use native.Mathlib.Nat.{sub-zero}
 use native.Mathlib.Omega.{arith}
-use lib.ListN.{length, getD, take, drop}
-use lib.Seq.{slice, take-add, drop-at, length-take-le}
-use Rattle.rules.specs.Lists.{passingFrom}
+use lib.ListN.{length, getD, take, drop, List·getD-append}
+use lib.Seq.{getD-append-add, slice, take-add, drop-at, length-take-le}
+use Rattle.rules.specs.Lists.{tabulate, passingFrom}
+use Rattle.rules.proofs.Lists.{length-tabulate, getD-tabulate}
 use Rattle.rules.specs.Names.{withCommas}
 use Rattle.decimal.specs.Writing.{written, placeAfter}
 use Rattle.decimal.proofs.Writing.{written-nil, place-nil, written-append}
+use Rattle.naming.specs.declared.columns.Look.{Look}
+use Rattle.naming.specs.Columns.{ownNames, plotName, lookNames}
 use Rattle.naming.specs.Listing.{separated, afterCommas, listing}
 
 -- ---- the numbers that pass, from i on
@@ -53,6 +56,24 @@ pub listing-none : (first : Bool) (names : List (List ℕ)) → listing first na
 unfolding withCommas afterCommas
 listing-none true names = refl
 listing-none false names = refl
+
+-- ---- the names of the columns looked at
+
+module _ (look : Look) (text : List ℕ) (c : ℕ) where
+  -- a plot column before those of the kind
+  pub name-before : c < look .before → plotName text c ≡ getD (lookNames look text) c []
+  unfolding lookNames
+  name-before h =
+      sym (List·getD-append (tabulate (plotName text) (look .before)) (ownNames look text) [] c (rw length-tabulate h)
+      ∙ getD-tabulate (plotName text) (look .before) c [] h)
+
+  -- one of the kind
+  pub name-after : look .before ≤ c → getD (ownNames look text) (c - look .before) [] ≡ getD (lookNames look text) c []
+  unfolding lookNames
+  name-after h =
+      let l : length (tabulate (plotName text) (look .before)) ≡ look .before = length-tabulate (plotName text) (look .before) in
+      let e : c ≡ length (tabulate (plotName text) (look .before)) + (c - look .before) = omega arith in
+      sym (ap (λ (k : ℕ). getD (tabulate (plotName text) (look .before) ++ ownNames look text) k []) e ∙ getD-append-add (tabulate (plotName text) (look .before)) (ownNames look text) (c - look .before) [])
 
 -- ---- one text after another
 

@@ -1,43 +1,43 @@
 -- Laws of a table of numbered columns: how it is filled, and what the walks over it find.
 -- Assumes nothing.
-use mathlib.Core.Path.{_≡_, refl, sym, ap, ap₂, _∙_}
-use mathlib.Core.Bool.{Bool, true, false, not, _&&_}
-use mathlib.Core.List.{List, [], _∷_, _++_, map, map-append}
+use mathlib.Core.Path.{_≡_, refl, sym, ap, ap₂, _∙_, subst}
+use mathlib.Core.Bool.{true, false}
+use mathlib.Core.Logic.{⊎-elim}
+use mathlib.Core.List.{List, [], _∷_, _++_, map, map-append, append-nil, List·Memᴰ·append-cases}
 use Prim.Native.Nat.{ℕ, zero, suc, _+_, _-_, _*_, _≤_, _<_, min}
 use native.Mathlib.Nat.{add-zero, zero-add, not-suc-le-zero, le-of-suc-le-suc, le-of-eq}
 use native.Mathlib.Numerals.{add-one}
 use native.Mathlib.Omega.{arith}
-use lib.Dec.{ltb}
-use lib.ListN.{length, getD, take, drop, replicate, drop-of-length-le}
-use lib.Seq.{drop-cons, take-all, take-length}
-use Rattle.rules.specs.Factor.{Column, every, finer, number, infimum, universal}
-use Rattle.rules.specs.Family.{alike, columnsFrom, membersOf, allNumbered}
-use Rattle.rules.specs.Names.{equivalentColumn, infimumAbove, columnAbove, hides, listed}
-use Rattle.rules.specs.Lists.{wordOf, bitAt, passingFrom}
-use Rattle.rules.proofs.Words.{bit-word}
-use Rattle.rules.proofs.Bits.{every-suc, every-ext}
-use Rattle.rules.proofs.Buffer.{put, members-add, columns-snoc, length-columns, length-members, column-at, member-is}
+use lib.ListN.{length, getD, take, drop, replicate, length-append, length-drop, drop-of-length-le}
+use lib.Seq.{drop-cons, drop-drop, take-all, take-at, take-length, length-take-le}
+use borrow.Rule.Slice.PartMut.{putMid, post-is}
+use Rattle.rules.specs.Factor.{Column, number, universal}
+use Rattle.rules.specs.Family.{_∈_, alike, columnsFrom, membersOf, allNumbered}
+use Rattle.rules.specs.Names.{equivalentColumn, nameOf, bytesOf}
+use Rattle.rules.proofs.Buffer.{put, members-add, columns-snoc, columns-agree}
+use Rattle.rules.proofs.Demand3.{column-length}
 use Rattle.rules.proofs.Members.{alike-self, clash}
+use Rattle.rules.proofs.NameSame.{same-name, numbered-factors}
 use Rattle.rules.proofs.Numbering.{by-cases, length-number, number-number}
-use Rattle.rules.proofs.Tests.{every-at}
 use Rattle.factor.specs.Lent.{columnAt, common, onCommon, overlay}
 use Rattle.factor.proofs.Lent.{length-part, take-overlay}
 use Rattle.decimal.proofs.Writing.{written-all}
 use Rattle.decimal.specs.Writing.{fits, written}
-use Rattle.naming.specs.Columns.{outdone, listedBy, infimumBy, numberedFrom}
-use Rattle.naming.proofs.Numbered.{On, passing-same}
+use Rattle.naming.specs.declared.columns.Look.{Look}
+use Rattle.naming.specs.Answers.{nameBy}
+use Rattle.naming.specs.Columns.{NumberedIn, InTable, ownOf, lookedOf, ownIn, lookedIn, ownNames, lookNames, alone, numberedFrom}
+use Rattle.naming.specs.Members.{nameText}
 
 -- ---- lent parts and output arrays
 
--- the infimum of a column on n plots and the first n numbers of an array
-module _ (n : ℕ) (out : List ℕ) (F M : Column) (s : n ≤ 240) (lF : length F ≡ n) (lM : length M ≡ 240) (l : length (infimum F (take n M)) ≡ n) where
-  common-is : onCommon infimum F M ≡ infimum F (take n M)
-  common-is =
-      let e : common F M ≡ n = rw (lF, lM) (omega arith) in
-      ap (λ (k : ℕ). infimum (take k F) (take k M)) e ∙ ap (λ (X : Column). infimum X (take n M)) (take-all n F (le-of-eq lF))
-
-  pub infimum-part : take n (overlay out (onCommon infimum F M)) ≡ infimum F (take n M)
-  infimum-part = ap (λ (X : Column). take n (overlay out X)) common-is ∙ take-overlay out (infimum F (take n M)) n l
+-- what a column on n plots and the first n numbers of an array make
+pub join-part : (op : Column → Column → Column) (n : ℕ) (out : List ℕ) (F M : Column) → n ≤ 240 → length F ≡ n → length M ≡ 240 → length (op F (take n M)) ≡ n
+    → take n (overlay out (onCommon op F M)) ≡ op F (take n M)
+join-part op n out F M s lF lM l =
+    let e : common F M ≡ n = rw (lF, lM) (omega arith) in
+    ap (λ (k : ℕ). take n (overlay out (op (take k F) (take k M)))) e
+    ∙ ap (λ (X : Column). take n (overlay out (op X (take n M)))) (take-all n F (le-of-eq lF))
+    ∙ take-overlay out (op F (take n M)) n l
 
 -- the column itself, written into an array
 pub column-part : (n i : ℕ) (out l : List ℕ) → n ≤ 240 → 240 * i + n ≤ length l → length out ≡ 240 → (X : Column) → X ≡ columnAt n l i → take n (written out 0 X) ≡ columnAt n l i
@@ -77,15 +77,44 @@ table-turn n small b levels first c h k e =
     ∙ ap (λ (S : List Column). S ++ number C ∷ []) e
     ∙ sym (ap (map number) (columns-snoc n levels first c) ∙ map-append number (columnsFrom n levels first c) (C ∷ [])))
 
-pub columns-on : (n : ℕ) (levels : List ℕ) (first count : ℕ) → 240 * (first + count) ≤ length levels → n ≤ 240 → On n (columnsFrom n levels first count)
-columns-on n levels first count h s i l =
-    let k : i < count = rw (length-columns n levels first count) at l in
-    ap length (column-at n levels first count i k) ∙ length-part n (first + i) levels (omega arith)
+module _ (n : ℕ) (t : List ℕ) where
+  columns-append : (c b m : ℕ) → columnsFrom n t c (b + m) ≡ columnsFrom n t c b ++ columnsFrom n t (c + b) m
+  unfolding columnsFrom
+  columns-append c zero m = rw (zero-add, add-zero)
+  columns-append c (suc b) m =
+      let e : suc b + m ≡ suc (b + m) = omega arith in
+      let f : suc c + b ≡ c + suc b = omega arith in
+      rw e (ap (λ (l : List Column). take n (drop (240 * c) t) ∷ l) (columns-append (suc c) b m ∙ ap (λ (k : ℕ). columnsFrom n t (suc c) b ++ columnsFrom n t k m) f))
 
-pub members-on : (n : ℕ) → n ≤ 240 → (table : List ℕ) (count : ℕ) → 240 * count ≤ length table → On n (membersOf n table count)
-members-on n s table count h i l =
-    let k : i < count = rw (length-members n s table count) at l in
-    ap length (member-is n s table count i k) ∙ length-part n i table (omega arith)
+  columns-drop : (b c m : ℕ) → columnsFrom n (drop (240 * b) t) c m ≡ columnsFrom n t (b + c) m
+  unfolding columnsFrom
+  columns-drop b c zero = refl
+  columns-drop b c (suc m) =
+      let e : 240 * b + 240 * c ≡ 240 * (b + c) = omega arith in
+      let f : b + suc c ≡ suc (b + c) = omega arith in
+      ap₂ (λ (C : Column) (l : List Column). C ∷ l) (ap (take n) (drop-drop (240 * c) (240 * b) t ∙ ap (λ (k : ℕ). drop k t) e)) (columns-drop b (suc c) m ∙ ap (λ (k : ℕ). columnsFrom n t k m) f)
+
+  -- the first columns, and those after them
+  pub members-split : (b m : ℕ) → membersOf n t (b + m) ≡ membersOf n t b ++ membersOf n (drop (240 * b) t) m
+  unfolding membersOf
+  members-split b m =
+      columns-append 0 b m
+      ∙ ap (λ (l : List Column). columnsFrom n t 0 b ++ l) (ap (λ (k : ℕ). columnsFrom n t k m) (zero-add b ∙ sym (add-zero b)) ∙ sym (columns-drop b 0 m))
+
+-- the last part of a list that is lent, and put back
+pub rest-part : (a : ℕ) (xs : List ℕ) → take (length xs - a) (drop a xs) ≡ drop a xs
+rest-part a xs = take-all (length xs - a) (drop a xs) (le-of-eq (length-drop a xs))
+
+pub rest-put : (a : ℕ) (xs ys : List ℕ) → a ≤ length xs → putMid a (length xs - a) xs ys ≡ take a xs ++ ys
+rest-put a xs ys h = ap (λ (l : List ℕ). take a xs ++ (ys ++ l)) (post-is a (length xs) xs h ∙ drop-of-length-le xs (le-of-eq refl)) ∙ ap (λ (l : List ℕ). take a xs ++ l) (append-nil ys)
+
+-- bytes past the first columns do not matter to them
+pub members-front : (n : ℕ) → n ≤ 240 → (b : ℕ) (x y : List ℕ) → 240 * b ≤ length x → membersOf n (take (240 * b) x ++ y) b ≡ membersOf n x b
+unfolding membersOf
+members-front n small b x y h =
+    let l : length (take (240 * b) x) ≡ 240 * b = length-take-le (240 * b) x h in
+    columns-agree n small (take (240 * b) x ++ y) x 0 b (rw (length-append, l) (omega arith)) (omega arith)
+    (subst (λ (k : ℕ). take (240 * k) (take (240 * b) x ++ y) ≡ take (240 * k) x) (sym (zero-add b)) (take-at (take (240 * b) x) y (240 * b) l))
 
 pub all-numbered : (Cs : List Column) → allNumbered (map number Cs) ≡ true
 unfolding allNumbered
@@ -93,6 +122,55 @@ all-numbered [] = refl
 all-numbered (C ∷ Cs) =
     let e : alike (number (number C)) (number C) ≡ true = ap (λ (X : Column). alike X (number C)) (number-number C) ∙ alike-self (number C) in
     rw (e, allNumbered) (all-numbered Cs)
+
+-- the last columns of numbered ones
+numbered-last : (Cs Ds : List Column) → allNumbered (Cs ++ Ds) ≡ true → allNumbered Ds ≡ true
+unfolding allNumbered
+numbered-last [] Ds e = e
+numbered-last (C ∷ Cs) Ds e =
+    by-cases (alike (number C) C)
+    (λ a. numbered-last Cs Ds (sym (rw (a, allNumbered)) ∙ e))
+    (λ a. clash e (rw (a, allNumbered)))
+
+-- the columns of the kind by themselves
+pub alone-numbered : (look : Look) (table : List ℕ) → NumberedIn look table → NumberedIn (alone look) (drop (240 * look .before) table)
+alone-numbered look table w = record {
+  columns = record { few-plots = w .columns .few-plots; few = omega (arith, w .columns .few); long = rw length-drop (omega (arith, w .columns .long)) };
+  numbered = ap (λ (k : ℕ). allNumbered (membersOf (look .plots) (drop (240 * look .before) table) k)) (zero-add (look .count))
+      ∙ numbered-last (membersOf (look .plots) table (look .before)) (ownIn look table) (sym (ap allNumbered (members-split (look .plots) table (look .before) (look .count))) ∙ w .numbered);
+}
+
+-- the table has the columns of a level table, numbered
+module _ (look : Look) (levels table : List ℕ) (t : InTable look levels) (own : ownIn look table ≡ numberedFrom (look .plots) levels (look .first) (look .count))
+    (all : lookedIn look table ≡ numberedFrom (look .plots) levels 0 (look .before) ++ ownIn look table) where
+  looked-is : lookedIn look table ≡ map number (lookedOf look levels)
+  unfolding numberedFrom
+  looked-is =
+      all ∙ ap (λ (l : List Column). map number (columnsFrom (look .plots) levels 0 (look .before)) ++ l) own
+      ∙ sym (map-append number (columnsFrom (look .plots) levels 0 (look .before)) (ownOf look levels))
+
+  pub filled-numbered : 2880 ≤ length table → NumberedIn look table
+  filled-numbered long = record {
+    columns = record { few-plots = t .few-plots; few = omega (arith, t .few-before, t .few); long = omega (arith, t .few-before, t .few) };
+    numbered = ap allNumbered looked-is ∙ all-numbered (lookedOf look levels);
+  }
+
+  -- numbering the columns changes no name
+  pub filled-name : (text : List ℕ) (place : ℕ) (F : Column) → nameText look text table place F ≡ nameBy look text levels place F
+  unfolding nameBy numberedFrom
+  filled-name text place F =
+      ap (bytesOf (ownNames look text) (lookNames look text))
+      (ap₂ (λ (Cs Ls : List Column). nameOf (look .plots) Cs Ls place F) own looked-is
+      ∙ same-name (look .plots) (map number (ownOf look levels)) (ownOf look levels) (map number (lookedOf look levels)) (lookedOf look levels) place F
+      (numbered-factors (look .plots) (ownOf look levels) own-on) (numbered-factors (look .plots) (lookedOf look levels) looked-on))
+    where
+      own-on : (C : Column) → C ∈ ownOf look levels → length C ≡ look .plots
+      own-on = column-length (look .plots) levels (look .count) (look .first) (t .few-plots) (t .long) (t .inside)
+
+      looked-on : (C : Column) → C ∈ lookedOf look levels → length C ≡ look .plots
+      looked-on C m =
+          ⊎-elim (column-length (look .plots) levels (look .before) 0 (t .few-plots) (t .long) (omega (arith, t .few-before)) C) (own-on C)
+          (List·Memᴰ·append-cases (columnsFrom (look .plots) levels 0 (look .before)) m)
 
 -- ---- the lowest equivalent column, from c on
 
@@ -108,83 +186,3 @@ module _ (F : Column) (Cs : List Column) (c : ℕ) where
   pub equivalent-end : length Cs ≤ c → equivalentColumn F c (drop c Cs) ≡ 0
   unfolding equivalentColumn
   equivalent-end h = ap (equivalentColumn F c) (drop-of-length-le Cs h)
-
--- ---- the infimum of the columns that pass, from c on
-
-module _ (t : ℕ → Bool) (n : ℕ) (Cs : List Column) where
-  pub by-none : (c : ℕ) → length Cs ≤ c → infimumBy t n c (drop c Cs) ≡ universal n
-  unfolding infimumBy
-  by-none c h = ap (infimumBy t n c) (drop-of-length-le Cs h)
-
-  pub by-here : (c : ℕ) → c < length Cs → t c ≡ true → infimumBy t n c (drop c Cs) ≡ infimum (getD Cs c []) (infimumBy t n (suc c) (drop (suc c) Cs))
-  unfolding infimumBy
-  by-here c h e = ap (infimumBy t n c) (drop-cons Cs c [] h) ∙ rw (e, infimumBy)
-
-  pub by-past : (c : ℕ) → c < length Cs → t c ≡ false → infimumBy t n c (drop c Cs) ≡ infimumBy t n (suc c) (drop (suc c) Cs)
-  unfolding infimumBy
-  by-past c h e = ap (infimumBy t n c) (drop-cons Cs c [] h) ∙ rw (e, infimumBy)
-
--- of the columns above a member
-pub infimum-by : (t : ℕ → Bool) (n : ℕ) (F : Column) (i : ℕ) (Cs : List Column) → ((j : ℕ) → j < length Cs → t (i + j) ≡ finer n F (getD Cs j [])) → infimumBy t n i Cs ≡ infimumAbove n F Cs
-unfolding infimumBy infimumAbove
-infimum-by t n F i [] h = refl
-infimum-by t n F i (C ∷ Cs) h =
-    let here : t i ≡ finer n F C = sym (ap t (add-zero i)) ∙ h 0 (omega arith) in
-    let more : infimumBy t n (suc i) Cs ≡ infimumAbove n F Cs = infimum-by t n F (suc i) Cs (λ j l. ap t (across i j) ∙ h (suc j) (omega arith)) in
-    by-cases (finer n F C) (λ e. rw (here, e, infimumBy, infimumAbove) (ap (infimum C) more)) (λ e. rw (here, e, infimumBy, infimumAbove) more)
-  where
-    across : (i j : ℕ) → suc i + j ≡ i + suc j
-    across i j = omega arith
-
--- ---- the listed columns
-
--- column j does not keep column i from the list
-abbrev pub allows : (ℕ → Bool) → ℕ → List Column → ℕ → ℕ → Bool
-allows t n Cs i j = not (t j && hides n Cs j i)
-
--- of the columns above a member
-pub listed-by : (t : ℕ → Bool) (n : ℕ) (F : Column) (Cs : List Column) → ((j : ℕ) → j < length Cs → t j ≡ columnAbove n F Cs j) → (i : ℕ) → i < length Cs → listedBy t n Cs i ≡ listed n F Cs i
-unfolding listedBy listed
-listed-by t n F Cs h i l =
-    ap₂ _&&_ (h i l)
-    (every-ext (λ j. not (t j && hides n Cs j i)) (λ j. not (columnAbove n F Cs j && hides n Cs j i)) (length Cs) (λ j k. ap (λ (b : Bool). not (b && hides n Cs j i)) (h j k)))
-
-module _ (t : ℕ → Bool) (n : ℕ) (Cs : List Column) (i : ℕ) where
-  pub listed-not : t i ≡ false → listedBy t n Cs i ≡ false
-  unfolding listedBy
-  listed-not e = rw e
-
-  pub listed-if : t i ≡ true → listedBy t n Cs i ≡ every (length Cs) (allows t n Cs i)
-  unfolding listedBy
-  listed-if e = rw e
-
-  allows-is : (j : ℕ) → allows t n Cs i j ≡ not (outdone (t j) n (getD Cs j []) (getD Cs i []) (ltb j i))
-  unfolding hides outdone
-  allows-is j = refl
-
-  -- column j keeps it from the list
-  pub outdone-here : (j : ℕ) → j < length Cs → outdone (t j) n (getD Cs j []) (getD Cs i []) (ltb j i) ≡ true → every (length Cs) (allows t n Cs i) ≡ false
-  outdone-here j h e =
-      by-cases (every (length Cs) (allows t n Cs i))
-      (λ b. clash (every-at (length Cs) (allows t n Cs i) b j h) (allows-is j ∙ ap not e))
-      (λ b. b)
-
-  pub allowed-here : (j : ℕ) → every j (allows t n Cs i) ≡ true → outdone (t j) n (getD Cs j []) (getD Cs i []) (ltb j i) ≡ false → every (j + 1) (allows t n Cs i) ≡ true
-  allowed-here j a e =
-      let p : allows t n Cs i j ≡ true = allows-is j ∙ ap not e in
-      rw add-one (every-suc j (allows t n Cs i) ∙ ap₂ _&&_ p a)
-
--- ---- the word of the columns above a member
-
-module _ (w n : ℕ) (F : Column) (Cs : List Column) (count : ℕ) (size : length Cs ≡ count) (is : w ≡ wordOf (columnAbove n F Cs) count) where
-  above-bits : (j : ℕ) → j < length Cs → bitAt w j ≡ columnAbove n F Cs j
-  above-bits j h = ap (λ (x : ℕ). bitAt x j) is ∙ bit-word (columnAbove n F Cs) count j (omega arith)
-
-  -- the infimum of the columns in it
-  pub word-infimum : infimumBy (bitAt w) n 0 Cs ≡ infimumAbove n F Cs
-  unfolding columnAbove
-  word-infimum = infimum-by (bitAt w) n F 0 Cs (λ j h. ap (bitAt w) (zero-add j) ∙ above-bits j h)
-
-  -- the columns listed of those in it
-  pub word-listed : passingFrom (listedBy (bitAt w) n Cs) 0 count ≡ passingFrom (listed n F Cs) 0 count
-  word-listed = passing-same (listedBy (bitAt w) n Cs) (listed n F Cs) 0 count (λ k l r. listed-by (bitAt w) n F Cs above-bits k (omega arith))

@@ -10,10 +10,11 @@ use Rattle.rules.specs.Limits.{mostColumns, tableCells, nameBytes}
 use Rattle.rules.specs.Factor.{Column}
 use Rattle.rules.specs.Design.{plotsWithin}
 use Rattle.rules.specs.Family.{columnsFrom, membersOf}
-use Rattle.rules.specs.Sheet.{columnNames, countKind, header, question3}
+use Rattle.rules.specs.Sheet.{columnNames, countKind, header, plotMark, treatmentMark, question3}
 use Rattle.rules.specs.Names.{nameOf, bytesOf}
-use Rattle.rules.specs.Naming.{Kind as Rule, plot, treatment, markOf, firstColumn, kindNames, NameAnswer, nameRefused, namingWithin, namingFrom7, naming}
+use Rattle.rules.specs.Naming.{Kind as Rule, plot, treatment, firstColumn, NameAnswer, nameRefused, namingWithin, namingFrom7, naming}
 use Rattle.sheet.specs.declared.Counts.{Counts}
+use Rattle.naming.specs.Columns.{ownOf, lookedOf, ownNames, lookNames}
 use Rattle.naming.specs.declared.columns.Look.{Look}
 use Rattle.naming.specs.declared.Kind.{Kind}
 use Rattle.naming.specs.declared.Kind.the-variants.{Plot, Treatment}
@@ -25,37 +26,43 @@ abbrev pub kindOf : Kind → Rule
 kindOf Plot = plot
 kindOf Treatment = treatment
 
--- how many columns of the kind are counted
-abbrev pub countIn : Kind → Counts → ℕ
-countIn Plot counts = counts .«plot_columns»
-countIn Treatment counts = counts .«treatment_columns»
-
--- the columns of the kind
+-- the columns that a member of the kind looks at: a treatment member at the plot columns too, which come first
 abbrev pub lookOf : Kind → Counts → Look
-lookOf kind counts = record { mark = markOf (kindOf kind); plots = counts .plots; count = countIn kind counts }
+lookOf Plot counts = record { mark = plotMark; plots = counts .plots; before = 0; first = firstColumn plot; count = counts .«plot_columns» }
+lookOf Treatment counts = record { mark = treatmentMark; plots = counts .plots; before = counts .«plot_columns»; first = firstColumn treatment; count = counts .«treatment_columns» }
 
--- 1 to 240 plots, at most 6 columns of the kind, lent slices long enough, and a member on these plots
-unfoldable pub memberFits : ℕ → ℕ → ℕ → ℕ → ℕ → Bool
+-- the columns counted are those of a first line
+pub record CountedIn (text : List ℕ) (counts : Counts) : Type 0 where
+  pub plot-columns : counts .«plot_columns» ≡ countKind plotMark (header text)
+  pub treatment-columns : counts .«treatment_columns» ≡ countKind treatmentMark (header text)
+
+-- 1 to 240 plots, at most 6 columns of either kind, and a level table long enough
+unfoldable pub lookFits : Look → ℕ → Bool
 unfolding plotsWithin
-memberFits n count tableLength nameLength memberLength = plotsWithin n && leb count mostColumns && leb tableCells tableLength && leb nameBytes nameLength && eqb memberLength n
+lookFits look tableLength = plotsWithin (look .plots) && leb (look .before) mostColumns && leb (look .count) mostColumns && leb tableCells tableLength
 
--- the name of the member F at a place, from 1, by the first `count` columns of its kind
-unfoldable pub countedOn : Rule → List ℕ → ℕ → List ℕ → ℕ → ℕ → Column → List ℕ
-unfolding bytesOf nameOf columnNames columnsFrom header
-countedOn kind text n levels count place F = bytesOf (kindNames kind (header text)) (nameOf n (columnsFrom n levels (firstColumn kind) count) place F)
+-- these, room for a name, and a member on these plots
+unfoldable pub memberFits : Look → ℕ → ℕ → ℕ → Bool
+unfolding lookFits
+memberFits look tableLength nameLength memberLength = lookFits look tableLength && leb nameBytes nameLength && eqb memberLength (look .plots)
+
+-- the name of the member F at a place, from 1, by the columns of a level table
+unfoldable pub nameBy : Look → List ℕ → List ℕ → ℕ → Column → List ℕ
+unfolding bytesOf nameOf columnNames columnsFrom header lookNames
+nameBy look text levels place F = bytesOf (ownNames look text) (lookNames look text) (nameOf (look .plots) (ownOf look levels) (lookedOf look levels) place F)
 
 -- naming one member by itself: 6 where a count or a length is out of range, or the member is not on these plots; else as much of the name
 -- as the buffer holds
-unfoldable pub namingCounted : Rule → List ℕ → List ℕ → ℕ → ℕ → Column → ℕ → ℕ → NameAnswer
-unfolding memberFits countedOn
-namingCounted kind text levels n count F place room = elim (memberFits n count (length levels) room (length F)) [
-  | true ↦ record { refusal = 0; name = take room (countedOn kind text n levels count place F) }
+unfoldable pub namingBy : Look → List ℕ → List ℕ → Column → ℕ → ℕ → NameAnswer
+unfolding memberFits nameBy
+namingBy look text levels F place room = elim (memberFits look (length levels) room (length F)) [
+  | true ↦ record { refusal = 0; name = take room (nameBy look text levels place F) }
   | false ↦ nameRefused 6
 ]
 
 -- the same by a sheet's counts, into a lent buffer
 abbrev pub countedNaming : Kind → Counts → ℕ → List ℕ → List ℕ → Column → List ℕ → NameAnswer
-countedNaming kind counts place text levels F name = namingCounted (kindOf kind) text levels (counts .plots) (countIn kind counts) F place (length name)
+countedNaming kind counts place text levels F name = namingBy (lookOf kind counts) text levels F place (length name)
 
 -- the name of a member of a lent family, into a lent buffer
 abbrev pub memberNaming : Kind → ℕ → ℕ → ℕ → List ℕ → List ℕ → List ℕ → List ℕ → NameAnswer
@@ -65,10 +72,9 @@ memberNaming kind n size place text levels family name = naming (kindOf kind) te
 abbrev pub namingOf : Kind → Counts → ℕ → ℕ → List ℕ → List ℕ → List ℕ → NameAnswer
 namingOf kind counts size place text levels family = namingFrom7 (kindOf kind) text (counts .plots) levels (membersOf (counts .plots) family size) place
 
-abbrev pub Asked : Kind → Counts → ℕ → ℕ → List ℕ → List ℕ → List ℕ → List ℕ → Type 0
-Asked kind counts size place text levels family name =
-    (question3 text ≡ true) × (namingWithin (counts .plots) size place (length levels) (length family) (length name) ≡ true)
-    × (countIn kind counts ≡ countKind (markOf (kindOf kind)) (header text))
+abbrev pub Asked : Counts → ℕ → ℕ → List ℕ → List ℕ → List ℕ → List ℕ → Type 0
+Asked counts size place text levels family name =
+    (question3 text ≡ true) × (namingWithin (counts .plots) size place (length levels) (length family) (length name) ≡ true) × CountedIn text counts
 
 -- a buffer that starts with these bytes, and past them is as it was
 abbrev pub startingWith : List ℕ → List ℕ → List ℕ

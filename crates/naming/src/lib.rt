@@ -9,6 +9,7 @@ mod compose;
 mod extremes;
 mod kinds;
 mod questions;
+mod sides;
 
 use limits::Level;
 use limits::TEXT;
@@ -26,7 +27,7 @@ pub enum Named {
     Refused(u32),
 }
 
-// Names one member, whatever its family and whatever the first line, by as many columns of the kind as are counted, as far as the buffer
+// Names one member, whatever its family and whatever the first line, by as many columns as are counted, as far as the buffer
 // holds the name. 6: a count or a length is out of range, or the member is not on these plots.
 pub fn name_counted(
     text: &[u8],
@@ -41,18 +42,15 @@ pub fn name_counted(
     ensures buffer { λ _. ⌜ now (name .exit) ≡ nameBuffer (now (name .entry)) (countedNaming kind counts place (now (text .entry)) (now (levels .entry)) (now (member .entry)) (now (name .entry))) ⌝ }
 {
     let look = kinds::look(kind, counts);
-    let n = look.plots;
-    let count = look.count;
-    if !questions::member_fits(n, count, levels.len(), name.len(), member.len()) {
+    if !questions::member_fits(look, levels.len(), name.len(), member.len()) {
         return Named::Refused(6);
     }
-    let first = kinds::first(kind);
-    let m = compose::put_name(text, levels, first, look, member, place, name);
+    let m = compose::put_name(text, levels, look, member, place, name);
     Named::Written(m)
 }
 
-// Names each of the first `size` members, whatever the family and whatever the first line, by as many columns of the kind as are counted:
-// member i, from 0, from byte 96 × i on, as far as these bytes hold the name, and its length at place i. Answers 0, or 6 where a count or a
+// Names each of the first `size` members, whatever the family and whatever the first line, by as many columns as are counted:
+// member i, from 0, from byte 160 × i on, as far as these bytes hold the name, and its length at place i. Answers 0, or 6 where a count or a
 // length is out of range.
 pub fn name_members(
     text: &[u8],
@@ -69,11 +67,8 @@ pub fn name_members(
     ensures lengths { λ _. ⌜ now (lengths .exit) ≡ lengthsAfter kind counts size (now (text .entry)) (now (levels .entry)) (now (family .entry)) (now (names .entry)) (now (lengths .entry)) ⌝ }
 {
     let look = kinds::look(kind, counts);
-    let n = look.plots;
-    let count = look.count;
     if !questions::members_fit(
-        n,
-        count,
+        look,
         size,
         levels.len(),
         family.len(),
@@ -82,8 +77,7 @@ pub fn name_members(
     ) {
         return 6;
     }
-    let first = kinds::first(kind);
-    compose::put_names(text, levels, first, look, family, size, names, lengths);
+    compose::put_names(text, levels, look, family, size, names, lengths);
     0
 }
 
@@ -134,15 +128,12 @@ fn from_7(
     place: usize,
     name: &mut [u8],
 ) -> Named
-    requires { ⌜ Asked kind counts size place (now text) (now levels) (now family) (now name) ⌝ }
+    requires { ⌜ Asked counts size place (now text) (now levels) (now family) (now name) ⌝ }
     ensures answer { λ r. ⌜ nameNumbers r ≡ nameNumbersOf (namingOf kind counts size place (now (text .entry)) (now (levels .entry)) (now (family .entry))) ⌝ }
     ensures buffer { λ _. ⌜ now (name .exit) ≡ nameBuffer (now (name .entry)) (namingOf kind counts size place (now (text .entry)) (now (levels .entry)) (now (family .entry))) ⌝ }
 {
     let plots = counts.plots;
-    let look = kinds::look(kind, counts);
-    let count = look.count;
-    let first = kinds::first(kind);
-    if !levels::all_nonzero(levels, plots, first, count) {
+    if !kinds::all_nonzero(levels, kinds::look(kind, counts)) {
         return Named::Refused(7);
     }
     if !families::well_formed(family, plots, size) {

@@ -1,8 +1,9 @@
 // Question 6, and what naming one member asks.
 ghost use mathlib.Core.Path.{_≡_};
 ghost use Rattle.rules.specs.Naming.{namingWithin};
-ghost use Rattle.naming.specs.Answers.{memberFits};
+ghost use Rattle.naming.specs.Answers.{lookFits, memberFits};
 ghost use Rattle.naming.specs.Members.{membersFit};
+use crate::columns::Look;
 use limits::COLUMNS;
 use limits::FAMILY;
 use limits::LEVELS;
@@ -10,53 +11,53 @@ use limits::MEMBERS;
 use limits::NAME;
 use limits::PLOTS;
 
-// Whether one member can be named: the plots, the columns and the lengths are in range, and it is on these plots.
-pub fn member_fits(plots: usize, count: usize, levels: usize, name: usize, member: usize) -> bool
-    ensures { λ r. ⌜ r ≡ memberFits plots count levels name member ⌝ }
+// Whether the plots, the columns and the level table are in range.
+fn look_fits(look: Look, levels: usize) -> bool
+    ensures { λ r. ⌜ r ≡ lookFits look levels ⌝ }
 {
-    if plots < 1 {
+    if look.plots < 1 {
         return false;
     }
-    if PLOTS < plots {
+    if PLOTS < look.plots {
         return false;
     }
-    if COLUMNS < count {
+    if COLUMNS < look.before {
         return false;
     }
-    if levels < LEVELS {
+    if COLUMNS < look.count {
+        return false;
+    }
+    LEVELS <= levels
+}
+
+// Whether one member can be named: these and the buffer are in range, and it is on these plots.
+pub fn member_fits(look: Look, levels: usize, name: usize, member: usize) -> bool
+    ensures { λ r. ⌜ r ≡ memberFits look levels name member ⌝ }
+{
+    if !look_fits(look, levels) {
         return false;
     }
     if name < NAME {
         return false;
     }
-    member == plots
+    member == look.plots
 }
 
-// Whether the members of a family can be named: the plots, the columns, the size and the lengths are in range.
+// Whether the members of a family can be named: these, the size and the lengths are in range.
 pub fn members_fit(
-    plots: usize,
-    count: usize,
+    look: Look,
     size: usize,
     levels: usize,
     family: usize,
     names: usize,
     lengths: usize,
 ) -> bool
-    ensures { λ r. ⌜ r ≡ membersFit plots count size levels family names lengths ⌝ }
+    ensures { λ r. ⌜ r ≡ membersFit look size levels family names lengths ⌝ }
 {
-    if plots < 1 {
-        return false;
-    }
-    if PLOTS < plots {
-        return false;
-    }
-    if COLUMNS < count {
+    if !look_fits(look, levels) {
         return false;
     }
     if MEMBERS < size {
-        return false;
-    }
-    if levels < LEVELS {
         return false;
     }
     if family < FAMILY {

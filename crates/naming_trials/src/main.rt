@@ -13,6 +13,10 @@ fn main() {
     three_columns();
     hidden_column();
     both_kinds();
+    suprema();
+    equivalents();
+    coarsest();
+    infimum_first();
     refusals();
     sizes();
 }
@@ -47,7 +51,7 @@ fn member(
     kind: Kind,
     place: usize,
 ) {
-    let mut name = [46u8; 97];
+    let mut name = [46u8; 161];
     let answer = naming::member_name(text, table, family, plots, size, kind, place, &mut name);
     show(answer, &name);
 }
@@ -89,7 +93,7 @@ fn merged() {
     );
 }
 
-// The supremum of the two columns is no infimum of columns.
+// The second member is the supremum of the two columns.
 fn two_columns() {
     trial(
         b"two columns of eight plots\n",
@@ -152,6 +156,69 @@ fn both_kinds() {
     );
 }
 
+// A plot and a treatment column: a treatment member looks at both, a plot member at the first.
+fn suprema() {
+    let digits = b"11223344000000000000000000000000000000000000000012123434";
+    let family = b"11111111111122221122334412345678";
+    trial(
+        b"treatment members, by both kinds\n",
+        b"p:Hut\tt:Gain\n",
+        8,
+        digits,
+        4,
+        family,
+        Kind::Treatment,
+    );
+    trial(
+        b"plot members, by plot columns\n",
+        b"p:Hut\tt:Gain\n",
+        8,
+        digits,
+        4,
+        family,
+        Kind::Plot,
+    );
+}
+
+// Of an equivalent plot and treatment column the plot column is listed.
+fn equivalents() {
+    trial(
+        b"an equivalent column of the other kind\n",
+        b"t:Gain\tp:Hut\tp:Pier\n",
+        8,
+        b"11223344121234340000000000000000000000000000000022114433",
+        3,
+        b"111111111111222212345678",
+        Kind::Treatment,
+    );
+}
+
+// The first column is finer than the others, which are listed; the last is not finer than the member.
+fn coarsest() {
+    trial(
+        b"a column that a coarser one hides\n",
+        b"p:Plt\tp:Hut\tt:Gain\tt:Kind\n",
+        8,
+        b"1234567811223344000000000000000000000000000000001212343412121212",
+        3,
+        b"111111111111222212345678",
+        Kind::Treatment,
+    );
+}
+
+// The second member is a plot column, but the infimum of treatment columns comes first.
+fn infimum_first() {
+    trial(
+        b"an infimum before a supremum\n",
+        b"p:Hut\tt:Gain\tt:Kind\n",
+        8,
+        b"1212343400000000000000000000000000000000000000001111222212121212",
+        3,
+        b"111111111212343412345678",
+        Kind::Treatment,
+    );
+}
+
 fn refusals() {
     trial(b"no text\n", b"", 4, b"0000", 1, b"2211", Kind::Plot);
     trial(
@@ -191,13 +258,22 @@ fn refusals() {
         Kind::Plot,
     );
     trial(
-        b"a level of 0 in the other kind\n",
+        b"a level of 0 in a plot column, a treatment member\n",
         b"p:Hut\n",
         4,
         b"1202",
         1,
         b"1111",
         Kind::Treatment,
+    );
+    trial(
+        b"a level of 0 in a treatment column, a plot member\n",
+        b"p:Hut\tt:Gain\n",
+        4,
+        b"1212000000000000000000001202",
+        1,
+        b"1111",
+        Kind::Plot,
     );
     trial(
         b"a family not numbered\n",
@@ -237,11 +313,11 @@ fn placed(size: usize, place: usize) {
     member(b"p:Hut\n", &table, &family, 1, size, Kind::Plot, place);
 }
 
-// A name buffer of 95 bytes.
+// A name buffer of 159 bytes.
 fn short_buffer() {
     let table: [Level; 2880] = [1; 2880];
     let family = [1u8; 7680];
-    let mut name = [46u8; 95];
+    let mut name = [46u8; 159];
     let answer = naming::member_name(b"p:Hut\n", &table, &family, 1, 1, Kind::Plot, 1, &mut name);
     show(answer, &name);
 }

@@ -95,7 +95,7 @@ columns-snoc n b i (suc m) =
     ap (λ (l : Family). take n (drop (240 * i) b) ∷ l) (columns-snoc n b (suc i) m ∙ ap (λ (x : ℕ). columnsFrom n b (suc i) m ++ take n (drop (240 * x) b) ∷ []) (suc-across i m))
 
 -- columns depend only on the bytes before their end
-columns-agree : (n : ℕ) → n ≤ 240 → (v w : List ℕ) (i m : ℕ) → 240 * (i + m) ≤ length v → 240 * (i + m) ≤ length w → take (240 * (i + m)) v ≡ take (240 * (i + m)) w → columnsFrom n v i m ≡ columnsFrom n w i m
+pub columns-agree : (n : ℕ) → n ≤ 240 → (v w : List ℕ) (i m : ℕ) → 240 * (i + m) ≤ length v → 240 * (i + m) ≤ length w → take (240 * (i + m)) v ≡ take (240 * (i + m)) w → columnsFrom n v i m ≡ columnsFrom n w i m
 unfolding columnsFrom
 columns-agree n small v w i zero hv hw e = refl
 columns-agree n small v w i (suc m) hv hw e =

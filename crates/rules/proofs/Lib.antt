@@ -45,7 +45,10 @@ pub mod ReaderLimits
 pub mod Labels
 pub mod SheetSize
 pub mod OlderSheets
+pub mod NameSides
+pub mod NamesLooked
 pub mod NamesMeant
+pub mod NameSame
 pub mod Bits
 pub mod Signed
 pub mod DegreesLaws

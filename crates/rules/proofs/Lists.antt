@@ -1,10 +1,12 @@
 -- Laws of lists given by their elements.
 -- Assumes nothing.
 use mathlib.Core.Path.{_≡_, refl, sym, ap, _∙_, subst}
+use mathlib.Core.Logic.{_⊎_, inl, inr, ⊎-elim}
 use mathlib.Core.Bool.{Bool, true, false}
-use mathlib.Core.List.{List, [], _∷_, map}
-use Prim.Native.Nat.{ℕ, zero, suc, _<_}
-use native.Mathlib.Nat.{not-suc-le-zero, le-of-suc-le-suc}
+use mathlib.Core.List.{List, [], _∷_, _++_, map}
+use Prim.Native.Nat.{ℕ, zero, suc, _+_, _<_}
+use native.Mathlib.Nat.{not-suc-le-zero, le-of-suc-le-suc, zero-add}
+use native.Mathlib.Omega.{arith}
 use lib.Dec.{eqb}
 use lib.ListN.{length, getD, set, length-set}
 use lib.Seq.{ext-getD, getD-set-same, getD-set-other}
@@ -28,6 +30,15 @@ module _ {A : Type 0} where
   unfolding tabulate
   tabulate-getD d [] = refl
   tabulate-getD d (x ∷ xs) = ap (λ (r : List A). x ∷ r) (tabulate-getD d xs)
+
+  -- an element of two lists together is one of the first, or of the second
+  abbrev pub AppendAt : A → List A → List A → ℕ → Type 0
+  AppendAt d xs ys k = ((k < length xs) × (getD (xs ++ ys) k d ≡ getD xs k d)) ⊎ ((j : ℕ) × (k ≡ length xs + j) × (getD (xs ++ ys) k d ≡ getD ys j d))
+
+  pub append-at : (d : A) (xs ys : List A) (k : ℕ) → AppendAt d xs ys k
+  append-at d [] ys k = inr (k, sym (zero-add k), refl)
+  append-at d (x ∷ xs) ys zero = inl (omega arith, refl)
+  append-at d (x ∷ xs) ys (suc k) = ⊎-elim (λ w. inl (omega (arith, w .0), w .1)) (λ w. inr (w .0, omega (arith, w .1), w .2)) (append-at d xs ys k)
 
   -- an element stored
   pub set-tabulate : (d : A) (f g : ℕ → A) (n i : ℕ) (x : A) → i < n → g i ≡ x → ((k : ℕ) → (k ≡ i → ⊥) → g k ≡ f k) → set (tabulate f n) i x ≡ tabulate g n

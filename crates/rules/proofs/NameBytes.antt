@@ -1,22 +1,24 @@
 -- Laws of the bytes of names: what kind of name they are and what they name can be read off them.
 -- Assumes nothing.
 use mathlib.Core.Path.{_≡_, refl, sym, ap, ap₂, _∙_, subst}
+use mathlib.Core.Logic.{_⊎_, inl, inr, ⊎-elim}
 use mathlib.Core.Bool.{Bool, true, false, not, _&&_, _||_}
 use mathlib.Core.List.{List, [], _∷_, _++_, append-assoc, List·Memᴰ·head, List·Memᴰ·tail}
-use Prim.Native.Nat.{ℕ, zero, suc, _≤_, _<_}
+use Prim.Native.Nat.{ℕ, zero, suc, _+_, _-_, _≤_, _<_}
 use native.Mathlib.Nat.{not-suc-le-zero, le-of-suc-le-suc}
 use native.Mathlib.Omega.{arith}
 use lib.Dec.{eqb, leb}
-use lib.ListN.{length, getD, drop}
-use borrow.Author.Tests.{ne-eqb, leb-true, le-leb}
+use lib.ListN.{length, getD, drop, length-append}
+use borrow.Author.Tests.{eqb-true, eqb-false, ne-eqb, leb-true, le-leb}
 use Rattle.rules.specs.Family.{_∈_}
 use Rattle.rules.specs.Lists.{decimalOf}
 use Rattle.rules.specs.Sheet.{columnNames, Field, all, within, letter, digit, letterOrDigit, isName, isColumn, isKind, countKind, sameBytes, newName, namesDiffer, plotMark, treatmentMark, decimal}
 use Rattle.rules.specs.Names.{withCommas}
-use Rattle.rules.specs.Naming.{Kind, markOf, kindNames}
+use Rattle.rules.specs.Naming.{Kind, plot, treatment, markOf, kindNames, lookedNames}
+use Rattle.rules.proofs.Lists.{AppendAt, append-at}
 use Rattle.rules.proofs.Numbering.{by-cases}
 use Rattle.rules.proofs.Members.{clash}
-use Rattle.rules.proofs.Sheet.{and-left, and-right, not-yes, same-self, decimal-back}
+use Rattle.rules.proofs.Sheet.{and-left, and-right, not-yes, same-self, decimal-back, column-plot, column-treatment}
 
 -- ---- the form of a name
 
@@ -103,6 +105,64 @@ module _ (kind : Kind) where
       here rest (suc a) zero la lb r = absurd (new-differs f fs new a (le-of-suc-le-suc la) (sym r))
       here rest (suc a) (suc b) la lb r = ap suc (rest a b (le-of-suc-le-suc la) (le-of-suc-le-suc lb) r)
 
+-- the name of a plot column is none of a treatment column
+kinds-differ : (fs : List Field) → all isColumn fs ≡ true → namesDiffer fs ≡ true → (j k : ℕ) → j < length (kindNames plot fs) → k < length (kindNames treatment fs)
+    → getD (kindNames plot fs) j [] ≡ getD (kindNames treatment fs) k [] → ⊥
+unfolding namesDiffer columnNames all
+kinds-differ [] a e j k hj hk q = not-suc-le-zero hj
+kinds-differ (f ∷ fs) a e j k hj hk q =
+    let g = and-left (isColumn f) (all isColumn fs) a in
+    let rest = kinds-differ fs (and-right (isColumn f) (all isColumn fs) a) (and-right (newName f fs) (namesDiffer fs) e) in
+    by-cases (eqb (getD f 0 0) 112)
+    (λ b. let c = column-plot f g (eqb-true _ _ b) in
+    of-plot rest j k (rw (c .0, columnNames) at hj) (rw (c .1, columnNames) at hk) (rw (c .0, c .1, columnNames) at q))
+    (λ b. let c = column-treatment f g (eqb-false _ _ b) in
+    of-treatment rest j k (rw (c .0, columnNames) at hj) (rw (c .1, columnNames) at hk) (rw (c .0, c .1, columnNames) at q))
+  where
+    new : newName f fs ≡ true
+    new = and-left (newName f fs) (namesDiffer fs) e
+
+    of-plot : ((j k : ℕ) → j < length (kindNames plot fs) → k < length (kindNames treatment fs) → getD (kindNames plot fs) j [] ≡ getD (kindNames treatment fs) k [] → ⊥)
+        → (j k : ℕ) → j < suc (length (kindNames plot fs)) → k < length (kindNames treatment fs) → getD (drop 2 f ∷ kindNames plot fs) j [] ≡ getD (kindNames treatment fs) k [] → ⊥
+    of-plot rest zero k hj hk q = new-differs treatment f fs new k hk q
+    of-plot rest (suc j) k hj hk q = rest j k (le-of-suc-le-suc hj) hk q
+
+    of-treatment : ((j k : ℕ) → j < length (kindNames plot fs) → k < length (kindNames treatment fs) → getD (kindNames plot fs) j [] ≡ getD (kindNames treatment fs) k [] → ⊥)
+        → (j k : ℕ) → j < length (kindNames plot fs) → k < suc (length (kindNames treatment fs)) → getD (kindNames plot fs) j [] ≡ getD (drop 2 f ∷ kindNames treatment fs) k [] → ⊥
+    of-treatment rest j zero hj hk q = new-differs plot f fs new j hj (sym q)
+    of-treatment rest j (suc k) hj hk q = rest j k hj (le-of-suc-le-suc hk) q
+
+-- ---- the names of the columns that a member looks at
+
+-- what holds of the names of a list of columns
+pub record GoodNames (names : List (List ℕ)) : Type 0 where
+  pub good : (k : ℕ) → k < length names → isName (getD names k []) ≡ true
+  pub differ : (j k : ℕ) → j < length names → k < length names → getD names j [] ≡ getD names k [] → j ≡ k
+
+-- two such lists without a name in common
+both-good : (xs ys : List (List ℕ)) → GoodNames xs → GoodNames ys → ((j k : ℕ) → j < length xs → k < length ys → getD xs j [] ≡ getD ys k [] → ⊥) → GoodNames (xs ++ ys)
+both-good xs ys gx gy apart = record {
+  good = λ k h. ⊎-elim (λ w. rw (w .1) (gx .good k (w .0))) (λ w. rw (w .2) (gy .good (w .0) (less k (w .0) (w .1) h))) (append-at [] xs ys k);
+  differ = λ j k hj hk q. one j k hj hk q (append-at [] xs ys j) (append-at [] xs ys k);
+}
+  where
+    less : (k i : ℕ) → k ≡ length xs + i → k < length (xs ++ ys) → i < length ys
+    less k i e h = omega (arith, length-append xs ys)
+
+    one : (j k : ℕ) → j < length (xs ++ ys) → k < length (xs ++ ys) → getD (xs ++ ys) j [] ≡ getD (xs ++ ys) k [] → AppendAt [] xs ys j → AppendAt [] xs ys k → j ≡ k
+    one j k hj hk q (inl a) (inl b) = gx .differ j k (a .0) (b .0) (sym (a .1) ∙ q ∙ b .1)
+    one j k hj hk q (inl a) (inr b) = absurd (apart j (b .0) (a .0) (less k (b .0) (b .1) hk) (sym (a .1) ∙ q ∙ b .2))
+    one j k hj hk q (inr a) (inl b) = absurd (apart k (a .0) (b .0) (less j (a .0) (a .1) hj) (sym (b .1) ∙ sym q ∙ a .2))
+    one j k hj hk q (inr a) (inr b) = a .1 ∙ ap (λ (i : ℕ). length xs + i) (gy .differ (a .0) (b .0) (less j (a .0) (a .1) hj) (less k (b .0) (b .1) hk) (sym (a .2) ∙ q ∙ b .2)) ∙ sym (b .1)
+
+pub kind-good : (kind : Kind) (fs : List Field) → all isColumn fs ≡ true → namesDiffer fs ≡ true → GoodNames (kindNames kind fs)
+kind-good kind fs a e = record { good = kind-names-good kind fs a; differ = kind-names-differ kind fs e }
+
+pub looked-good : (kind : Kind) (fs : List Field) → all isColumn fs ≡ true → namesDiffer fs ≡ true → GoodNames (lookedNames kind fs)
+unfolding lookedNames
+looked-good plot fs a e = kind-good plot fs a e
+looked-good treatment fs a e = both-good (kindNames plot fs) (kindNames treatment fs) (kind-good plot fs a e) (kind-good treatment fs a e) (kinds-differ fs a e)
+
 -- ---- what kind of name it is
 
 pub data Sort : Type 0 where
@@ -110,14 +170,15 @@ pub data Sort : Type 0 where
   sort-E : Sort
   sort-column : List ℕ → Sort
   sort-infimum : List ℕ → Sort
+  sort-supremum : List ℕ → Sort
   sort-place : ℕ → Sort
 
--- `#` begins a place, `(` is the second byte of an infimum, and a column's name has two bytes or more
+-- `#` begins a place, `(` is the second byte of an infimum, which `I` begins, or of a supremum, and a column's name has two bytes or more
 unfoldable pub sortOf : List ℕ → Sort
 sortOf w = elim (eqb (getD w 0 0) 35) [
   | true ↦ sort-place (decimal (drop 1 w))
   | false ↦ elim (eqb (getD w 1 0) 40) [
-    | true ↦ sort-infimum (drop 2 w)
+    | true ↦ elim (eqb (getD w 0 0) 73) [ true ↦ sort-infimum (drop 2 w) | false ↦ sort-supremum (drop 2 w) ]
     | false ↦ elim (leb 2 (length w)) [ true ↦ sort-column w | false ↦ elim (eqb (getD w 0 0) 85) [ true ↦ sort-U | false ↦ sort-E ] ]
   ]
 ]
@@ -133,6 +194,10 @@ sort-of-E = refl
 pub sort-of-infimum : (w : List ℕ) → sortOf (73 ∷ 40 ∷ w) ≡ sort-infimum w
 unfolding sortOf
 sort-of-infimum w = refl
+
+pub sort-of-supremum : (w : List ℕ) → sortOf (83 ∷ 40 ∷ w) ≡ sort-supremum w
+unfolding sortOf
+sort-of-supremum w = refl
 
 pub sort-of-place : (i : ℕ) → sortOf (35 ∷ decimalOf i) ≡ sort-place i
 unfolding sortOf

@@ -1,45 +1,44 @@
 -- Laws of the rules of naming: the name given to a member is that of the first rule that fits, said of factors, and of no other.
 -- Assumes nothing.
 use mathlib.Core.Path.{_≡_, refl, sym, ap, _∙_, subst}
-use mathlib.Core.Logic.{_↔_, _⊎_, inl, inr}
-use mathlib.Core.Bool.{Bool, true, false, not, _&&_}
-use mathlib.Core.List.{List, [], _∷_, List·Memᴰ·head, List·Memᴰ·tail, List·Memᴰ·cases-cons, List·Memᴰ·not-nil}
+use mathlib.Core.Logic.{_↔_}
+use mathlib.Core.Bool.{Bool, true, false, _&&_}
+use mathlib.Core.List.{List, [], _∷_, List·Memᴰ·head, List·Memᴰ·tail}
 use Prim.Native.Nat.{ℕ, zero, suc, _+_, _-_, _≤_, _<_}
 use native.Mathlib.Nat.{not-suc-le-zero, suc-inj, suc-ne-zero}
 use native.Mathlib.Omega.{arith}
 use lib.Dec.{eqb, ltb, leb}
 use lib.ListN.{length, getD}
-use borrow.Author.Tests.{eqb-true, eqb-false, eq-eqb, ne-eqb, ltb-true, ltb-false, le-ltb, leb-true}
-use Rattle.rules.specs.Factor.{Column, Same, Finer, Equivalent, every, finer, coarser, number, classes}
+use borrow.Author.Tests.{eqb-true, eqb-false, eq-eqb, ne-eqb, ltb-true, ltb-false, leb-true}
+use Rattle.rules.specs.Factor.{Column, Same, Finer, Equivalent, finer, number, classes, equality, Chain, start as begin, alongF, alongG}
 use Rattle.rules.specs.Family.{Family, _∈_, alike, membersOf, wellFormed}
 use Rattle.rules.specs.Design.{plotsWithin, allNonzero}
-use Rattle.rules.specs.Lists.{passingFrom}
 use Rattle.rules.specs.Relation.{memberAt}
-use Rattle.rules.specs.Names.{Name, name-column, name-infimum, equivalentColumn, infimumAbove, columnAbove, hides, listed, nameByInfimum, nameByColumn, nameOf}
-use Rattle.rules.specs.Sheet.{header, countKind, question2, question3}
-use Rattle.rules.specs.Naming.{Kind, plot, treatment, markOf, firstColumn, kindColumns, nameOn, nameAt, NameAnswer, namingWithin, namingFrom7, naming}
+use Rattle.rules.specs.Names.{Name, name-infimum, name-supremum, coarserSide, finerSide, equivalentColumn, joinOf, shown, nameBySupremum, nameByInfimum, nameByColumn, nameOf}
+use Rattle.rules.specs.Sheet.{question2, question3}
+use Rattle.rules.specs.Naming.{Kind, kindColumns, lookedAt, nameOn, nameAt, NameAnswer, namingWithin, namingFrom7, naming}
 use Rattle.rules.specs.Listing.{Enumerates}
-use Rattle.rules.specs.NamesMeant.{IsInfimum, NoneIs, ListedAbove, Rule, rule-U, rule-E, rule-column, rule-infimum, rule-place, NamedByRule}
-use Rattle.rules.proofs.Numbering.{by-cases, number-infimum}
+use Rattle.rules.specs.NamesMeant.{IsInfimum, ChainBelow, start, along, IsSupremum, NoneIs, ListedAbove, ListedBelow, Rule, rule-U, rule-E, rule-column, rule-infimum, rule-supremum, rule-place, NamedByRule}
+use Rattle.rules.proofs.Numbering.{by-cases}
 use Rattle.rules.proofs.Members.{clash, alike-sound, alike-self}
 use Rattle.rules.proofs.Walks.{bool-false}
-use Rattle.rules.proofs.Supremum.{number-equivalent}
-use Rattle.rules.proofs.Bounds.{finer-trans, numbered-equal, length-infimum′, infimum-same′}
-use Rattle.rules.proofs.Extremes.{length-universal, number-universal}
+use Rattle.rules.proofs.Supremum.{number-equivalent, chain-end}
+use Rattle.rules.proofs.Tests.{supremum-chain′}
+use Rattle.rules.proofs.Bounds.{numbered-equal, infimum-same′}
 use Rattle.rules.proofs.Classes.{finer-test}
-use Rattle.rules.proofs.ClassCount.{finer-universal}
-use Rattle.rules.proofs.Tests.{every-at, every-all}
-use Rattle.rules.proofs.Sheet.{and-left, and-right, header-form}
+use Rattle.rules.proofs.ClassCount.{at-up, finer-universal, one-class, each-class}
+use Rattle.rules.proofs.Sheet.{and-left, and-right}
 use Rattle.rules.proofs.WellFormed.{Accepted, accepted, member-at, numbered-at}
-use Rattle.rules.proofs.Demand3.{column-length}
 use Rattle.rules.proofs.Taken.{members-on}
 use Rattle.rules.proofs.Buffer.{length-columns}
-use Rattle.rules.proofs.Listing.{passing-enumerates, enumerates-as, enumerates-unique}
+use Rattle.rules.proofs.Listing.{enumerates-as, enumerates-unique}
+use Rattle.rules.proofs.NameSides.{On, on-tail, coarser-laws, finer-laws, length-join, join-towards, join-fits, shown-lists, listed-there, none-listed, one-listed}
+use Rattle.rules.proofs.NamesLooked.{kind-on, looked-on}
 
 -- ---- the lowest equivalent column
 
 -- column c, from 0, is the lowest one whose numbering is F
-abbrev Lowest : Column → List Column → ℕ → Type 0
+abbrev pub Lowest : Column → List Column → ℕ → Type 0
 Lowest F Cs c = (c < length Cs) × (number (getD Cs c []) ≡ F) × ((j : ℕ) → j < c → number (getD Cs j []) ≡ F → ⊥)
 
 equivalent-none : (F : Column) (i : ℕ) (Cs : List Column) → equivalentColumn F i Cs ≡ 0 → (j : ℕ) → j < length Cs → number (getD Cs j []) ≡ F → ⊥
@@ -70,124 +69,95 @@ equivalent-lowest F i (C ∷ Cs) x e =
         below zero h r = clash (subst (λ (G : Column). alike (number C) G ≡ true) r (alike-self (number C))) a
         below (suc j) h r = lower j (omega arith) r
 
--- ---- the infimum of the columns above a member
+-- the number found is that of the lowest
+pub lowest-is : (F : Column) (Cs : List Column) (c : ℕ) → equivalentColumn F 0 Cs ≡ suc c → Lowest F Cs c
+lowest-is F Cs c e = let w = equivalent-lowest F 0 Cs c e in let q : w .0 ≡ c = omega (arith, w .1) in subst (Lowest F Cs) q (w .2)
+
+-- ---- the infimum of the columns above a member, the supremum of those below it
 
 module _ (n : ℕ) (F : Column) where
-  abbrev On : List Column → Type 0
-  On Cs = (C : Column) → C ∈ Cs → length C ≡ n
+  abbrev above : List Column → Column
+  above Cs = joinOf (coarserSide n) F Cs
 
-  on-tail : (C : Column) (Cs : List Column) → On (C ∷ Cs) → On Cs
-  on-tail C Cs on D m = on D (List·Memᴰ·tail m)
+  abbrev below : List Column → Column
+  below Ls = joinOf (finerSide n) F Ls
 
-  length-above : (Cs : List Column) → On Cs → length (infimumAbove n F Cs) ≡ n
-  unfolding infimumAbove
-  length-above [] on = length-universal n
-  length-above (C ∷ Cs) on =
-      let rest = length-above Cs (on-tail C Cs on) in
-      by-cases (finer n F C) (λ e. rw (e, infimumAbove) (length-infimum′ n C (infimumAbove n F Cs) (on C (List·Memᴰ·head refl)) rest)) (λ e. rw (e, infimumAbove) rest)
-
-  number-above : (Cs : List Column) → On Cs → number (infimumAbove n F Cs) ≡ infimumAbove n F Cs
-  unfolding infimumAbove
-  number-above [] on = number-universal n
-  number-above (C ∷ Cs) on =
-      by-cases (finer n F C)
-      (λ e. rw (e, infimumAbove) (number-infimum C (infimumAbove n F Cs) (on C (List·Memᴰ·head refl) ∙ sym (length-above Cs (on-tail C Cs on)))))
-      (λ e. rw (e, infimumAbove) (number-above Cs (on-tail C Cs on)))
-
-  -- two plots share a class of it exactly when they share one in each column above
+  -- two plots share a class of the infimum exactly when they share one in each column above
   abbrev Agree : List Column → ℕ → ℕ → Type 0
   Agree Cs u v = (C : Column) → C ∈ Cs → Finer n F C → Same C u v
 
-  above-same : (Cs : List Column) → On Cs → (u v : ℕ) → u < n → v < n → Same (infimumAbove n F Cs) u v ↔ Agree Cs u v
-  unfolding infimumAbove
-  above-same [] on u v hu hv = (λ s C m. absurd (List·Memᴰ·not-nil m), λ h. finer-universal n [] u v hu hv refl)
-  above-same (C ∷ Cs) on u v hu hv =
-      let rest = above-same Cs (on-tail C Cs on) u v hu hv in
-      let both = infimum-same′ n C (infimumAbove n F Cs) (on C (List·Memᴰ·head refl)) (length-above Cs (on-tail C Cs on)) u v hu hv in
+  agreeing : (Cs : List Column) → On n Cs → (u v : ℕ) → u < n → v < n → Agree Cs u v → Same (above Cs) u v
+  unfolding joinOf
+  agreeing [] on u v hu hv h = finer-universal n [] u v hu hv refl
+  agreeing (C ∷ Cs) on u v hu hv h =
+      let rest = agreeing Cs (on-tail on) u v hu hv (λ D m. h D (List·Memᴰ·tail m)) in
       by-cases (finer n F C)
-      (λ e. rw (e, infimumAbove) (λ s D m f. member D f (both .0 s .0) (rest .0 (both .0 s .1)) (List·Memᴰ·cases-cons m), λ h. both .1 (h C (List·Memᴰ·head refl) (finer-test n F C .0 e), rest .1 (λ D m. h D (List·Memᴰ·tail m)))))
-      (λ e. rw (e, infimumAbove) (λ s D m f. other e D f (rest .0 s) (List·Memᴰ·cases-cons m), λ h. rest .1 (λ D m. h D (List·Memᴰ·tail m))))
+      (λ e. rw (e, joinOf) (infimum-same′ n C (above Cs) (on C (List·Memᴰ·head refl)) (length-join n (coarserSide n) (coarser-laws n) F Cs (on-tail on)) u v hu hv .1 (h C (List·Memᴰ·head refl) (finer-test n F C .0 e), rest)))
+      (λ e. rw (e, joinOf) rest)
+
+  infimum-agrees : (Cs : List Column) → On n Cs → (u v : ℕ) → u < n → v < n → Same (above Cs) u v ↔ Agree Cs u v
+  infimum-agrees Cs on u v hu hv = (
+    λ s C m f. finer-test n (above Cs) C .0 (join-towards n (coarserSide n) (coarser-laws n) F Cs on C m (finer-test n F C .1 f)) u v hu hv s,
+    agreeing Cs on u v hu hv,
+  )
+
+  -- and one of the supremum exactly when a chain joins them
+  chain-within : {Ls : List Column} {u v : ℕ} → u < n → ChainBelow n Ls F u v → v < n
+  chain-within h start = h
+  chain-within h (along c k C m f s) = k
+
+  chain-on : {Ls : List Column} {u w v : ℕ} → ChainBelow n Ls F u w → ChainBelow n Ls F w v → ChainBelow n Ls F u v
+  chain-on c start = c
+  chain-on c (along d k C m f s) = along (chain-on c d) k C m f s
+
+  chain-more : {C : Column} {Ls : List Column} {u v : ℕ} → ChainBelow n Ls F u v → ChainBelow n (C ∷ Ls) F u v
+  chain-more start = start
+  chain-more (along c k D m f s) = along (chain-more c) k D (List·Memᴰ·tail m) f s
+
+  chaining : (Ls : List Column) → On n Ls → (u v : ℕ) → u < n → v < n → Same (below Ls) u v → ChainBelow n Ls F u v
+  unfolding joinOf equality
+  chaining [] on u v hu hv s = let q : u ≡ v = omega (arith, s, at-up n 1 u hu, at-up n 1 v hv) in subst (ChainBelow n [] F u) q start
+  chaining (C ∷ Ls) on u v hu hv s =
+      by-cases (finer n C F)
+      (λ e. links (finer-test n C F .0 e) (chaining Ls (on-tail on)) (supremum-chain′ n C (below Ls) (on C (List·Memᴰ·head refl)) (length-join n (finerSide n) (finer-laws n) F Ls (on-tail on)) u v hu hv .0 (rw (e, joinOf) at s)))
+      (λ e. chain-more (chaining Ls (on-tail on) u v hu hv (rw (e, joinOf) at s)))
     where
-      member : (D : Column) → Finer n F D → Same C u v → Agree Cs u v → (D ≡ C) ⊎ (D ∈ Cs) → Same D u v
-      member D f s rest (inl q) = subst (λ (K : Column). Same K u v) (sym q) s
-      member D f s rest (inr m) = rest D m f
+      links : Finer n C F → ((x y : ℕ) → x < n → y < n → Same (below Ls) x y → ChainBelow n Ls F x y) → {w : ℕ} → Chain n C (below Ls) u w → ChainBelow n (C ∷ Ls) F u w
+      links f rest begin = start
+      links f rest (alongF c k t) = along (links f rest c) k C (List·Memᴰ·head refl) f t
+      links f rest (alongG {w = x} {v = y} c k t) = chain-on (links f rest c) (chain-more (rest x y (chain-end hu c) k t))
 
-      other : finer n F C ≡ false → (D : Column) → Finer n F D → Agree Cs u v → (D ≡ C) ⊎ (D ∈ Cs) → Same D u v
-      other e D f rest (inl q) = clash (finer-test n F C .1 (subst (λ (K : Column). Finer n F K) q f)) e
-      other e D f rest (inr m) = rest D m f
-
-  -- the fourth rule fits exactly that infimum
-  infimum-is : (Cs : List Column) → On Cs → length F ≡ n → number F ≡ F → (alike (infimumAbove n F Cs) F ≡ true) ↔ IsInfimum n Cs F
-  infimum-is Cs on lF nF = (to, from)
-    where
-      to : alike (infimumAbove n F Cs) F ≡ true → IsInfimum n Cs F
-      to e u v hu hv = subst (λ (K : Column). Same K u v ↔ Agree Cs u v) (alike-sound (infimumAbove n F Cs) F e) (above-same Cs on u v hu hv)
-
-      from : IsInfimum n Cs F → alike (infimumAbove n F Cs) F ≡ true
-      from h = subst (λ (K : Column). alike (infimumAbove n F Cs) K ≡ true) same (alike-self (infimumAbove n F Cs))
-        where
-          same : infimumAbove n F Cs ≡ F
-          same =
-              sym (number-above Cs on)
-              ∙ numbered-equal n (infimumAbove n F Cs) F (length-above Cs on) lF (record {
-                to = λ u v hu hv s. h u v hu hv .1 (above-same Cs on u v hu hv .0 s);
-                from = λ u v hu hv s. above-same Cs on u v hu hv .1 (h u v hu hv .0 s);
-              })
-              ∙ nF
+  chained : (Ls : List Column) → On n Ls → {u v : ℕ} → u < n → ChainBelow n Ls F u v → Same (below Ls) u v
+  chained Ls on h start = refl
+  chained Ls on h (along {w} {v} c k C m f s) =
+      chained Ls on h c ∙ finer-test n C (below Ls) .0 (join-towards n (finerSide n) (finer-laws n) F Ls on C m (finer-test n C F .1 f)) w v (chain-within h c) k s
 
 -- ---- the columns listed
 
-module _ (n : ℕ) (F : Column) (Cs : List Column) where
-  abbrev column : ℕ → Column
-  column c = getD Cs c []
+module _ (n : ℕ) (F : Column) where
+  -- "only those with no strictly finer one among them (of equivalents the lowest)", in column order, none twice
+  pub infimum-lists : (Cs : List Column) → Enumerates (ListedAbove n Cs F) (shown (coarserSide n) F Cs)
+  infimum-lists Cs =
+      enumerates-as _ (λ c. (λ w. record { less = w .0; above = w .1; none-finer = w .2; lowest = w .3 }, λ w. (w .less, w .above, w .none-finer, w .lowest)))
+      (shown-lists n (coarserSide n) (coarser-laws n) F Cs (Finer n) (finer-test n))
 
-  abbrev free : ℕ → ℕ → Bool
-  free c j = not (columnAbove n F Cs j && hides n Cs j c)
-
-  listed-test : (c : ℕ) → ((0 ≤ c) × (c < 0 + length Cs) × (listed n F Cs c ≡ true)) ↔ ListedAbove n Cs F c
-  unfolding listed columnAbove hides coarser
-  listed-test c = (to, from)
-    where
-      to : (0 ≤ c) × (c < 0 + length Cs) × (listed n F Cs c ≡ true) → ListedAbove n Cs F c
-      to w = record { less = omega (arith, w .1); above = finer-test n F (column c) .0 up; none-finer = none; lowest = low }
-        where
-          up : finer n F (column c) ≡ true
-          up = and-left (finer n F (column c)) (every (length Cs) (free c)) (w .2)
-
-          passes : (j : ℕ) → j < length Cs → free c j ≡ true
-          passes = every-at (length Cs) (free c) (and-right (finer n F (column c)) (every (length Cs) (free c)) (w .2))
-
-          none : (j : ℕ) → j < length Cs → Finer n F (column j) → Finer n (column j) (column c) → Finer n (column c) (column j)
-          none j h f g =
-              by-cases (finer n (column c) (column j))
-              (λ e. finer-test n (column c) (column j) .0 e)
-              (λ e. clash (passes j h) (rw (finer-test n F (column j) .1 f, finer-test n (column j) (column c) .1 g, e)))
-
-          low : (j : ℕ) → j < length Cs → Equivalent n (column j) (column c) → c ≤ j
-          low j h q =
-              by-cases (ltb j c)
-              (λ e. clash (passes j h) (rw (finer-test n F (column j) .1 (finer-trans n F (column c) (column j) (finer-test n F (column c) .0 up) (q .from)), finer-test n (column j) (column c) .1 (q .to), finer-test n (column c) (column j) .1 (q .from), e)))
-              (λ e. ltb-false j c e)
-
-      from : ListedAbove n Cs F c → (0 ≤ c) × (c < 0 + length Cs) × (listed n F Cs c ≡ true)
-      from w = (omega arith, omega (arith, w .less), rw (finer-test n F (column c) .1 (w .above)) (every-all (length Cs) (free c) each))
-        where
-          each : (j : ℕ) → j < length Cs → free c j ≡ true
-          each j h =
-              by-cases (finer n F (column j))
-              (λ f. by-cases (finer n (column j) (column c))
-              (λ g. let back = w .none-finer j h (finer-test n F (column j) .0 f) (finer-test n (column j) (column c) .0 g) in
-              rw (f, g, finer-test n (column c) (column j) .1 back, le-ltb j c (w .lowest j h (record { to = finer-test n (column j) (column c) .0 g; from = back }))))
-              (λ g. rw (f, g)))
-              (λ f. rw f)
-
-  -- the names listed are "only those with no strictly finer one among them (of equivalents the lowest)", in column order, none twice
-  pub infimum-lists : Enumerates (ListedAbove n Cs F) (passingFrom (listed n F Cs) 0 (length Cs))
-  infimum-lists = enumerates-as _ listed-test (passing-enumerates (listed n F Cs) 0 (length Cs))
+  -- "only those with no strictly coarser one among them, of equivalents the first", in the columns' order, none twice
+  pub supremum-lists : (Ls : List Column) → Enumerates (ListedBelow n Ls F) (shown (finerSide n) F Ls)
+  supremum-lists Ls =
+      enumerates-as _ (λ c. (λ w. record { less = w .0; below = w .1; none-coarser = w .2; first = w .3 }, λ w. (w .less, w .below, w .none-coarser, w .first)))
+      (shown-lists n (finerSide n) (finer-laws n) F Ls (λ G H. Finer n H G) (λ G H. finer-test n H G))
 
 -- ---- the rules
 
-module _ (n : ℕ) (Cs : List Column) (on : (C : Column) → C ∈ Cs → length C ≡ n) (place : ℕ) (F : Column) (lF : length F ≡ n) (nF : number F ≡ F) where
+module _ (n : ℕ) (Cs Ls : List Column) (on : On n Cs) (on′ : On n Ls) (place : ℕ) (F : Column) (lF : length F ≡ n) (nF : number F ≡ F) where
+  -- the fourth rule fits exactly that infimum
+  pub infimum-fits : (alike (joinOf (coarserSide n) F Cs) F ≡ true) ↔ IsInfimum n Cs F
+  infimum-fits = join-fits n (coarserSide n) (coarser-laws n) F Cs on lF nF (Agree n F Cs) (infimum-agrees n F Cs on)
+
+  -- and the fifth exactly that supremum
+  pub supremum-fits : (alike (joinOf (finerSide n) F Ls) F ≡ true) ↔ IsSupremum n Ls F
+  supremum-fits = join-fits n (finerSide n) (finer-laws n) F Ls on′ lF nF (ChainBelow n Ls F) (λ u v hu hv. (chaining n F Ls on′ u v hu hv, chained n F Ls on′ hu))
+
   -- equivalent columns are those whose numbering it is
   is-equivalent : (i : ℕ) → i < length Cs → (number (getD Cs i []) ≡ F) ↔ Equivalent n F (getD Cs i [])
   is-equivalent i h = (
@@ -198,12 +168,9 @@ module _ (n : ℕ) (Cs : List Column) (on : (C : Column) → C ∈ Cs → length
       column-on : (i : ℕ) → i < length Cs → length (getD Cs i []) ≡ n
       column-on i h = on (getD Cs i []) (member-at Cs i h)
 
-  pub infimum-fits : (alike (infimumAbove n F Cs) F ≡ true) ↔ IsInfimum n Cs F
-  infimum-fits = infimum-is n F Cs on lF nF
-
   -- the name given is one that fits
-  pub name-rule : Rule n Cs place F (nameOf n Cs place F)
-  unfolding nameOf nameByColumn nameByInfimum
+  pub name-rule : Rule n Cs Ls place F (nameOf n Cs Ls place F)
+  unfolding nameOf nameByColumn nameByInfimum nameBySupremum
   name-rule =
       by-cases (eqb (classes F) 1)
       (λ e. rw (e, nameOf) (rule-U (eqb-true (classes F) 1 e)))
@@ -211,18 +178,16 @@ module _ (n : ℕ) (Cs : List Column) (on : (C : Column) → C ∈ Cs → length
       (λ f. rw (e, f, nameOf) (rule-E (eqb-false (classes F) 1 e) (eqb-true (classes F) n f)))
       (λ f. rw (e, f, nameOf) (by-column (eqb-false (classes F) 1 e) (eqb-false (classes F) n f) (equivalentColumn F 0 Cs) refl)))
     where
-      by-column : (classes F ≡ 1 → ⊥) → (classes F ≡ n → ⊥) → (x : ℕ) → equivalentColumn F 0 Cs ≡ x → Rule n Cs place F (nameByColumn n Cs place F x)
-      by-column a b (suc x) e = found (equivalent-lowest F 0 Cs x e)
-        where
-          found : (c : ℕ) × (x ≡ 0 + c) × Lowest F Cs c → Rule n Cs place F (name-column x)
-          found (c, q, (l, is, lower)) =
-              let same : c ≡ x = omega arith in
-              subst (λ (y : ℕ). Rule n Cs place F (name-column y)) same (rule-column a b c l (is-equivalent c l .0 is) (λ j h w. lower j h (is-equivalent j (omega arith) .1 w)))
+      by-column : (classes F ≡ 1 → ⊥) → (classes F ≡ n → ⊥) → (x : ℕ) → equivalentColumn F 0 Cs ≡ x → Rule n Cs Ls place F (nameByColumn n Cs Ls place F x)
+      by-column a b (suc c) e = let w = lowest-is F Cs c e in rule-column a b c (w .0) (is-equivalent c (w .0) .0 (w .1)) (λ j h q. w .2 j h (is-equivalent j (omega (arith, w .0)) .1 q))
       by-column a b zero e =
           let none : NoneIs n Cs F = λ j h w. equivalent-none F 0 Cs e j h (is-equivalent j h .1 w) in
-          by-cases (alike (infimumAbove n F Cs) F)
-          (λ i. rw (i, nameByInfimum) (rule-infimum a b none (infimum-fits .0 i) (passingFrom (listed n F Cs) 0 (length Cs)) (infimum-lists n F Cs)))
-          (λ i. rw (i, nameByInfimum) (rule-place a b none (λ w. clash {P = ⊥} (infimum-fits .1 w) i)))
+          by-cases (alike (joinOf (coarserSide n) F Cs) F)
+          (λ i. rw (i, nameByInfimum) (rule-infimum a b none (infimum-fits .0 i) (shown (coarserSide n) F Cs) (infimum-lists n F Cs)))
+          (λ i. let unfit : IsInfimum n Cs F → ⊥ = λ w. clash (infimum-fits .1 w) i in
+          by-cases (alike (joinOf (finerSide n) F Ls) F)
+          (λ j. rw (i, j, nameByInfimum, nameBySupremum) (rule-supremum a b none unfit (supremum-fits .0 j) (shown (finerSide n) F Ls) (supremum-lists n F Ls)))
+          (λ j. rw (i, j, nameByInfimum, nameBySupremum) (rule-place a b none unfit (λ w. clash (supremum-fits .1 w) j))))
 
   -- no column is equivalent: the third rule does not fit
   past-columns : NoneIs n Cs F → equivalentColumn F 0 Cs ≡ 0
@@ -230,40 +195,78 @@ module _ (n : ℕ) (Cs : List Column) (on : (C : Column) → C ∈ Cs → length
     where
       go : (x : ℕ) → equivalentColumn F 0 Cs ≡ x → equivalentColumn F 0 Cs ≡ 0
       go zero e = e
-      go (suc x) e = let w = equivalent-lowest F 0 Cs x e in absurd (none (w .0) (w .2 .0) (is-equivalent (w .0) (w .2 .0) .0 (w .2 .1)))
+      go (suc c) e = let w = lowest-is F Cs c e in absurd (none c (w .0) (is-equivalent c (w .0) .0 (w .1)))
+
+  -- nor does the fourth
+  past-infimum : (IsInfimum n Cs F → ⊥) → alike (joinOf (coarserSide n) F Cs) F ≡ false
+  past-infimum i = bool-false (alike (joinOf (coarserSide n) F Cs) F) (λ e. i (infimum-fits .0 e))
 
   -- a name that fits is the one given
-  pub rule-name : (x : Name) → Rule n Cs place F x → nameOf n Cs place F ≡ x
-  unfolding nameOf nameByColumn nameByInfimum
+  pub rule-name : (x : Name) → Rule n Cs Ls place F x → nameOf n Cs Ls place F ≡ x
+  unfolding nameOf nameByColumn nameByInfimum nameBySupremum
   rule-name x (rule-U e) = rw (eq-eqb (classes F) 1 e, nameOf)
   rule-name x (rule-E a e) = rw (ne-eqb (classes F) 1 a, eq-eqb (classes F) n e, nameOf)
-  rule-name x (rule-column a b c l e lowest) = rw (ne-eqb (classes F) 1 a, ne-eqb (classes F) n b, nameOf) (ap (nameByColumn n Cs place F) (go (equivalentColumn F 0 Cs) refl))
+  rule-name x (rule-column a b c l e lowest) = rw (ne-eqb (classes F) 1 a, ne-eqb (classes F) n b, nameOf) (ap (nameByColumn n Cs Ls place F) (go (equivalentColumn F 0 Cs) refl))
     where
       go : (x : ℕ) → equivalentColumn F 0 Cs ≡ x → equivalentColumn F 0 Cs ≡ suc c
       go zero q = absurd (equivalent-none F 0 Cs q c l (is-equivalent c l .1 e))
-      go (suc x) q = found (equivalent-lowest F 0 Cs x q)
-        where
-          found : (d : ℕ) × (x ≡ 0 + d) × Lowest F Cs d → equivalentColumn F 0 Cs ≡ suc c
-          found (d, r, (m, is, lower)) =
-              by-cases (ltb c d)
-              (λ f. absurd (lower c (ltb-true c d f) (is-equivalent c l .1 e)))
-              (λ f. by-cases (ltb d c)
-              (λ g. absurd (lowest d (ltb-true d c g) (is-equivalent d m .0 is)))
-              (λ g. let k : suc x ≡ suc c = omega (arith, ltb-false c d f, ltb-false d c g) in q ∙ k))
+      go (suc d) q =
+          let w = lowest-is F Cs d q in
+          by-cases (ltb c d)
+          (λ f. absurd (w .2 c (ltb-true c d f) (is-equivalent c l .1 e)))
+          (λ f. by-cases (ltb d c)
+          (λ g. absurd (lowest d (ltb-true d c g) (is-equivalent d (w .0) .0 (w .1))))
+          (λ g. let k : suc d ≡ suc c = omega (arith, ltb-false c d f, ltb-false d c g) in q ∙ k))
   rule-name x (rule-infimum a b none i cs lists) =
       rw (ne-eqb (classes F) 1 a, ne-eqb (classes F) n b, past-columns none, nameOf) (rw (infimum-fits .1 i, nameByInfimum) (ap name-infimum (enumerates-unique _ _ cs (infimum-lists n F Cs) lists)))
-  rule-name x (rule-place a b none i) =
-      rw (ne-eqb (classes F) 1 a, ne-eqb (classes F) n b, past-columns none, nameOf) (rw (bool-false (alike (infimumAbove n F Cs) F) (λ e. i (infimum-fits .0 e)), nameByInfimum))
+  rule-name x (rule-supremum a b none i s cs lists) =
+      rw (ne-eqb (classes F) 1 a, ne-eqb (classes F) n b, past-columns none, nameOf)
+      (rw (past-infimum i, supremum-fits .1 s, nameByInfimum, nameBySupremum) (ap name-supremum (enumerates-unique _ _ cs (supremum-lists n F Ls) lists)))
+  rule-name x (rule-place a b none i s) =
+      rw (ne-eqb (classes F) 1 a, ne-eqb (classes F) n b, past-columns none, nameOf)
+      (rw (past-infimum i, bool-false (alike (joinOf (finerSide n) F Ls) F) (λ e. s (supremum-fits .0 e)), nameByInfimum, nameBySupremum))
 
   -- each name is given exactly where its rule is the first that fits
-  pub named-where : (x : Name) → (nameOf n Cs place F ≡ x) ↔ Rule n Cs place F x
-  named-where x = (λ e. subst (Rule n Cs place F) e name-rule, rule-name x)
+  pub named-where : (x : Name) → (nameOf n Cs Ls place F ≡ x) ↔ Rule n Cs Ls place F x
+  named-where x = (λ e. subst (Rule n Cs Ls place F) e name-rule, rule-name x)
+
+  -- ---- how many names
+
+  infimum-is : IsInfimum n Cs F → joinOf (coarserSide n) F Cs ≡ F
+  infimum-is i = alike-sound (joinOf (coarserSide n) F Cs) F (infimum-fits .1 i)
+
+  supremum-is : IsSupremum n Ls F → joinOf (finerSide n) F Ls ≡ F
+  supremum-is i = alike-sound (joinOf (finerSide n) F Ls) F (supremum-fits .1 i)
+
+  -- `I(` has two or more: of none it would be U, and one would be equivalent
+  pub infimum-names : 0 < n → (classes F ≡ 1 → ⊥) → NoneIs n Cs F → IsInfimum n Cs F → 2 ≤ length (shown (coarserSide n) F Cs)
+  infimum-names some many none i = go (shown (coarserSide n) F Cs) refl
+    where
+      go : (cs : List ℕ) → shown (coarserSide n) F Cs ≡ cs → 2 ≤ length cs
+      go [] e = absurd (many (one-class n F lF some .1 (none-listed n (coarserSide n) (coarser-laws n) F Cs on (infimum-is i) e)))
+      go (c ∷ []) e = absurd (none c (listed-there n (coarserSide n) (coarser-laws n) F Cs c (rw e (List·Memᴰ·head refl)) .0) (one-listed n (coarserSide n) (coarser-laws n) F Cs on (infimum-is i) c e))
+      go (c ∷ d ∷ cs) e = omega arith
+
+  -- `S(` has "at least one": of none it would be E
+  pub supremum-names : (classes F ≡ n → ⊥) → IsSupremum n Ls F → 1 ≤ length (shown (finerSide n) F Ls)
+  supremum-names fewer i = go (shown (finerSide n) F Ls) refl
+    where
+      go : (cs : List ℕ) → shown (finerSide n) F Ls ≡ cs → 1 ≤ length cs
+      go [] e = absurd (fewer (each-class n F lF .1 (none-listed n (finerSide n) (finer-laws n) F Ls on′ (supremum-is i) e)))
+      go (c ∷ cs) e = omega arith
+
+  -- where it has one only, the member is equivalent to that column: so this is a treatment member, and a plot column
+  pub supremum-one : IsSupremum n Ls F → (c : ℕ) → shown (finerSide n) F Ls ≡ c ∷ [] → Equivalent n F (getD Ls c [])
+  supremum-one i c e = one-listed n (finerSide n) (finer-laws n) F Ls on′ (supremum-is i) c e
 
 -- ---- the name answered
 
 module _ (kind : Kind) (text levels buffer : List ℕ) (n size place nameLength : ℕ) where
   abbrev Cs : List Column
   Cs = kindColumns kind text n levels
+
+  abbrev Ls : List Column
+  Ls = lookedAt kind text n levels
 
   abbrev S : Family
   S = membersOf n buffer size
@@ -281,6 +284,7 @@ module _ (kind : Kind) (text levels buffer : List ℕ) (n size place nameLength 
     most : place ≤ size
     table : 2880 ≤ length levels
     family : 7680 ≤ length buffer
+    room : 160 ≤ nameLength
 
   limits : within ≡ true → Limits
   unfolding namingWithin plotsWithin
@@ -289,7 +293,8 @@ module _ (kind : Kind) (text levels buffer : List ℕ) (n size place nameLength 
       let w2 : Bool = w1 && ltb 0 place in
       let w3 : Bool = w2 && leb place size in
       let w4 : Bool = w3 && leb 2880 (length levels) in
-      let e5 = and-left (w4 && leb 7680 (length buffer)) (leb 96 nameLength) e in
+      let w5 : Bool = w4 && leb 7680 (length buffer) in
+      let e5 = and-left w5 (leb 160 nameLength) e in
       let e4 = and-left w4 (leb 7680 (length buffer)) e5 in
       let e3 = and-left w3 (leb 2880 (length levels)) e4 in
       let e2 = and-left w2 (leb place size) e3 in
@@ -299,24 +304,27 @@ module _ (kind : Kind) (text levels buffer : List ℕ) (n size place nameLength 
         most = leb-true place size (and-right w2 (leb place size) e3);
         table = leb-true 2880 (length levels) (and-right w3 (leb 2880 (length levels)) e4);
         family = leb-true 7680 (length buffer) (and-right w4 (leb 7680 (length buffer)) e5);
+        room = leb-true 160 nameLength (and-right w5 (leb 160 nameLength) e);
       }
 
-  -- the questions that an accepted call passed
-  record Passed : Type 0 where
-    by-3 : question3 text ≡ true
-    by-6 : within ≡ true
-    by-15 : wellFormed S ≡ true
-    is : answered ≡ record { refusal = 0; name = nameAt kind text n levels S place }
+  -- the questions that an accepted call passed: "7 covers every column looked at"
+  pub record Passed : Type 0 where
+    pub by-2 : question2 text ≡ true
+    pub by-3 : question3 text ≡ true
+    pub by-6 : within ≡ true
+    pub by-7 : allNonzero Ls ≡ true
+    pub by-15 : wellFormed S ≡ true
+    pub is : answered ≡ record { refusal = 0; name = nameAt kind text n levels S place }
 
-  passed : answered .refusal ≡ 0 → Passed
+  pub passed : answered .refusal ≡ 0 → Passed
   unfolding naming namingFrom7
   passed e =
       by-cases (question2 text)
       (λ a. by-cases (question3 text)
       (λ b. by-cases within
-      (λ c. by-cases (allNonzero Cs)
+      (λ c. by-cases (allNonzero Ls)
       (λ d. by-cases (wellFormed S)
-      (λ f. record { by-3 = b; by-6 = c; by-15 = f; is = rw (a, naming, b, c, d, f, namingFrom7) })
+      (λ f. record { by-2 = a; by-3 = b; by-6 = c; by-7 = d; by-15 = f; is = rw (a, naming, b, c, d, f, namingFrom7) })
       (λ f. absurd (suc-ne-zero 14 (sym (rw (a, naming, b, c, d, f, namingFrom7)) ∙ e))))
       (λ d. absurd (suc-ne-zero 6 (sym (rw (a, naming, b, c, d, namingFrom7)) ∙ e))))
       (λ c. absurd (suc-ne-zero 5 (sym (rw (a, naming, b, c)) ∙ e))))
@@ -325,10 +333,10 @@ module _ (kind : Kind) (text levels buffer : List ℕ) (n size place nameLength 
 
   -- a name that is answered is that of the first rule that fits
   pub naming-rule : answered .refusal ≡ 0 → NamedByRule kind text levels buffer n size place nameLength
-  unfolding nameAt nameOn kindColumns membersOf
+  unfolding nameAt nameOn membersOf
   naming-rule e = record {
-    fitting = nameOf n Cs place F;
-    rule = name-rule n Cs (column-length n levels (countKind (markOf kind) (header text)) (firstColumn kind) (l .few) (l .table) (fits kind)) place F
+    fitting = nameOf n Cs Ls place F;
+    rule = name-rule n Cs Ls (kind-on kind text n levels (p .by-3) (l .few) (l .table)) (looked-on text n levels kind (p .by-3) (l .few) (l .table)) place F
         (members-on n buffer size 0 (l .few) (omega (arith, l .family, a .few, length-columns n buffer 0 size)) F there) (numbered-at S (a .numbered) (place - 1) less);
     bytes = ap (λ (x : NameAnswer). x .name) (p .is);
   }
@@ -350,7 +358,3 @@ module _ (kind : Kind) (text levels buffer : List ℕ) (n size place nameLength 
 
       there : F ∈ S
       there = member-at S (place - 1) less
-
-      fits : (k : Kind) → firstColumn k + countKind (markOf k) (header text) ≤ 12
-      fits plot = omega (arith, header-form text (p .by-3) .plots)
-      fits treatment = omega (arith, header-form text (p .by-3) .treatments)

@@ -83,7 +83,7 @@ module _ (L : Column) (i j : ℕ) (hi : i < length L) (hj : j < length L) where
 -- ---- chains
 
 module _ {n : ℕ} {F G : Column} where
-  chain-end : {u v : ℕ} → u < n → Chain n F G u v → v < n
+  pub chain-end : {u v : ℕ} → u < n → Chain n F G u v → v < n
   chain-end h start = h
   chain-end h (alongF c k s) = k
   chain-end h (alongG c k s) = k

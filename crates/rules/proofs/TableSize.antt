@@ -28,7 +28,7 @@ use Rattle.rules.proofs.DegreesLaws.{length-degrees, degrees-bound}
 use Rattle.rules.proofs.Sheet.{read-accepts}
 use Rattle.rules.proofs.Made.{WellMade, Placed, Tells, full-tells}
 use Rattle.rules.proofs.ReadSheets.{read-questions}
-use Rattle.rules.proofs.NameSize.{decimal-length, signed-length, name-length}
+use Rattle.rules.proofs.NameSize.{decimal-length, signed-length, longest, name-length, name-short-enough}
 
 -- ---- rows
 
@@ -94,16 +94,16 @@ Small z = natAbs z < 10 ^ 14
 abbrev AllSmall : List ℤ → Type 0
 AllSmall ds = (k : ℕ) → Small (getD ds k (pos 0))
 
-abbrev AllShort : List (List ℕ) → Type 0
-AllShort names = (k : ℕ) → length (getD names k []) ≤ 80
+abbrev AllShort : ℕ → List (List ℕ) → Type 0
+AllShort m names = (k : ℕ) → length (getD names k []) ≤ m
 
 small-signed : (z : ℤ) → Small z → length (signed z) ≤ 15
 small-signed z h = signed-length z 13 h
 
 module _ (name : List ℕ) (short : length name ≤ 80) (i : ℕ) where
   -- the lines of a stratum's treatment members
-  source-length : (ts : List (List ℕ)) (ss : List ℕ) (ds : List ℤ) → AllShort ts → AllSmall ds
-      → length (rowsBytes (sourceRows name i ts ss ds)) + 178 * countFrom (suc i) ss ≤ 178 * countFrom i ss
+  source-length : (ts : List (List ℕ)) (ss : List ℕ) (ds : List ℤ) → AllShort 158 ts → AllSmall ds
+      → length (rowsBytes (sourceRows name i ts ss ds)) + 256 * countFrom (suc i) ss ≤ 256 * countFrom i ss
   unfolding sourceRows
   source-length [] ss ds a b = omega (arith, rows-none, count-less i ss)
   source-length (t ∷ ts) [] ds a b = omega (arith, rows-none, count-less i [])
@@ -136,8 +136,8 @@ module _ (name : List ℕ) (short : length name ≤ 80) (i : ℕ) where
       ∙ ap (λ (x : ℕ). x + length (rowsBytes ((name ∷ wordTotal ∷ signed total ∷ []) ∷ []))) (rows-append (sourceRows name i ts ss ds) (residualRows name (sourceRows name i ts ss ds) r))
 
   -- all its lines
-  stratum-length : (ts : List (List ℕ)) (ss : List ℕ) (ds : List ℤ) (total r : ℤ) → AllShort ts → AllSmall ds → Small total → Small r
-      → length (rowsBytes (stratumRows name i ts ss ds total r)) + 178 * countFrom (suc i) ss ≤ 178 * countFrom i ss + 211
+  stratum-length : (ts : List (List ℕ)) (ss : List ℕ) (ds : List ℤ) (total r : ℤ) → AllShort 158 ts → AllSmall ds → Small total → Small r
+      → length (rowsBytes (stratumRows name i ts ss ds total r)) + 256 * countFrom (suc i) ss ≤ 256 * countFrom i ss + 211
   stratum-length ts ss ds total r a b ht hr =
       let last : Row = name ∷ wordTotal ∷ signed total ∷ [] in
       omega (
@@ -157,8 +157,8 @@ unfolding strataRows
 strata-is i p ps e es r rs ts ss ds = rows-append (stratumRows p i ts ss ds e r) (strataRows (suc i) ps es rs ts ss ds)
 
 -- all strata's lines: as many as treatment members, and two for each plot member
-strata-length : (i : ℕ) (ps : List (List ℕ)) (es rs : List ℤ) (ts : List (List ℕ)) (ss : List ℕ) (ds : List ℤ) → AllShort ps → AllSmall es → AllSmall rs → AllShort ts → AllSmall ds
-    → length (rowsBytes (strataRows i ps es rs ts ss ds)) ≤ 178 * countFrom i ss + 211 * length ps
+strata-length : (i : ℕ) (ps : List (List ℕ)) (es rs : List ℤ) (ts : List (List ℕ)) (ss : List ℕ) (ds : List ℤ) → AllShort 80 ps → AllSmall es → AllSmall rs → AllShort 158 ts → AllSmall ds
+    → length (rowsBytes (strataRows i ps es rs ts ss ds)) ≤ 256 * countFrom i ss + 211 * length ps
 unfolding strataRows
 strata-length i [] es rs ts ss ds hp he hr ht hd = omega (arith, rows-none)
 strata-length i (p ∷ ps) [] rs ts ss ds hp he hr ht hd = omega (arith, rows-none)
@@ -219,7 +219,7 @@ unfolding namesFrom
 length-names kind text n levels S i zero = refl
 length-names kind text n levels S i (suc m) = ap suc (length-names kind text n levels S (suc i) m)
 
-names-short : (kind : Kind) (text : List ℕ) (n : ℕ) (levels : List ℕ) (S : Family) → question3 text ≡ true → (i m : ℕ) → i + m ≤ 100 → AllShort (namesFrom kind text n levels S i m)
+names-short : (kind : Kind) (text : List ℕ) (n : ℕ) (levels : List ℕ) (S : Family) → question3 text ≡ true → (i m : ℕ) → i + m ≤ 100 → AllShort (longest kind) (namesFrom kind text n levels S i m)
 unfolding namesFrom
 names-short kind text n levels S q i zero h k = omega arith
 names-short kind text n levels S q i (suc m) h zero = name-length kind text n levels S i q (omega arith)
@@ -248,7 +248,7 @@ module _ (text : List ℕ) (n : ℕ) (levels : List ℕ) (P R : Family) where
       ∙ ap (λ (x : ℕ). length (rowBytes (wordStratum ∷ wordSource ∷ wordDf ∷ [])) + x) (rows-append middle (lastRow ∷ []))
 
   -- the table of a sheet that is accepted
-  pub accepted-length : question3 text ≡ true → n ≤ 240 → WellMade n P → WellMade n R → length (rowsBytes (acceptedRows text n levels P R)) ≤ 12482
+  pub accepted-length : question3 text ≡ true → n ≤ 240 → WellMade n P → WellMade n R → length (rowsBytes (acceptedRows text n levels P R)) ≤ 14978
   unfolding residuals
   accepted-length q small mP mR =
       omega (
@@ -267,7 +267,7 @@ module _ (text : List ℕ) (n : ℕ) (levels : List ℕ) (P R : Family) where
         mR .few,
       )
     where
-      whole : length (rowsBytes middle) ≤ 178 * countFrom 1 places + 211 * length plotNames
+      whole : length (rowsBytes middle) ≤ 256 * countFrom 1 places + 211 * length plotNames
       whole =
           strata-length 1 plotNames (degrees n P) (residuals n P R) treatmentNames places (degrees n R) (names-short plot text n levels P q 1 (length P) (omega (arith, mP .few)))
           (degrees-small n P small mP) (residual-size 1 (degrees n P) places (degrees n R) (omega (arith, length-degrees n R, mR .few)) (degrees-at n P small mP) (degrees-at n R small mR))
@@ -275,21 +275,21 @@ module _ (text : List ℕ) (n : ℕ) (levels : List ℕ) (P R : Family) where
 
 -- ---- a refused sheet
 
-refused-length : (q : ℕ) (a b : List ℕ) → q < 100 → length a ≤ 80 → length b ≤ 80 → length (rowsBytes (refusedRow q a b ∷ [])) ≤ 173
+refused-length : (q : ℕ) (a b : List ℕ) → q < 100 → length a ≤ 158 → length b ≤ 158 → length (rowsBytes (refusedRow q a b ∷ [])) ≤ 329
 unfolding refusedRow
 refused-length q a b h ha hb = omega (arith, rows-cons (wordRefused ∷ decimalOf q ∷ a ∷ b ∷ []) [], rows-none, row-four wordRefused (decimalOf q) a b, decimal-length q 1 h)
 
-place-length : (kind : Kind) (text : List ℕ) (n : ℕ) (levels : List ℕ) (S : Family) (i : ℕ) → question3 text ≡ true → (1 ≤ i → Placed n S i) → length (placeName kind text n levels S i) ≤ 80
+place-length : (kind : Kind) (text : List ℕ) (n : ℕ) (levels : List ℕ) (S : Family) (i : ℕ) → question3 text ≡ true → (1 ≤ i → Placed n S i) → length (placeName kind text n levels S i) ≤ 158
 unfolding placeName
 place-length kind text n levels S zero q h = omega arith
-place-length kind text n levels S (suc i) q h = let p = h (omega arith) in name-length kind text n levels S (suc i) q (omega (arith, p .most, p .made .few))
+place-length kind text n levels S (suc i) q h = let p = h (omega arith) in name-short-enough kind text n levels S (suc i) q (omega (arith, p .most, p .made .few))
 
 -- the table of a sheet that was read
-design-length : (text : List ℕ) (n : ℕ) (levels : List ℕ) (a : Answer) → question3 text ≡ true → n ≤ 240 → Tells n a → length (rowsBytes (designRows text n levels a)) ≤ 12482
+design-length : (text : List ℕ) (n : ℕ) (levels : List ℕ) (a : Answer) → question3 text ≡ true → n ≤ 240 → Tells n a → length (rowsBytes (designRows text n levels a)) ≤ 14978
 unfolding designRows designRefusedRow
 design-length text n levels a q small t = go (a .refusal) refl
   where
-    go : (x : ℕ) → a .refusal ≡ x → length (rowsBytes (designRows text n levels a)) ≤ 12482
+    go : (x : ℕ) → a .refusal ≡ x → length (rowsBytes (designRows text n levels a)) ≤ 14978
     go zero e = rw (e, designRows) (accepted-length text n levels (a .plot) (a .treatment) q small (t .plot-made (inl e)) (t .treatment-made (inl e)))
     go (suc x) e =
         let k = firstKind (a .refusal) in
@@ -322,12 +322,12 @@ reading-number text levels q e =
 
 -- ---- every sheet
 
--- the text printed for any input has at most 12,482 bytes, so it fits 32,768
-pub table-length : (text : List ℕ) → length (tableText text) ≤ 12482
+-- the text printed for any input has at most 14,978 bytes, so it fits 32,768
+pub table-length : (text : List ℕ) → length (tableText text) ≤ 14978
 unfolding tableText tableRows outcomeRows
 table-length text = go (reading text emptyTable) refl
   where
-    go : (o : Outcome) → reading text emptyTable ≡ o → length (rowsBytes (outcomeRows text o)) ≤ 12482
+    go : (o : Outcome) → reading text emptyTable ≡ o → length (rowsBytes (outcomeRows text o)) ≤ 14978
     go (refused q) e = omega (arith, refused-length q dash dash (omega (arith, reading-number text emptyTable q e .1)) (omega arith) (omega arith))
     go (read n p t) e =
         let levels : List ℕ = levelsAfter (read n p t) text emptyTable in

@@ -83,16 +83,26 @@ pairsOfEight = 1 ∷ 1 ∷ 2 ∷ 2 ∷ 3 ∷ 3 ∷ 4 ∷ 4 ∷ []
 abbrev alternate : Column
 alternate = 1 ∷ 2 ∷ 1 ∷ 2 ∷ 1 ∷ 2 ∷ 1 ∷ 2 ∷ []
 
+abbrev crossedInHalves : Column
+crossedInHalves = 1 ∷ 2 ∷ 1 ∷ 2 ∷ 3 ∷ 4 ∷ 3 ∷ 4 ∷ []
+
+abbrev eachOfEight : Column
+eachOfEight = 1 ∷ 2 ∷ 3 ∷ 4 ∷ 5 ∷ 6 ∷ 7 ∷ 8 ∷ []
+
 -- U, pairs, E; and all infima of one or two of three crossed columns: each column and infimum has supremum U with the pairs and is not orthogonal to them
 abbrev pairsAcross : Family
-pairsAcross = (1 ∷ 1 ∷ 1 ∷ 1 ∷ 1 ∷ 1 ∷ 1 ∷ 1 ∷ []) ∷ (1 ∷ 2 ∷ 3 ∷ 1 ∷ 2 ∷ 4 ∷ 4 ∷ 3 ∷ []) ∷ (1 ∷ 2 ∷ 3 ∷ 4 ∷ 5 ∷ 6 ∷ 7 ∷ 8 ∷ []) ∷ []
+pairsAcross = (1 ∷ 1 ∷ 1 ∷ 1 ∷ 1 ∷ 1 ∷ 1 ∷ 1 ∷ []) ∷ (1 ∷ 2 ∷ 3 ∷ 1 ∷ 2 ∷ 4 ∷ 4 ∷ 3 ∷ []) ∷ eachOfEight ∷ []
 
 abbrev threeCrossed : Family
 threeCrossed =
-    (1 ∷ 1 ∷ 1 ∷ 1 ∷ 1 ∷ 1 ∷ 1 ∷ 1 ∷ []) ∷ fours ∷ twos ∷ alternate ∷ pairsOfEight ∷ (1 ∷ 2 ∷ 1 ∷ 2 ∷ 3 ∷ 4 ∷ 3 ∷ 4 ∷ []) ∷ (1 ∷ 2 ∷ 3 ∷ 4 ∷ 1 ∷ 2 ∷ 3 ∷ 4 ∷ []) ∷ []
+    (1 ∷ 1 ∷ 1 ∷ 1 ∷ 1 ∷ 1 ∷ 1 ∷ 1 ∷ []) ∷ fours ∷ twos ∷ alternate ∷ pairsOfEight ∷ crossedInHalves ∷ (1 ∷ 2 ∷ 3 ∷ 4 ∷ 1 ∷ 2 ∷ 3 ∷ 4 ∷ []) ∷ []
 
 abbrev oneOfEight : Column
 oneOfEight = 1 ∷ 1 ∷ 1 ∷ 1 ∷ 1 ∷ 1 ∷ 1 ∷ 1 ∷ []
+
+-- three divisions of which all together join plots 1 to 4 and 5 to 8, and no two do
+abbrev links : List Column
+links = (1 ∷ 1 ∷ 2 ∷ 3 ∷ 4 ∷ 4 ∷ 5 ∷ 6 ∷ []) ∷ (1 ∷ 2 ∷ 2 ∷ 3 ∷ 4 ∷ 5 ∷ 5 ∷ 6 ∷ []) ∷ (1 ∷ 2 ∷ 3 ∷ 3 ∷ 4 ∷ 5 ∷ 6 ∷ 6 ∷ []) ∷ []
 
 abbrev hutAndBay : List Column
 hutAndBay = fours ∷ twos ∷ []
@@ -105,22 +115,46 @@ oneAndPairs = oneOfEight ∷ pairsOfEight ∷ []
 
 -- ---- texts (→ is a tab)
 
--- names
-abbrev infimumName : List ℕ
-infimumName =
-    -- I(Hut,Bay)
-    73 ∷ 40 ∷ 72 ∷ 117 ∷ 116 ∷ 44 ∷ 66 ∷ 97 ∷ 121 ∷ 41 ∷ []
+-- the names of columns: `Cot`, `Hut`, `Bay`, `Gain`, `Row`
+abbrev cot : List ℕ
+cot = 67 ∷ 111 ∷ 116 ∷ []
 
-abbrev rowName : List ℕ
-rowName =
-    -- Row
-    82 ∷ 111 ∷ 119 ∷ []
+abbrev hut : List ℕ
+hut = 72 ∷ 117 ∷ 116 ∷ []
+
+abbrev bay : List ℕ
+bay = 66 ∷ 97 ∷ 121 ∷ []
+
+abbrev gain : List ℕ
+gain = 71 ∷ 97 ∷ 105 ∷ 110 ∷ []
+
+abbrev row : List ℕ
+row = 82 ∷ 111 ∷ 119 ∷ []
+
+-- of members: `I(..)`, `S(..)`, `#..`
+abbrev infimumOf : List ℕ → List ℕ
+infimumOf w = 73 ∷ 40 ∷ w ++ 41 ∷ []
+
+abbrev supremumOf : List ℕ → List ℕ
+supremumOf w = 83 ∷ 40 ∷ w ++ 41 ∷ []
+
+abbrev placeOf : ℕ → List ℕ
+placeOf digit = 35 ∷ digit ∷ []
+
+abbrev named : List ℕ → NameAnswer
+named w = record { refusal = 0; name = w }
 
 -- a first line with two columns of each kind
 abbrev twoAndTwo : List ℕ
 twoAndTwo =
     -- p:Hut→p:Bay→t:Gain→t:Row
     112 ∷ 58 ∷ 72 ∷ 117 ∷ 116 ∷ 9 ∷ 112 ∷ 58 ∷ 66 ∷ 97 ∷ 121 ∷ 9 ∷ 116 ∷ 58 ∷ 71 ∷ 97 ∷ 105 ∷ 110 ∷ 9 ∷ 116 ∷ 58 ∷ 82 ∷ 111 ∷ 119 ∷ 10 ∷ []
+
+-- a first line with the treatment column first
+abbrev gainThenHut : List ℕ
+gainThenHut =
+    -- t:Gain→p:Hut
+    116 ∷ 58 ∷ 71 ∷ 97 ∷ 105 ∷ 110 ∷ 9 ∷ 112 ∷ 58 ∷ 72 ∷ 117 ∷ 116 ∷ 10 ∷ []
 
 -- a first line with four plot columns
 abbrev fourPlots : List ℕ
@@ -213,8 +247,8 @@ fullTable =
     85 ∷ 9 ∷ 85 ∷ 9 ∷ 49 ∷ 10 ∷
     -- U→=total→1
     85 ∷ 9 ∷ 61 ∷ 116 ∷ 111 ∷ 116 ∷ 97 ∷ 108 ∷ 9 ∷ 49 ∷ 10 ∷
-    -- Hut→#3→1
-    72 ∷ 117 ∷ 116 ∷ 9 ∷ 35 ∷ 51 ∷ 9 ∷ 49 ∷ 10 ∷
+    -- Hut→S(Hut)→1
+    72 ∷ 117 ∷ 116 ∷ 9 ∷ 83 ∷ 40 ∷ 72 ∷ 117 ∷ 116 ∷ 41 ∷ 9 ∷ 49 ∷ 10 ∷
     -- Hut→=total→1
     72 ∷ 117 ∷ 116 ∷ 9 ∷ 61 ∷ 116 ∷ 111 ∷ 116 ∷ 97 ∷ 108 ∷ 9 ∷ 49 ∷ 10 ∷
     -- E→Gain→1
@@ -257,25 +291,47 @@ furtherTrials =
     ∷ allots 4 (halves ∷ one ∷ []) square (record { refusal = 15; places = filled []; residuals = filledSigned [] })
     ∷ allots 4 (one ∷ []) (one ∷ halves ∷ []) (record { refusal = 16; places = filled []; residuals = filledSigned [] })
     -- names: U; the infimum of both plot columns, which is the second treatment column
-    ∷ namesMember plot twoAndTwo 8 hutAndBay gainAndRow oneAndPairs 1 (record { refusal = 0; name = 85 ∷ [] })
-    ∷ namesMember plot twoAndTwo 8 hutAndBay gainAndRow oneAndPairs 2 (record { refusal = 0; name = infimumName })
-    ∷ namesMember treatment twoAndTwo 8 hutAndBay gainAndRow oneAndPairs 2 (record { refusal = 0; name = rowName })
+    ∷ namesMember plot twoAndTwo 8 hutAndBay gainAndRow oneAndPairs 1 (named (85 ∷ []))
+    ∷ namesMember plot twoAndTwo 8 hutAndBay gainAndRow oneAndPairs 2 (named (infimumOf (hut ++ 44 ∷ bay)))
+    ∷ namesMember treatment twoAndTwo 8 hutAndBay gainAndRow oneAndPairs 2 (named row)
     -- the same with a column of one class before them and one equivalent to the first after them, which are not named
-    ∷ namesMember plot fourPlots 8 (oneOfEight ∷ fours ∷ twos ∷ (2 ∷ 2 ∷ 2 ∷ 2 ∷ 1 ∷ 1 ∷ 1 ∷ 1 ∷ []) ∷ []) [] oneAndPairs 2 (record { refusal = 0; name = infimumName })
-    -- no text; a first line that is not ended; no place 0 and no place 3; a missing level of its own kind; members out of order
+    ∷ namesMember plot fourPlots 8 (oneOfEight ∷ fours ∷ twos ∷ (2 ∷ 2 ∷ 2 ∷ 2 ∷ 1 ∷ 1 ∷ 1 ∷ 1 ∷ []) ∷ []) [] oneAndPairs 2 (named (infimumOf (hut ++ 44 ∷ bay)))
+    -- the infimum of a plot and a treatment column has no name, nor has a member that no column is finer than
+    ∷ namesMember treatment twoAndTwo 8 hutAndBay (twos ∷ alternate ∷ []) oneAndPairs 2 (named (placeOf 50))
+    ∷ namesMember treatment twoAndTwo 8 hutAndBay hutAndBay (alternate ∷ []) 1 (named (placeOf 49))
+    -- the supremum of both plot columns; that of a plot and a treatment column is no name of a plot member, which looks at plot columns alone
+    ∷ namesMember plot twoAndTwo 8 (pairsOfEight ∷ crossedInHalves ∷ []) gainAndRow (fours ∷ []) 1 (named (supremumOf (hut ++ 44 ∷ bay)))
+    ∷ namesMember plot twoAndTwo 8 (pairsOfEight ∷ alternate ∷ []) (crossedInHalves ∷ alternate ∷ []) (fours ∷ []) 1 (named (placeOf 49))
+    -- a treatment member that is a plot column; the second treatment column is finer and not named
+    ∷ namesMember treatment twoAndTwo 8 hutAndBay gainAndRow (fours ∷ []) 1 (named (supremumOf hut))
+    -- the supremum of a plot and a treatment column, "in that order" whatever the first line's is
+    ∷ namesMember treatment gainThenHut 8 (pairsOfEight ∷ []) (crossedInHalves ∷ []) (fours ∷ []) 1 (named (supremumOf (hut ++ 44 ∷ gain)))
+    -- "of equivalents the first": a plot column and not a treatment column, and of two plot columns the lower
+    ∷ namesMember treatment twoAndTwo 8 (pairsOfEight ∷ crossedInHalves ∷ []) (pairsOfEight ∷ alternate ∷ []) (fours ∷ []) 1 (named (supremumOf (hut ++ 44 ∷ bay)))
+    ∷ namesMember plot fourPlots 8 (pairsOfEight ∷ crossedInHalves ∷ (2 ∷ 2 ∷ 1 ∷ 1 ∷ 3 ∷ 3 ∷ 4 ∷ 4 ∷ []) ∷ oneOfEight ∷ []) [] (fours ∷ []) 1 (named (supremumOf (cot ++ 44 ∷ hut)))
+    -- a column with every plot by itself is finer than all and never named
+    ∷ namesMember treatment twoAndTwo 8 (eachOfEight ∷ pairsOfEight ∷ []) (crossedInHalves ∷ alternate ∷ []) (fours ∷ []) 1 (named (supremumOf (bay ++ 44 ∷ gain)))
+    -- the supremum of three columns, by chains through all of them
+    ∷ namesMember plot fourPlots 8 (links ++ oneOfEight ∷ []) [] (fours ∷ []) 1 (named (supremumOf (cot ++ 44 ∷ hut ++ 44 ∷ bay)))
+    -- `I(` of columns of its kind before `S(`, though it is the first plot column
+    ∷ namesMember treatment twoAndTwo 8 (crossedInHalves ∷ twos ∷ []) (fours ∷ alternate ∷ []) (crossedInHalves ∷ []) 1 (named (infimumOf (gain ++ 44 ∷ row)))
+    -- no text; a first line that is not ended; no place 0 and no place 3; members out of order
     ∷ namesMember plot [] 8 hutAndBay gainAndRow oneAndPairs 2 (record { refusal = 2; name = [] })
     ∷ namesMember plot (112 ∷ 58 ∷ 72 ∷ 117 ∷ 116 ∷ []) 8 hutAndBay gainAndRow oneAndPairs 2 (record { refusal = 3; name = [] })
     ∷ namesMember plot twoAndTwo 8 hutAndBay gainAndRow oneAndPairs 0 (record { refusal = 6; name = [] })
     ∷ namesMember plot twoAndTwo 8 hutAndBay gainAndRow oneAndPairs 3 (record { refusal = 6; name = [] })
-    ∷ namesMember plot twoAndTwo 8 (fours ∷ []) gainAndRow oneAndPairs 2 (record { refusal = 7; name = [] })
-    ∷ namesMember treatment twoAndTwo 8 (fours ∷ []) gainAndRow oneAndPairs 2 (record { refusal = 0; name = rowName })
     ∷ namesMember plot twoAndTwo 8 hutAndBay gainAndRow (pairsOfEight ∷ oneOfEight ∷ []) 2 (record { refusal = 15; name = [] })
+    -- a missing level: of its own kind; in a plot column that a treatment member looks at; in a treatment column, which a plot member does not
+    ∷ namesMember plot twoAndTwo 8 (fours ∷ []) gainAndRow oneAndPairs 2 (record { refusal = 7; name = [] })
+    ∷ namesMember treatment twoAndTwo 8 hutAndBay (alternate ∷ []) oneAndPairs 2 (record { refusal = 7; name = [] })
+    ∷ namesMember treatment twoAndTwo 8 (fours ∷ []) gainAndRow oneAndPairs 2 (record { refusal = 7; name = [] })
+    ∷ namesMember plot twoAndTwo 8 hutAndBay (alternate ∷ []) oneAndPairs 2 (named (infimumOf (hut ++ 44 ∷ bay)))
     -- no plots; a level table, a family buffer and a name buffer that are long enough, and one number shorter each
     ∷ namesMember plot twoAndTwo 0 hutAndBay gainAndRow oneAndPairs 2 (record { refusal = 6; name = [] })
-    ∷ fits 2880 7680 96 0
-    ∷ fits 2879 7680 96 6
-    ∷ fits 2880 7679 96 6
-    ∷ fits 2880 7680 95 6
+    ∷ fits 2880 7680 160 0
+    ∷ fits 2879 7680 160 6
+    ∷ fits 2880 7679 160 6
+    ∷ fits 2880 7680 159 6
     -- a level table of 2,879 numbers; no text
     ∷ reads (112 ∷ 58 ∷ 65 ∷ 98 ∷ []) 2879 (refused 1)
     ∷ reads [] tableCells (refused 2)

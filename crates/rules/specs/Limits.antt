@@ -18,7 +18,7 @@ mostMembers = 32
 abbrev pub mostInteraction : ℕ
 mostInteraction = 6
 
--- "all lent slices long enough (level table 2,880, family 7,680, name 96)"
+-- "all lent slices long enough (level table 2,880, family 7,680, name 96)"; "The name buffer grows from 96 to 160 bytes"
 abbrev pub tableCells : ℕ
 tableCells = 2880
 
@@ -26,7 +26,7 @@ abbrev pub familyBytes : ℕ
 familyBytes = 7680
 
 abbrev pub nameBytes : ℕ
-nameBytes = 96
+nameBytes = 160
 
 -- bytes of a sheet's text
 abbrev pub mostText : ℕ

@@ -1,7 +1,7 @@
 -- Naming a member of a family by the sheet's column names: questions 2, 3, 6, 7 and 15.
 -- Assumes nothing.
 use mathlib.Core.Bool.{Bool, true, false, _&&_}
-use mathlib.Core.List.{List, [], _∷_, _++_}
+use mathlib.Core.List.{List, [], _++_}
 use Prim.Native.Nat.{ℕ, _-_}
 use lib.Dec.{ltb, leb}
 use lib.ListN.{length, drop}
@@ -37,10 +37,22 @@ unfoldable pub kindColumns : Kind → List ℕ → ℕ → List ℕ → List Col
 unfolding columnsFrom countKind header
 kindColumns kind text n levels = columnsFrom n levels (firstColumn kind) (countKind (markOf kind) (header text))
 
+-- "Plot members look at plot columns, treatment members at plot and then treatment columns, named in that order"
+unfoldable pub lookedAt : Kind → List ℕ → ℕ → List ℕ → List Column
+unfolding kindColumns
+lookedAt plot text n levels = kindColumns plot text n levels
+lookedAt treatment text n levels = kindColumns plot text n levels ++ kindColumns treatment text n levels
+
+unfoldable pub lookedNames : Kind → List Field → List (List ℕ)
+unfolding columnNames
+lookedNames plot fs = kindNames plot fs
+lookedNames treatment fs = kindNames plot fs ++ kindNames treatment fs
+
 -- the name of the member F at a place, from 1
 unfoldable pub nameOn : Kind → List ℕ → ℕ → List ℕ → ℕ → Column → List ℕ
-unfolding bytesOf nameOf columnNames kindColumns header
-nameOn kind text n levels place F = bytesOf (kindNames kind (header text)) (nameOf n (kindColumns kind text n levels) place F)
+unfolding bytesOf nameOf columnNames kindColumns lookedAt lookedNames header
+nameOn kind text n levels place F =
+    bytesOf (kindNames kind (header text)) (lookedNames kind (header text)) (nameOf n (kindColumns kind text n levels) (lookedAt kind text n levels) place F)
 
 -- the name of the member that stands at a place of the family
 unfoldable pub nameAt : Kind → List ℕ → ℕ → List ℕ → Family → ℕ → List ℕ
@@ -57,16 +69,16 @@ pub record NameAnswer : Type 0 where
 abbrev pub nameRefused : ℕ → NameAnswer
 nameRefused q = record { refusal = q; name = [] }
 
--- 6. "is a place asked about from 1 to its family's size, and are all lent slices long enough (level table 2,880, family 7,680, name 96)?"
+-- 6. "is a place asked about from 1 to its family's size, and are all lent slices long enough (level table 2,880, family 7,680, name 160)?"
 unfoldable pub namingWithin : ℕ → ℕ → ℕ → ℕ → ℕ → ℕ → Bool
 unfolding plotsWithin
 namingWithin n size place tableLength familyLength nameLength =
     plotsWithin n && ltb 0 place && leb place size && leb tableCells tableLength && leb familyBytes familyLength && leb nameBytes nameLength
 
--- 7 and 15
+-- "7 covers every column looked at", then 15
 unfoldable pub namingFrom7 : Kind → List ℕ → ℕ → List ℕ → Family → ℕ → NameAnswer
-unfolding allNonzero kindColumns wellFormed nameAt
-namingFrom7 kind text n levels S place = elim (allNonzero (kindColumns kind text n levels)) [
+unfolding allNonzero lookedAt wellFormed nameAt
+namingFrom7 kind text n levels S place = elim (allNonzero (lookedAt kind text n levels)) [
   | false ↦ nameRefused 7
   | true ↦ elim (wellFormed S) [ false ↦ nameRefused 15 | true ↦ record { refusal = 0; name = nameAt kind text n levels S place } ]
 ]

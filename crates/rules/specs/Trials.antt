@@ -33,9 +33,12 @@ pairsOfEight = 1 ∷ 1 ∷ 2 ∷ 2 ∷ 3 ∷ 3 ∷ 4 ∷ 4 ∷ []
 abbrev crossedInHalves : Column
 crossedInHalves = 1 ∷ 2 ∷ 1 ∷ 2 ∷ 3 ∷ 4 ∷ 3 ∷ 4 ∷ []
 
--- `Hut`, `U`, `E` and `#2`
+-- `Hut`, `Pier`, `U`, `E` and `S(Hut,Pier)`
 abbrev hut : List ℕ
 hut = 72 ∷ 117 ∷ 116 ∷ []
+
+abbrev pier : List ℕ
+pier = 80 ∷ 105 ∷ 101 ∷ 114 ∷ []
 
 abbrev letterU : List ℕ
 letterU = 85 ∷ []
@@ -43,8 +46,8 @@ letterU = 85 ∷ []
 abbrev letterE : List ℕ
 letterE = 69 ∷ []
 
-abbrev hashTwo : List ℕ
-hashTwo = 35 ∷ 50 ∷ []
+abbrev supremumOfTwo : List ℕ
+supremumOfTwo = 83 ∷ 40 ∷ hut ++ 44 ∷ pier ++ 41 ∷ []
 
 unfoldable pub trials : List Trial
 trials =
@@ -64,9 +67,9 @@ trials =
     -- "Plots 1,1,1,2,2,2 and 1,1,2,1,2,2: refusal 9, place 4, though 10 fails also."
     ∷ pairFails 6 ((1 ∷ 1 ∷ 1 ∷ 2 ∷ 2 ∷ 2 ∷ []) ∷ (1 ∷ 1 ∷ 2 ∷ 1 ∷ 2 ∷ 2 ∷ []) ∷ []) 2 3
     ∷ refuses 6 ((1 ∷ 1 ∷ 1 ∷ 2 ∷ 2 ∷ 2 ∷ []) ∷ (1 ∷ 1 ∷ 2 ∷ 1 ∷ 2 ∷ 2 ∷ []) ∷ []) 9 4 0
-    -- "members of 1,2,4,4,8 classes; 1,1,2,2,2; the second is `#2`"
+    -- "members of 1,2,4,4,8 classes; 1,1,2,2,2"; "01's seventh case now prints `S(` and its two columns `)`"
     ∷ accepts 8 (pairsOfEight ∷ crossedInHalves ∷ []) (1 ∷ 2 ∷ 4 ∷ 4 ∷ 8 ∷ []) (pos 1 ∷ pos 1 ∷ pos 2 ∷ pos 2 ∷ pos 2 ∷ [])
-    ∷ names 8 (pairsOfEight ∷ crossedInHalves ∷ []) [] 2 hashTwo
+    ∷ names 8 (pairsOfEight ∷ crossedInHalves ∷ []) (hut ∷ pier ∷ []) 2 supremumOfTwo
     -- "Plot 1,1,2,2,3,3,4,4, treatment 1,2,1,2,3,4,3,4: final treatment family of 1,2,4 classes, strata U, the plot column, E; residuals 0,2,2."
     ∷ treats 8 (pairsOfEight ∷ []) (crossedInHalves ∷ []) (1 ∷ 2 ∷ 4 ∷ []) (1 ∷ 2 ∷ 3 ∷ []) (pos 0 ∷ pos 2 ∷ pos 2 ∷ [])
     ∷ names 8 (pairsOfEight ∷ []) (hut ∷ []) 1 letterU
@@ -121,7 +124,7 @@ unfoldable pub observed : Trial → Trial
 unfolding plotOutcome pairOutcome fullOutcome plotTrial fullTrial firstPair orthogonal nameOf bytesOf
 observed (refuses n Fs q i j) = plotOutcome n Fs (plotTrial n Fs)
 observed (accepts n Fs cs ds) = plotOutcome n Fs (plotTrial n Fs)
-observed (names n Fs ns i name) = names n Fs ns i (bytesOf ns (nameOf n Fs i (getD (plotTrial n Fs .plot) (i - 1) [])))
+observed (names n Fs ns i name) = names n Fs ns i (bytesOf ns ns (nameOf n Fs Fs i (getD (plotTrial n Fs .plot) (i - 1) [])))
 observed (treats n Fs Ts cs ss ds) = fullOutcome n Fs Ts (fullTrial n Fs Ts)
 observed (pairFails n Fs i j) = pairOutcome n Fs (firstPair (orthogonal n) 1 (plotTrial n Fs .plot))
 

@@ -1,4 +1,4 @@
--- Laws of the names of a family's members: 96 bytes a member, and the length of each name.
+-- Laws of the names of a family's members: 160 bytes a member, and the length of each name.
 -- Assumes nothing.
 use mathlib.Core.Path.{_≡_, refl, sym, ap, ap₂, _∙_}
 use mathlib.Core.Bool.{true, false}
@@ -7,44 +7,52 @@ use Prim.Native.Nat.{ℕ, zero, suc, _+_, _-_, _*_, _<_, _≤_}
 use native.Mathlib.Nat.{not-suc-le-zero}
 use native.Mathlib.Omega.{arith}
 use lib.Dec.{eqb}
-use lib.ListN.{length, getD, take, drop, set, length-append, length-drop, length-set}
-use lib.Seq.{take-at, drop-at, take-take, take-add, length-take-le, set-split, getD-set-same, getD-set-other}
+use lib.ListN.{length, getD, take, drop, set, length-append, length-take, length-drop, length-set}
+use lib.Seq.{take-all, take-at, drop-at, take-take, take-add, length-take-le, set-split, getD-set-same, getD-set-other}
 use borrow.Author.Tests.{lt-ltb, le-leb, eq-eqb, eqb-true, eqb-false}
 use Rattle.rules.specs.Family.{Family, membersOf}
 use Rattle.rules.specs.Design.{plotsWithin}
 use Rattle.rules.specs.Relation.{memberAt}
 use Rattle.rules.specs.Lists.{tabulate}
-use Rattle.rules.specs.Naming.{Kind, markOf, nameOn, nameAt}
-use Rattle.rules.specs.Sheet.{countKind, header}
+use Rattle.rules.specs.Naming.{Kind, nameOn, nameAt}
 use Rattle.rules.specs.Table.{namesFrom}
 use Rattle.rules.proofs.Buffer.{member-is}
-use Rattle.rules.proofs.NameSize.{name-length}
 use Rattle.rules.proofs.Numbering.{by-cases}
 use Rattle.families.specs.Lent.{columnAt}
 use Rattle.families.proofs.Lent.{length-column}
-use Rattle.naming.specs.Answers.{memberFits, namingCounted, startingWith}
-use Rattle.naming.specs.Members.{namesWritten, lengthsWritten, membersFit, memberName}
-use Rattle.naming.proofs.Entry.{named-for}
-use Rattle.table.specs.Names.{Nameable, NameSlots, nameIn, namesIn, placedName}
+use Rattle.sheet.specs.declared.Counts.{Counts}
+use Rattle.naming.specs.declared.Kind.{Kind as Stated}
+use Rattle.naming.specs.Answers.{kindOf, lookOf, lookFits, memberFits, nameBy, namingBy, startingWith}
+use Rattle.naming.specs.Members.{namesWritten, lengthsWritten, membersFit, memberBy, familyHeld}
+use Rattle.naming.proofs.Entry.{plots-are, few-looked, counted-on, counted-short, named-for}
+use Rattle.table.specs.Names.{NameableBy, NameSlots, nameIn, namesIn, placedName}
 
 -- ---- one name
 
--- a member of the buffer has a name
-pub fits-place : (text levels buffer : List ℕ) (n count i room : ℕ) → Nameable text levels buffer n → count ≤ 6 → i < 32 → 96 ≤ room → memberFits n count (length levels) room (length (columnAt n buffer i)) ≡ true
-unfolding memberFits plotsWithin
-fits-place text levels buffer n count i room w k h r =
-    let on : length (columnAt n buffer i) ≡ n = length-column n i buffer (w .few) h (w .long) in
-    rw (lt-ltb 0 n (w .some), le-leb n 240 (w .few), le-leb count 6 k, le-leb 2880 (length levels) (w .table), le-leb 96 room r, eq-eqb (length (columnAt n buffer i)) n on)
+-- the columns looked at can be named by, and a member of the buffer has a name
+look-fits : (kind : Stated) (counts : Counts) (text levels buffer : List ℕ) → NameableBy text levels counts buffer → lookFits (lookOf kind counts) (length levels) ≡ true
+unfolding lookFits plotsWithin
+look-fits kind counts text levels buffer w =
+    let look = lookOf kind counts in
+    let n = plots-are kind counts in
+    let few = few-looked text counts (w .1) (w .0 .form) kind in
+    rw (lt-ltb 0 (look .plots) (omega (arith, w .0 .some)), le-leb (look .plots) 240 (omega (arith, w .0 .few)), le-leb (look .before) 6 (few .0), le-leb (look .count) 6 (few .1), le-leb 2880 (length levels) (w .0 .table))
+
+fits-place : (kind : Stated) (counts : Counts) (text levels buffer : List ℕ) (i room : ℕ) → NameableBy text levels counts buffer → i < 32 → 160 ≤ room → memberFits (lookOf kind counts) (length levels) room (length (columnAt (counts .plots) buffer i)) ≡ true
+unfolding memberFits
+fits-place kind counts text levels buffer i room w h r =
+    let on : length (columnAt (counts .plots) buffer i) ≡ counts .plots = length-column (counts .plots) i buffer (w .0 .few) h (w .0 .long) in
+    rw (look-fits kind counts text levels buffer w, le-leb 160 room r, eq-eqb (length (columnAt (counts .plots) buffer i)) (lookOf kind counts .plots) (on ∙ sym (plots-are kind counts)))
 
 -- what naming the part answers is the name at the place
-pub name-placed : (kind : Kind) (text levels buffer : List ℕ) (n count place room : ℕ) → Nameable text levels buffer n → count ≡ countKind (markOf kind) (header text) → count ≤ 6 → 1 ≤ place → place ≤ 32 → 96 ≤ room
-    → namingCounted kind text levels n count (columnAt n buffer (place - 1)) place room ≡ record { refusal = 0; name = placedName kind text n levels buffer place }
+pub name-placed : (kind : Stated) (counts : Counts) (text levels buffer : List ℕ) (place room : ℕ) → NameableBy text levels counts buffer → 1 ≤ place → place ≤ 32 → 160 ≤ room
+    → namingBy (lookOf kind counts) text levels (columnAt (counts .plots) buffer (place - 1)) place room ≡ record { refusal = 0; name = placedName (kindOf kind) text (counts .plots) levels buffer place }
 unfolding placedName
-name-placed kind text levels buffer n count zero room w is few l h r = absurd (not-suc-le-zero l)
-name-placed kind text levels buffer n count (suc i) room w is few l h r =
+name-placed kind counts text levels buffer zero room w l h r = absurd (not-suc-le-zero l)
+name-placed kind counts text levels buffer (suc i) room w l h r =
     let e : suc i - 1 ≡ i = omega arith in
-    ap (λ (k : ℕ). namingCounted kind text levels n count (columnAt n buffer k) (suc i) room) e
-    ∙ named-for kind text levels n count (columnAt n buffer i) (suc i) room (w .form) is h (fits-place text levels buffer n count i room w few (omega arith) r)
+    ap (λ (k : ℕ). namingBy (lookOf kind counts) text levels (columnAt (counts .plots) buffer k) (suc i) room) e
+    ∙ named-for kind counts text levels (columnAt (counts .plots) buffer i) (suc i) room (w .0 .form) (w .1) h (fits-place kind counts text levels buffer i room w (omega arith) r)
 
 -- no name at place 0
 pub name-none : (kind : Kind) (text levels buffer name : List ℕ) (n : ℕ) → 1 ≤ length name → set name 0 45 ≡ startingWith (placedName kind text n levels buffer 0) name
@@ -62,16 +70,11 @@ placed-member kind text levels buffer n size i h l =
     let e : i ≡ suc i - 1 = omega arith in
     ap (nameOn kind text n levels (suc i)) (sym (member-is n h buffer size i l) ∙ ap (memberAt (membersOf n buffer size)) e)
 
--- it has at most 80 bytes
-pub placed-short : (kind : Kind) (text levels buffer : List ℕ) (n i : ℕ) → Nameable text levels buffer n → i < 32 → length (placedName kind text n levels buffer (suc i)) ≤ 80
-placed-short kind text levels buffer n i w h =
-    rw (placed-member kind text levels buffer n 32 i (w .few) h) (name-length kind text n levels (membersOf n buffer 32) (suc i) (w .form) (omega arith))
-
 -- ---- all names
 
 -- the first i members have these names
 abbrev pub Filled : (ℕ → List ℕ) → List ℕ → List ℕ → ℕ → Type 0
-Filled name names lengths i = (j : ℕ) → j < i → (getD lengths j 0 ≤ 96) × (nameIn names lengths j ≡ name j)
+Filled name names lengths i = (j : ℕ) → j < i → (getD lengths j 0 ≤ 160) × (nameIn names lengths j ≡ name j)
 
 pub filled-none : (name : ℕ → List ℕ) (names lengths : List ℕ) → Filled name names lengths 0
 filled-none name names lengths j h = absurd (not-suc-le-zero h)
@@ -87,19 +90,19 @@ part-agrees k n m v w h hv hw e =
     ∙ sym (part-of-take k n w hw)
 
 -- a name written after the first i
-module _ (names lengths W : List ℕ) (i : ℕ) (room : 96 * i + 96 ≤ length names) (count : i < length lengths) (short : length W ≤ 96) where
+module _ (names lengths W : List ℕ) (i : ℕ) (room : 160 * i + 160 ≤ length names) (count : i < length lengths) (short : length W ≤ 160) where
   abbrev more : List ℕ
-  more = take (96 * i) names ++ startingWith W (drop (96 * i) names)
+  more = take (160 * i) names ++ startingWith W (drop (160 * i) names)
 
   length-more : length more ≡ length names
-  length-more = simp (length-append, length-drop, length-take-le (96 * i) names (omega arith)) (omega arith)
+  length-more = simp (length-append, length-drop, length-take-le (160 * i) names (omega arith)) (omega arith)
 
-  before : take (96 * i) more ≡ take (96 * i) names
-  before = take-at (take (96 * i) names) _ (96 * i) (length-take-le (96 * i) names (omega arith))
+  before : take (160 * i) more ≡ take (160 * i) names
+  before = take-at (take (160 * i) names) _ (160 * i) (length-take-le (160 * i) names (omega arith))
 
-  here : take (length W) (drop (96 * i) more) ≡ W
+  here : take (length W) (drop (160 * i) more) ≡ W
   here =
-      ap (λ (x : List ℕ). take (length W) x) (drop-at (take (96 * i) names) _ (96 * i) (length-take-le (96 * i) names (omega arith)))
+      ap (λ (x : List ℕ). take (length W) x) (drop-at (take (160 * i) names) _ (160 * i) (length-take-le (160 * i) names (omega arith)))
       ∙ take-at W _ (length W) refl
 
   filled-more : (name : ℕ → List ℕ) → W ≡ name i → Filled name names lengths i → Filled name more (set lengths i (length W)) (suc i)
@@ -107,7 +110,7 @@ module _ (names lengths W : List ℕ) (i : ℕ) (room : 96 * i + 96 ≤ length n
   filled-more name e f j h = by-cases (eqb j i) same other
     where
       Goal : Type 0
-      Goal = (getD (set lengths i (length W)) j 0 ≤ 96) × (take (getD (set lengths i (length W)) j 0) (drop (96 * j) more) ≡ name j)
+      Goal = (getD (set lengths i (length W)) j 0 ≤ 160) × (take (getD (set lengths i (length W)) j 0) (drop (160 * j) more) ≡ name j)
 
       same : eqb j i ≡ true → Goal
       same q =
@@ -122,10 +125,10 @@ module _ (names lengths W : List ℕ) (i : ℕ) (room : 96 * i + 96 ≤ length n
           let l : j < i = omega arith in
           let was = f j l in
           rw g
-          (was .0, part-agrees (96 * j) (getD lengths j 0) (96 * i) more names (omega (arith, was .0)) (omega (arith, length-more)) (omega arith) before ∙ was .1)
+          (was .0, part-agrees (160 * j) (getD lengths j 0) (160 * i) more names (omega (arith, was .0)) (omega (arith, length-more)) (omega arith) before ∙ was .1)
 
 -- what naming the members writes: their names
-pub filled-written : (name : ℕ → List ℕ) (names lengths : List ℕ) (m : ℕ) → ((j : ℕ) → j < m → length (name j) ≤ 96) → 96 * m ≤ length names → m ≤ length lengths
+pub filled-written : (name : ℕ → List ℕ) (names lengths : List ℕ) (m : ℕ) → ((j : ℕ) → j < m → length (name j) ≤ 160) → 160 * m ≤ length names → m ≤ length lengths
     → (length (namesWritten name names m) ≡ length names) × (length (lengthsWritten name lengths m) ≡ length lengths) × Filled name (namesWritten name names m) (lengthsWritten name lengths m) m
 unfolding namesWritten lengthsWritten
 filled-written name names lengths zero short h l = (refl, refl, filled-none name names lengths)
@@ -133,7 +136,7 @@ filled-written name names lengths (suc m) short h l =
     let w = filled-written name names lengths m (λ j k. short j (omega arith)) (omega arith) (omega arith) in
     let N = namesWritten name names m in
     let L = lengthsWritten name lengths m in
-    let room : 96 * m + 96 ≤ length N = omega (arith, w .0) in
+    let room : 160 * m + 160 ≤ length N = omega (arith, w .0) in
     let count : m < length L = omega (arith, w .1) in
     let s = short m (omega arith) in
     (length-more N L (name m) m room count s ∙ w .0, length-set L m (length (name m)) ∙ w .1, filled-more N L (name m) m room count s name refl (w .2))
@@ -151,15 +154,23 @@ names-from kind text n levels S f i (suc m) h =
     across i j = omega arith
 
 -- a family that fits is named
-pub members-fit : (text levels buffer : List ℕ) (n count size room counted : ℕ) → Nameable text levels buffer n → count ≤ 6 → size ≤ 32 → 96 * size ≤ room → size ≤ counted → membersFit n count size (length levels) (length buffer) room counted ≡ true
-unfolding membersFit plotsWithin
-members-fit text levels buffer n count size room counted w k h r c =
-    rw (lt-ltb 0 n (w .some), le-leb n 240 (w .few), le-leb count 6 k, le-leb size 32 h, le-leb 2880 (length levels) (w .table), le-leb 7680 (length buffer) (w .long), le-leb (96 * size) room r, le-leb size counted c)
+pub members-fit : (kind : Stated) (counts : Counts) (text levels buffer : List ℕ) (size room counted : ℕ) → NameableBy text levels counts buffer → size ≤ 32 → 160 * size ≤ room → size ≤ counted
+    → membersFit (lookOf kind counts) size (length levels) (length buffer) room counted ≡ true
+unfolding membersFit
+members-fit kind counts text levels buffer size room counted w h r c =
+    rw (look-fits kind counts text levels buffer w, le-leb size 32 h, le-leb 7680 (length buffer) (w .0 .long), le-leb (160 * size) room r, le-leb size counted c)
 
--- member i's name is the name at place i + 1
-pub member-placed : (kind : Kind) (text levels buffer : List ℕ) (n i : ℕ) → memberName kind text n levels buffer i ≡ placedName kind text n levels buffer (suc i)
-unfolding memberName placedName
-member-placed kind text levels buffer n i = refl
+-- member i's name is the name at place i + 1, and its bytes hold it
+pub member-placed : (kind : Stated) (counts : Counts) (text levels buffer : List ℕ) (i : ℕ) → NameableBy text levels counts buffer → i < 32 → familyHeld kind counts text levels buffer i ≡ placedName (kindOf kind) text (counts .plots) levels buffer (suc i)
+unfolding memberBy placedName
+member-placed kind counts text levels buffer i w h =
+    let F = columnAt (lookOf kind counts .plots) buffer i in
+    let short = counted-short kind counts text levels (suc i) F (w .0 .form) (w .1) h in
+    take-all 160 (nameBy (lookOf kind counts) text levels (suc i) F) (omega (arith, short))
+    ∙ counted-on text counts (w .1) kind levels (suc i) F ∙ ap (λ (n : ℕ). nameOn (kindOf kind) text (counts .plots) levels (suc i) (columnAt n buffer i)) (plots-are kind counts)
+
+pub held-short : (kind : Stated) (counts : Counts) (text levels buffer : List ℕ) (i : ℕ) → length (familyHeld kind counts text levels buffer i) ≤ 160
+held-short kind counts text levels buffer i = simp length-take (omega arith)
 
 pub filled-names : (kind : Kind) (text : List ℕ) (n : ℕ) (levels buffer : List ℕ) (size : ℕ) (names lengths : List ℕ) → n ≤ 240
     → Filled (λ j. placedName kind text n levels buffer (suc j)) names lengths size → namesIn names lengths size ≡ namesFrom kind text n levels (membersOf n buffer size) 1 size
@@ -171,5 +182,5 @@ filled-names kind text n levels buffer size names lengths h f =
     one-more : (j : ℕ) → suc j ≡ 1 + j
     one-more j = omega arith
 
-pub filled-named : (name : ℕ → List ℕ) (names lengths : List ℕ) (size : ℕ) → 96 * size ≤ length names → size ≤ length lengths → Filled name names lengths size → NameSlots names lengths size
+pub filled-named : (name : ℕ → List ℕ) (names lengths : List ℕ) (size : ℕ) → 160 * size ≤ length names → size ≤ length lengths → Filled name names lengths size → NameSlots names lengths size
 filled-named name names lengths size h l f = record { room = h; counted = l; short = λ j k. f j k .0 }

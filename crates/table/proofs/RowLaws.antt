@@ -131,7 +131,7 @@ pub length-names : (names lengths : List ℕ) (size : ℕ) → length (namesIn n
 unfolding namesIn
 length-names names lengths size = length-tabulate (nameIn names lengths) size
 
-pub name-at : (names lengths : List ℕ) (size j : ℕ) → j < size → getD (namesIn names lengths size) j [] ≡ take (getD lengths j 0) (drop (96 * j) names)
+pub name-at : (names lengths : List ℕ) (size j : ℕ) → j < size → getD (namesIn names lengths size) j [] ≡ take (getD lengths j 0) (drop (160 * j) names)
 unfolding namesIn nameIn
 name-at names lengths size j h = getD-tabulate (nameIn names lengths) size j [] h
 
@@ -145,7 +145,7 @@ residual-line name false r f e = let z : _≡_ {A = ℕ} 0 1 = cc in absurd (ome
 -- the members from place j on, by their names, places and numbers
 pub source-step : (name : List ℕ) (i : ℕ) (names lengths : List ℕ) (size : ℕ) (places : List ℕ) (numbers : List ℤ) (j : ℕ) → j < size → size ≤ length places → size ≤ length numbers
     → rowsBytes (sourceRows name i (drop j (namesIn names lengths size)) (drop j (take size places)) (drop j (take size numbers)))
-    ≡ rowsBytes (sourceRows name i (take (getD lengths j 0) (drop (96 * j) names) ∷ []) (getD places j 0 ∷ []) (getD numbers j (pos 0) ∷ []))
+    ≡ rowsBytes (sourceRows name i (take (getD lengths j 0) (drop (160 * j) names) ∷ []) (getD places j 0 ∷ []) (getD numbers j (pos 0) ∷ []))
     ++ rowsBytes (sourceRows name i (drop (j + 1) (namesIn names lengths size)) (drop (j + 1) (take size places)) (drop (j + 1) (take size numbers)))
 source-step name i names lengths size places numbers j h hp hn =
     let ts = namesIn names lengths size in
@@ -175,7 +175,7 @@ stratum-bytes name i names lengths size places numbers total r hp hn =
 -- the strata from place i on
 pub strata-step : (strata lens : List ℕ) (count : ℕ) (totals residuals : List ℤ) (ts : List (List ℕ)) (ss : List ℕ) (ds : List ℤ) (i : ℕ) → i < count → count ≤ length totals → count ≤ length residuals
     → rowsBytes (strataRows (i + 1) (drop i (namesIn strata lens count)) (drop i (take count totals)) (drop i (take count residuals)) ts ss ds)
-    ≡ rowsBytes (stratumRows (take (getD lens i 0) (drop (96 * i) strata)) (i + 1) ts ss ds (getD totals i (pos 0)) (getD residuals i (pos 0)))
+    ≡ rowsBytes (stratumRows (take (getD lens i 0) (drop (160 * i) strata)) (i + 1) ts ss ds (getD totals i (pos 0)) (getD residuals i (pos 0)))
     ++ rowsBytes (strataRows (i + 1 + 1) (drop (i + 1) (namesIn strata lens count)) (drop (i + 1) (take count totals)) (drop (i + 1) (take count residuals)) ts ss ds)
 unfolding strataRows
 strata-step strata lens count totals residuals ts ss ds i h ht hr =
@@ -185,7 +185,7 @@ strata-step strata lens count totals residuals ts ss ds i h ht hr =
     let lp : i < length ps = omega (arith, length-names strata lens count) in
     let le : i < length es = omega (arith, length-take-le count totals ht) in
     let lr : i < length rs = omega (arith, length-take-le count residuals hr) in
-    let name : List ℕ = take (getD lens i 0) (drop (96 * i) strata) in
+    let name : List ℕ = take (getD lens i 0) (drop (160 * i) strata) in
     let rows = stratumRows name (i + 1) ts ss ds (getD totals i (pos 0)) (getD residuals i (pos 0)) in
     let rest = strataRows (suc (i + 1)) (drop (suc i) ps) (drop (suc i) es) (drop (suc i) rs) ts ss ds in
     let first : strataRows (i + 1) (drop i ps) (drop i es) (drop i rs) ts ss ds ≡ rows ++ rest =

@@ -8,11 +8,12 @@ use lib.ListN.{length}
 use Rattle.rules.specs.Limits.{mostPlots, mostMembers, mostInteraction, tableCells, familyBytes}
 use Rattle.rules.specs.Family.{Family, membersOf, wellFormed}
 use Rattle.rules.specs.Design.{fullDesign}
-use Rattle.rules.specs.Sheet.{question3, countKind, plotMark, treatmentMark, header}
+use Rattle.rules.specs.Sheet.{question3}
 use Rattle.rules.specs.Degrees.{degrees}
 use Rattle.rules.specs.Strata.{stratum, residuals, allHaveStratum}
 use Rattle.rules.specs.Naming.{Kind, plot, treatment}
 use Rattle.rules.specs.Table.{Row, rowsBytes, designRows, acceptedRows, refusedRow, firstKind, secondKind, strataRows}
+use Rattle.naming.specs.Answers.{CountedIn}
 use Rattle.sheet.specs.declared.Counts.{Counts}
 use Rattle.design.specs.declared.Sizes.{Sizes}
 use Rattle.design.specs.declared.FullRefusal.{FullRefusal}
@@ -49,22 +50,18 @@ namedRows n P R ps ts = tableOf n (strataRows 1 ps (degrees n P) (residuals n P 
 
 -- ---- what the functions ask and write
 
--- the counts are those of the first line
-abbrev pub CountsOf : List ℕ → Counts → Type 0
-CountsOf text counts = (counts .«plot_columns» ≡ countKind plotMark (header text)) × (counts .«treatment_columns» ≡ countKind treatmentMark (header text))
-
 -- a sheet that was read
 abbrev pub WasRead : List ℕ → List ℕ → Counts → Type 0
-WasRead text levels counts = (question3 text ≡ true) × (1 ≤ counts .plots) × (counts .plots ≤ mostPlots) × (tableCells ≤ length levels) × CountsOf text counts
+WasRead text levels counts = (question3 text ≡ true) × (1 ≤ counts .plots) × (counts .plots ≤ mostPlots) × (tableCells ≤ length levels) × CountedIn text counts
 
 -- members of either family can be named
 abbrev pub BothNameable : List ℕ → List ℕ → Counts → List ℕ → List ℕ → Type 0
-BothNameable text levels counts plots treatments = Nameable text levels plots (counts .plots) × Nameable text levels treatments (counts .plots) × CountsOf text counts
+BothNameable text levels counts plots treatments = Nameable text levels plots (counts .plots) × Nameable text levels treatments (counts .plots) × CountedIn text counts
 
 -- an accepted design of a sheet that was read
 abbrev pub AcceptedSheet : List ℕ → List ℕ → Counts → Sizes → List ℕ → List ℕ → Type 0
 AcceptedSheet text levels counts sizes plots treatments =
-    (question3 text ≡ true) × (tableCells ≤ length levels) × Accepted (counts .plots) plots (sizes .plot) treatments (sizes .treatment) × CountsOf text counts
+    (question3 text ≡ true) × (tableCells ≤ length levels) × Accepted (counts .plots) plots (sizes .plot) treatments (sizes .treatment) × CountedIn text counts
 
 -- the names of both families' members are at hand
 abbrev pub BothNamed : Sizes → List ℕ → List ℕ → List ℕ → List ℕ → Type 0

@@ -1,4 +1,4 @@
--- Names of all members of a family, worked out once: 96 bytes a member, and the length of each name.
+-- Names of all members of a family, worked out once: 160 bytes a member, and the length of each name.
 -- Assumes nothing.
 use mathlib.Core.Bool.{Bool, true, false, not, _||_, _&&_}
 use mathlib.Core.List.{List, [], _∷_, _++_}
@@ -10,12 +10,12 @@ use lib.ListN.{length, getD, take, drop}
 use Rattle.rules.specs.Lists.{tabulate, decimalOf}
 use Rattle.rules.specs.Limits.{mostPlots, tableCells, familyBytes, nameBytes}
 use Rattle.rules.specs.Family.{membersOf}
-use Rattle.rules.specs.Sheet.{countKind, header, question3}
-use Rattle.rules.specs.Naming.{Kind, markOf, nameOn}
+use Rattle.rules.specs.Sheet.{question3}
+use Rattle.rules.specs.Naming.{Kind, nameOn}
 use Rattle.families.specs.Lent.{columnAt}
 use Rattle.sheet.specs.declared.Counts.{Counts}
 use Rattle.naming.specs.declared.Kind.{Kind as Stated}
-use Rattle.naming.specs.Answers.{kindOf, countIn}
+use Rattle.naming.specs.Answers.{kindOf, CountedIn}
 use Rattle.rules.specs.Table.{dash, namesFrom, Row, signed, isZero, wordResidual, wordStratum, wordSource, wordDf, wordAll, wordTotal}
 
 -- the name of the member at a place, from 0
@@ -31,8 +31,8 @@ pub record Nameable (text levels buffer : List ℕ) (n : ℕ) : Type 0 where
   pub long : familyBytes ≤ length buffer
 
 -- the same by a sheet's counts, which are those of its first line
-abbrev pub NameableBy : Stated → List ℕ → List ℕ → Counts → List ℕ → Type 0
-NameableBy kind text levels counts buffer = Nameable text levels buffer (counts .plots) × (countIn kind counts ≡ countKind (markOf (kindOf kind)) (header text))
+abbrev pub NameableBy : List ℕ → List ℕ → Counts → List ℕ → Type 0
+NameableBy text levels counts buffer = Nameable text levels buffer (counts .plots) × CountedIn text counts
 
 -- the name at a place of a family buffer, from 1; `-` at place 0
 unfoldable pub placedName : Kind → List ℕ → ℕ → List ℕ → List ℕ → ℕ → List ℕ
@@ -49,7 +49,7 @@ namesIn names lengths size = tabulate (nameIn names lengths) size
 abbrev pub familyNames : Stated → Counts → ℕ → List ℕ → List ℕ → List ℕ → List (List ℕ)
 familyNames kind counts size text levels family = namesFrom (kindOf kind) text (counts .plots) levels (membersOf (counts .plots) family size) 1 size
 
--- there is room for the names of so many members, and no name is longer than 96 bytes
+-- there is room for the names of so many members, and no name is longer than 160 bytes
 pub record NameSlots (names lengths : List ℕ) (size : ℕ) : Type 0 where
   pub room : nameBytes * size ≤ length names
   pub counted : size ≤ length lengths

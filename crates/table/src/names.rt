@@ -11,7 +11,7 @@ use naming::Kind;
 use naming::Named;
 use sheet::Counts;
 
-// Names each of the first `size` members in its 96 bytes, by the columns of the kind, and keeps how many bytes the name has.
+// Names each of the first `size` members in its 160 bytes and keeps how many bytes the name has.
 pub fn fill_names(
     text: &[u8],
     levels: &[Level],
@@ -22,7 +22,7 @@ pub fn fill_names(
     names: &mut [u8],
     lengths: &mut [usize],
 )
-    requires { ⌜ NameableBy kind (now text) (now levels) counts (now family) × Slots (now family) size (now names) (now lengths) ⌝ }
+    requires { ⌜ NameableBy (now text) (now levels) counts (now family) × Slots (now family) size (now names) (now lengths) ⌝ }
     ensures names { λ _. ⌜ namesIn (now (names .exit)) (now (lengths .exit)) size ≡ familyNames kind counts size (now (text .entry)) (now (levels .entry)) (now (family .entry)) ⌝ }
     ensures named { λ _. ⌜ NameSlots (now (names .exit)) (now (lengths .exit)) size ⌝ }
 {
@@ -39,7 +39,7 @@ pub fn name_at(
     place: usize,
     name: &mut [u8],
 ) -> usize
-    requires { ⌜ NameableBy kind (now text) (now levels) counts (now family) × (place ≤ mostMembers) × (nameBytes ≤ length (now name)) ⌝ }
+    requires { ⌜ NameableBy (now text) (now levels) counts (now family) × (place ≤ mostMembers) × (nameBytes ≤ length (now name)) ⌝ }
     ensures answer { λ r. ⌜ r ≡ length (placedName (kindOf kind) (now (text .entry)) (counts .plots) (now (levels .entry)) (now (family .entry)) place) ⌝ }
     ensures bytes { λ _. ⌜ now (name .exit) ≡ startingWith (placedName (kindOf kind) (now (text .entry)) (counts .plots) (now (levels .entry)) (now (family .entry)) place) (now (name .entry)) ⌝ }
 {

@@ -1,14 +1,13 @@
 -- `member_name` meets its contract: questions 2, 3 and 6 in turn, then the rest.
 -- Assumes nothing.
-use mathlib.Core.Path.{sym, ap, _∙_}
+use mathlib.Core.Path.{sym, _∙_}
 use native.Mathlib.Omega.{arith}
 use denote.Ref.{now}
 use lib.ListN.{length}
 use borrow.Author.Tests.{not-true, not-false}
-use Rattle.rules.specs.Naming.{NameAnswer, nameBuffer}
 use Rattle.sheet.proofs.QuestionLaws.{headed-none, headed-some}
 use Rattle.naming.specs.Answers.{kindOf}
-use Rattle.naming.proofs.Entry.{count-is, answered, refusing, naming-2, naming-3, naming-6, naming-on, short-text, long-text, good-text}
+use Rattle.naming.proofs.Entry.{counted-in, answered, refusing, naming-2, naming-3, naming-6, naming-on, short-text, long-text, good-text}
 use borrow.Author.Needs.{needs}
 use Rattle.naming.proofs.member_name.Statement.{statement}
 use Rattle.naming.proofs.member_name.Tie as tie
@@ -76,7 +75,7 @@ from-7-requires c κs =
     let out = now (a .name) in
     let h = c .before .before .before .before .read-header in
     let q = headed-some text (h .result) (h .ensures) (c .before .before .before .if3 .left) in
-    (q, sym (c .before .before .within .ensures) ∙ not-false _ (c .before .if4 .left), count-is (a .kind) text q (h .result) (h .ensures) (a .plots))
+    (q, sym (c .before .before .within .ensures) ∙ not-false _ (c .before .if4 .left), counted-in text q (h .result) (h .ensures) (a .plots))
 
 same-length : tie.Need-same-length
 same-length c = search needs

@@ -74,7 +74,7 @@ print-design-requires c κs =
       w .plots-some,
       w .plots-few,
       levels-long text (sheet .last .1 .0) (sheet .ensures .1 .0),
-      (w .plot-columns, w .treatment-columns),
+      record { plot-columns = w .plot-columns; treatment-columns = w .treatment-columns },
     )
 
 same-length-2 : tie.Need-same-length-2

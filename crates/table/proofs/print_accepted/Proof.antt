@@ -17,7 +17,12 @@ slice-aggregate-fill-names-2 : tie.Need-slice-aggregate-fill-names-2
 slice-aggregate-fill-names-2 c = search needs
 
 fill-names-requires : tie.Need-fill-names-requires
-fill-names-requires c κs = search needs
+fill-names-requires c κs =
+    let s = c .before .before .before .before .before .before .before in
+    let d = s .pre .2 in (
+      (record { form = s .pre .0; some = d .some; few = d .few; table = s .pre .1; long = d .plot-room }, s .pre .3),
+      record { few = d .plot-few; long = d .plot-room; room = omega (arith, d .plot-few); counted = omega (arith, d .plot-few) },
+    )
 
 slice-aggregate-fill-names-3 : tie.Need-slice-aggregate-fill-names-3
 slice-aggregate-fill-names-3 c = search needs
@@ -29,7 +34,7 @@ fill-names-requires-2 : tie.Need-fill-names-requires-2
 fill-names-requires-2 c κs =
     let s = c .before .before .before .before .before .before .before .before .before .before .before .before in
     let d = s .pre .2 in (
-      (record { form = s .pre .0; some = d .some; few = d .few; table = s .pre .1; long = d .treatment-room }, s .pre .3 .1),
+      (record { form = s .pre .0; some = d .some; few = d .few; table = s .pre .1; long = d .treatment-room }, s .pre .3),
       record { few = d .treatment-few; long = d .treatment-room; room = omega (arith, d .treatment-few); counted = omega (arith, d .treatment-few) },
     )
 

@@ -43,28 +43,28 @@ array-share-prefix-first c =
     let s = c .before .before .before .before .before .before .before .before .before .before .before in
     let f = c .before .before .before .before .first-name in
     let name = firstName s in
-    starting-room (f .result) name (replicate 96 0) (f .last .1 .1 .1 .1 .1 .1 .1 .0) (f .ensures .0) (f .ensures .1)
+    starting-room (f .result) name (replicate 160 0) (f .last .1 .1 .1 .1 .1 .1 .1 .0) (f .ensures .0) (f .ensures .1)
 
 slice-aggregate-put-refused : tie.Need-slice-aggregate-put-refused
 slice-aggregate-put-refused c =
     let s = c .before .before .before .before .before .before .before .before .before .before .before .before in
     let f = c .before .before .before .before .before .first-name in
     let name = firstName s in
-    sym (length-take-le (f .result) (f .last .1 .1 .1 .1 .1 .1 .1 .0) (starting-room (f .result) name (replicate 96 0) (f .last .1 .1 .1 .1 .1 .1 .1 .0) (f .ensures .0) (f .ensures .1)))
+    sym (length-take-le (f .result) (f .last .1 .1 .1 .1 .1 .1 .1 .0) (starting-room (f .result) name (replicate 160 0) (f .last .1 .1 .1 .1 .1 .1 .1 .0) (f .ensures .0) (f .ensures .1)))
 
 array-share-prefix-second : tie.Need-array-share-prefix-second
 array-share-prefix-second c =
     let s = c .before .before .before .before .before .before .before .before .before .before .before .before in
     let f = c .before .before .second-name in
     let name = secondName s in
-    starting-room (f .result) name (replicate 96 0) (f .last .1 .1 .1 .1 .1 .1 .1 .0) (f .ensures .0) (f .ensures .1)
+    starting-room (f .result) name (replicate 160 0) (f .last .1 .1 .1 .1 .1 .1 .1 .0) (f .ensures .0) (f .ensures .1)
 
 slice-aggregate-put-refused-2 : tie.Need-slice-aggregate-put-refused-2
 slice-aggregate-put-refused-2 c =
     let s = c .before .before .before .before .before .before .before .before .before .before .before .before .before in
     let f = c .before .before .before .second-name in
     let name = secondName s in
-    sym (length-take-le (f .result) (f .last .1 .1 .1 .1 .1 .1 .1 .0) (starting-room (f .result) name (replicate 96 0) (f .last .1 .1 .1 .1 .1 .1 .1 .0) (f .ensures .0) (f .ensures .1)))
+    sym (length-take-le (f .result) (f .last .1 .1 .1 .1 .1 .1 .1 .0) (starting-room (f .result) name (replicate 160 0) (f .last .1 .1 .1 .1 .1 .1 .1 .0) (f .ensures .0) (f .ensures .1)))
 
 put-refused-requires : tie.Need-put-refused-requires
 put-refused-requires c κs = search needs
@@ -80,8 +80,8 @@ returns c =
     let g = c .before .before .before .before .before .before .before .second-name in
     let one = firstName s in
     let two = secondName s in
-    let is-one = starting-take (f .result) one (replicate 96 0) (f .last .1 .1 .1 .1 .1 .1 .1 .0) (f .ensures .0) (f .ensures .1) in
-    let is-two = starting-take (g .result) two (replicate 96 0) (g .last .1 .1 .1 .1 .1 .1 .1 .0) (g .ensures .0) (g .ensures .1) in
+    let is-one = starting-take (f .result) one (replicate 160 0) (f .last .1 .1 .1 .1 .1 .1 .1 .0) (f .ensures .0) (f .ensures .1) in
+    let is-two = starting-take (g .result) two (replicate 160 0) (g .last .1 .1 .1 .1 .1 .1 .1 .0) (g .ensures .0) (g .ensures .1) in
     wrote-as (now (s .args .out)) 0 (ap₂ (λ (x y : List ℕ). rowsBytes (refusedRow (s .args .refusal .number) x y ∷ [])) is-one is-two) (c .before .before .put-refused .ensures)
 
 pub print-refusal-spec : {M : Type 1} → statement M

@@ -1,57 +1,48 @@
--- `put_column` meets its contract: the part lent is the name.
+-- `put_column` meets its contract: the name of a plot column, or of one of the kind.
 -- Assumes nothing.
 use mathlib.Core.Path.{ap, _∙_}
-use mathlib.Core.List.{[]}
-use lib.ListN.{getD}
 use denote.Ref.{now}
-use Rattle.decimal.specs.Writing.{written, placeAfter}
-use Rattle.rules.specs.Sheet.{columnNames, header}
-use Rattle.sheet.proofs.NameLaws.{Part, span-name}
-use Rattle.naming.proofs.Listing.{slice-part}
 use borrow.Author.Needs.{needs}
+use Rattle.decimal.specs.Writing.{written, placeAfter}
+use Rattle.naming.proofs.Listing.{name-before, name-after}
 use Rattle.naming.proofs.compose.put_column.Statement.{statement}
 use Rattle.naming.proofs.compose.put_column.Tie as tie
 
--- the span is the name
-part : (k : tie.After-column-name) → Part (now (k .before .before .before .args .text)) (k .column-name .result) (getD (columnNames (k .before .before .before .args .mark) (header (now (k .before .before .before .args .text)))) (k .before .before .before .args .c) [])
-part k = let a = k .before .before .before .args in rw (k .column-name .ensures) (span-name (now (a .text)) (a .mark) (a .c))
-
-column-name-requires : tie.Need-column-name-requires
-column-name-requires c κs = search needs
-
-sub-write-bytes : tie.Need-sub-write-bytes
-sub-write-bytes c = part c .ordered
-
-part-write-bytes-start : tie.Need-part-write-bytes-start
-part-write-bytes-start c = part c .ordered
-
-part-write-bytes-end : tie.Need-part-write-bytes-end
-part-write-bytes-end c = part c .inside
-
-write-bytes-requires : tie.Need-write-bytes-requires
-write-bytes-requires c κs = search needs
+put-marked-requires : tie.Need-put-marked-requires
+put-marked-requires c κs = search needs
 
 same-length : tie.Need-same-length
 same-length c = search needs
 
 returns : tie.Need-returns
 returns c =
-    let k = c .before .before .before .before .before in
-    let a = k .before .before .before .args in
-    let r = k .column-name .result in
-    let p = part k in
-    let w = c .before .before .write-bytes .ensures in
-    let q = slice-part (r .start) (r .end) (now (a .text)) (p .ordered) (p .inside) ∙ p .is in
-    (w .0 ∙ ap (placeAfter (now (a .out)) (a .at)) q, w .1 ∙ ap (written (now (a .out)) (a .at)) q)
+    let a = c .before .before .before .before .before .before .before .before .args in
+    let out = now (a .out) in
+    let q = name-before (a .look) (now (a .text)) (a .c) (c .before .before .before .before .if1 .taken) in
+    let w = c .before .before .put-marked .ensures in
+    (w .0 ∙ ap (placeAfter out (a .at)) q, w .1 ∙ ap (written out (a .at)) q)
+
+put-marked-requires-2 : tie.Need-put-marked-requires-2
+put-marked-requires-2 c κs = search needs
+
+same-length-2 : tie.Need-same-length-2
+same-length-2 c = search needs
+
+returns-2 : tie.Need-returns-2
+returns-2 c =
+    let a = c .before .before .before .before .before .before .before .before .before .args in
+    let out = now (a .out) in
+    let q = name-after (a .look) (now (a .text)) (a .c) (c .before .before .before .before .before .if1 .left) in
+    let w = c .before .before .put-marked2 .ensures in
+    (w .0 ∙ ap (placeAfter out (a .at)) q, w .1 ∙ ap (written out (a .at)) q)
 
 pub put-column-spec : {M : Type 1} → statement M
 put-column-spec =
     tie.close
     (tie.spec
-    column-name-requires
-    sub-write-bytes
-    part-write-bytes-start
-    part-write-bytes-end
-    write-bytes-requires
+    put-marked-requires
     same-length
-    returns)
+    returns
+    put-marked-requires-2
+    same-length-2
+    returns-2)

@@ -1,41 +1,34 @@
 -- `put_names` meets its contract: the columns are numbered, which changes no name.
 -- Assumes nothing.
 use mathlib.Core.Path.{_≡_, ap, _∙_}
-use mathlib.Core.List.{List, map}
-use Prim.Native.Nat.{ℕ}
+use Prim.Native.Nat.{ℕ, suc}
 use native.Mathlib.Omega.{arith}
 use denote.Ref.{now}
 use lib.ListN.{length, take}
-use Rattle.rules.specs.Factor.{Column, number}
-use Rattle.rules.specs.Family.{columnsFrom, allNumbered}
-use Rattle.rules.specs.Sheet.{columnNames, header}
-use Rattle.naming.specs.Columns.{numberedFrom}
-use Rattle.naming.specs.Members.{namesWritten, lengthsWritten, nameBy, held}
-use Rattle.naming.proofs.Members.{names-ext, lengths-ext, name-by-numbered}
-use Rattle.naming.proofs.Tables.{columns-on, all-numbered}
 use borrow.Author.Needs.{needs}
+use Rattle.factor.specs.Lent.{columnAt}
+use Rattle.naming.proofs.Members.{names-ext, lengths-ext}
+use Rattle.naming.proofs.Tables.{filled-numbered, filled-name}
+use Rattle.naming.specs.Members.{eachHeld, levelHeld, memberText, memberBy}
 use Rattle.naming.proofs.compose.put_names.Statement.{statement}
 use Rattle.naming.proofs.compose.put_names.Tie as tie
 
-slice-aggregate-number-columns : tie.Need-slice-aggregate-number-columns
-slice-aggregate-number-columns c = search needs
+slice-aggregate-number-looked : tie.Need-slice-aggregate-number-looked
+slice-aggregate-number-looked c = search needs
 
-number-columns-requires : tie.Need-number-columns-requires
-number-columns-requires c κs = search needs
+number-looked-requires : tie.Need-number-looked-requires
+number-looked-requires c κs = search needs
 
 slice-aggregate-put-each : tie.Need-slice-aggregate-put-each
 slice-aggregate-put-each c = search needs
 
 put-each-requires : tie.Need-put-each-requires
-unfolding numberedFrom
 put-each-requires c κs =
     let s = c .before .before .before .before .before .before .before .before .before .before .before in
     let a = s .args in
-    let m = c .before .before .before .before .number-columns in
-    let long : length (m .last .1 .1 .1 .1 .0) ≡ 1440 = search needs in (
-      (record { few-plots = omega arith; few = omega arith; long = omega arith }, ap allNumbered (m .ensures) ∙ all-numbered (columnsFrom (a .look .plots) (now (a .levels)) (a .first) (a .look .count))),
-      s .pre .0,
-    )
+    let m = c .before .before .before .before .number-looked in
+    let long : length (m .last .1 .1 .0) ≡ 2880 = search needs in
+    (filled-numbered (a .look) (now (a .levels)) (m .last .1 .1 .0) (s .pre .1) (m .ensures .0) (m .ensures .1) (omega arith), s .pre .0)
 
 same-length : tie.Need-same-length
 same-length c = search needs
@@ -44,27 +37,25 @@ same-length-2 : tie.Need-same-length-2
 same-length-2 c = search needs
 
 returns : tie.Need-returns
-unfolding numberedFrom
+unfolding memberText memberBy
 returns c =
-    let a = c .before .before .before .before .before .before .before .before .before .before .before .before .before .before .before .before .args in
-    let n = a .look .plots in
-    let Cs = columnsFrom n (now (a .levels)) (a .first) (a .look .count) in
-    let columns = columnNames (a .look .mark) (header (now (a .text))) in
+    let s = c .before .before .before .before .before .before .before .before .before .before .before .before .before .before .before .before in
+    let a = s .args in
+    let text = now (a .text) in
     let family = now (a .family) in
-    let m = c .before .before .before .before .before .before .before .before .before .number-columns in
+    let m = c .before .before .before .before .before .before .before .before .before .number-looked in
     let w = c .before .before .before .before .put-each .ensures in
-    let on = columns-on n (now (a .levels)) (a .first) (a .look .count) (omega arith) (omega arith) in
-    let same : (i : ℕ) → nameBy columns (map number Cs) n family i ≡ nameBy columns Cs n family i = name-by-numbered columns n Cs on family in (
-      w .0 ∙ ap (λ (D : List Column). namesWritten (held (nameBy columns D n family)) (now (a .names)) (a .size)) (m .ensures) ∙ names-ext (held (nameBy columns (map number Cs) n family)) (held (nameBy columns Cs n family)) (now (a .names)) (a .size) (λ i h. ap (take 96) (same i)),
-      w .1 ∙ ap (λ (D : List Column). lengthsWritten (held (nameBy columns D n family)) (now (a .lengths)) (a .size)) (m .ensures) ∙ lengths-ext (held (nameBy columns (map number Cs) n family)) (held (nameBy columns Cs n family)) (now (a .lengths)) (a .size) (λ i h. ap (take 96) (same i)),
-    )
+    let each = eachHeld (a .look) text (m .last .1 .1 .0) family in
+    let level = levelHeld (a .look) text (now (a .levels)) family in
+    let same : (i : ℕ) → each i ≡ level i = λ i. ap (take 160) (filled-name (a .look) (now (a .levels)) (m .last .1 .1 .0) (s .pre .1) (m .ensures .0) (m .ensures .1) text (suc i) (columnAt (a .look .plots) family i)) in
+    (w .0 ∙ names-ext each level (now (a .names)) (a .size) (λ i h. same i), w .1 ∙ lengths-ext each level (now (a .lengths)) (a .size) (λ i h. same i))
 
 pub put-names-spec : {M : Type 1} → statement M
 put-names-spec =
     tie.close
     (tie.spec
-    slice-aggregate-number-columns
-    number-columns-requires
+    slice-aggregate-number-looked
+    number-looked-requires
     slice-aggregate-put-each
     put-each-requires
     same-length

@@ -1,15 +1,15 @@
 -- `put_next` meets its contract: the comma, unless it is the first name, and the name.
 -- Assumes nothing.
-use mathlib.Core.Path.{sym, ap, _∙_}
 use mathlib.Core.Bool.{Bool}
 use mathlib.Core.List.{[], _∷_}
+use mathlib.Core.Path.{sym, ap, _∙_}
 use denote.Ref.{now}
 use lib.ListN.{getD}
-use Rattle.rules.specs.Sheet.{columnNames, header}
-use Rattle.decimal.specs.Writing.{written, placeAfter}
-use Rattle.naming.specs.Listing.{separated}
-use Rattle.naming.proofs.Listing.{then-place, then-bytes}
 use borrow.Author.Needs.{needs}
+use Rattle.decimal.specs.Writing.{written, placeAfter}
+use Rattle.naming.proofs.Listing.{then-place, then-bytes}
+use Rattle.naming.specs.Columns.{lookNames}
+use Rattle.naming.specs.Listing.{separated}
 use Rattle.naming.proofs.compose.put_next.Statement.{statement}
 use Rattle.naming.proofs.compose.put_next.Tie as tie
 
@@ -23,7 +23,7 @@ returns : tie.Need-returns
 returns c =
     let a = c .before .before .before .before .before .before .before .args in
     let out = now (a .out) in
-    let name = getD (columnNames (a .mark) (header (now (a .text)))) (a .c) [] in
+    let name = getD (lookNames (a .look) (now (a .text))) (a .c) [] in
     let e = c .before .before .before .before .if1 .taken in
     let w = c .before .before .put-column .ensures in
     (w .0 ∙ ap (λ (f : Bool). placeAfter out (a .at) (separated f name)) (sym e), w .1 ∙ ap (λ (f : Bool). written out (a .at) (separated f name)) (sym e))
@@ -41,7 +41,7 @@ returns-2 : tie.Need-returns-2
 returns-2 c =
     let a = c .before .before .before .before .before .before .before .before .before .before .before .args in
     let out = now (a .out) in
-    let name = getD (columnNames (a .mark) (header (now (a .text)))) (a .c) [] in
+    let name = getD (lookNames (a .look) (now (a .text))) (a .c) [] in
     let e = c .before .before .before .before .before .before .before .before .if1 .left in
     let k = c .before .before .before .before .before .before .write-byte in
     let w = c .before .before .put-column2 .ensures in (

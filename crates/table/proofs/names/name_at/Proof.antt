@@ -7,8 +7,7 @@ use native.Mathlib.Omega.{arith}
 use denote.Ref.{now}
 use lib.ListN.{length}
 use Rattle.rules.specs.Naming.{NameAnswer, nameBuffer}
-use Rattle.naming.specs.Answers.{kindOf, countIn, namingCounted, NameNumbers, nameNumbersOf}
-use Rattle.naming.proofs.Entry.{few-columns}
+use Rattle.naming.specs.Answers.{kindOf, lookOf, namingBy, NameNumbers, nameNumbersOf}
 use Rattle.table.proofs.NameTable.{name-placed, name-none, length-none}
 use borrow.Author.Needs.{needs}
 use Rattle.table.proofs.names.name_at.Statement.{statement}
@@ -50,9 +49,8 @@ returns-2 c =
     let s = c .before .before .before .before .before .before .before .before .before .before .before in
     let a = s .args in
     let l : 1 ≤ a .place = omega arith in
-    let few = few-columns (a .kind) (now (a .text)) (s .pre .0 .0 .form) in
-    let lent = ap (λ (F : List ℕ). namingCounted (kindOf (a .kind)) (now (a .text)) (now (a .levels)) (a .counts .plots) (countIn (a .kind) (a .counts)) F (a .place) (length (now (a .name)))) (c .before .before .before .before .before .member .ensures) in
-    let same = lent ∙ name-placed (kindOf (a .kind)) (now (a .text)) (now (a .levels)) (now (a .family)) (a .counts .plots) (countIn (a .kind) (a .counts)) (a .place) (length (now (a .name))) (s .pre .0 .0) (s .pre .0 .1) (omega (arith, s .pre .0 .1)) l (s .pre .1) (s .pre .2) in
+    let lent = ap (λ (F : List ℕ). namingBy (lookOf (a .kind) (a .counts)) (now (a .text)) (now (a .levels)) F (a .place) (length (now (a .name)))) (c .before .before .before .before .before .member .ensures) in
+    let same = lent ∙ name-placed (a .kind) (a .counts) (now (a .text)) (now (a .levels)) (now (a .family)) (a .place) (length (now (a .name))) (s .pre .0) l (s .pre .1) (s .pre .2) in
     let r = c .before .before .before .name-counted .ensures in
     (c .length-of .ensures ∙ ap (λ (x : NameNumbers). x .size) (r .0) ∙ ap (λ (x : NameAnswer). length (x .name)) same, r .1 ∙ ap (nameBuffer (now (a .name))) same)
 

@@ -87,14 +87,14 @@ loop-again c =
     let ss = take (a .size) (now (a .places)) in
     let ds = take (a .size) (now (a .degrees)) in
     let x = getD (now (a .degrees)) j (pos 0) in
-    let n : List ℕ = take (getD (now (a .lengths)) j 0) (drop (96 * j) (now (a .names))) in
+    let n : List ℕ = take (getD (now (a .lengths)) j 0) (drop (160 * j) (now (a .names))) in
     let one = rowsBytes (sourceRows name (a .i) (n ∷ []) (getD (now (a .places)) j 0 ∷ []) (x ∷ [])) in
     let rest = rowsBytes (sourceRows name (a .i) (drop (j + 1) ts) (drop (j + 1) ss) (drop (j + 1) ds)) in
     let l6 = s .pre .2 in
     let l7 = s .pre .3 in
     let fit : SFits w64 x = record { sfits = c .before .before .before .before .before .before .d .given } in
-    let part : 96 * j + getD (now (a .lengths)) j 0 - 96 * j ≡ getD (now (a .lengths)) j 0 = omega arith in
-    let e : rowsBytes (sourceRows name (a .i) (take (96 * j + getD (now (a .lengths)) j 0 - 96 * j) (drop (96 * j) (now (a .names))) ∷ []) (getD (now (a .places)) j 0 ∷ []) (toZ w64 (ofZ w64 x) ∷ [])) ≡ one = rw (part, toZ-ofZ w64 x fit) in
+    let part : 160 * j + getD (now (a .lengths)) j 0 - 160 * j ≡ getD (now (a .lengths)) j 0 = omega arith in
+    let e : rowsBytes (sourceRows name (a .i) (take (160 * j + getD (now (a .lengths)) j 0 - 160 * j) (drop (160 * j) (now (a .names))) ∷ []) (getD (now (a .places)) j 0 ∷ []) (toZ w64 (ofZ w64 x) ∷ [])) ≡ one = rw (part, toZ-ofZ w64 x fit) in
     let wrote = wrote-as (b .loop .out) (b .loop .next) e (w .ensures) in (
       h,
       wrote-length (b .loop .out) (b .loop .next) one wrote ∙ b .loop .inv .1,

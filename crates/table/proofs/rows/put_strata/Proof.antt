@@ -93,15 +93,15 @@ loop-again c =
     let ds = take (a .size) (now (a .degrees)) in
     let x = getD (now (a .totals)) i (pos 0) in
     let y = getD (now (a .residuals)) i (pos 0) in
-    let n : List ℕ = take (getD (now (a .strata-lengths)) i 0) (drop (96 * i) (now (a .strata))) in
+    let n : List ℕ = take (getD (now (a .strata-lengths)) i 0) (drop (160 * i) (now (a .strata))) in
     let one = rowsBytes (stratumRows n (i + 1) ts ss ds x y) in
     let rest = rowsBytes (strataRows (i + 1 + 1) (drop (i + 1) ps) (drop (i + 1) (take (a .count) (now (a .totals)))) (drop (i + 1) (take (a .count) (now (a .residuals)))) ts ss ds) in
     let lt = s .pre .6 in
     let lr = s .pre .7 in
     let fx : SFits w64 x = record { sfits = c .before .before .before .before .before .before .total .given } in
     let fy : SFits w64 y = record { sfits = c .before .before .before .before .before .residual .given } in
-    let part : 96 * i + getD (now (a .strata-lengths)) i 0 - 96 * i ≡ getD (now (a .strata-lengths)) i 0 = omega arith in
-    let e : rowsBytes (stratumRows (take (96 * i + getD (now (a .strata-lengths)) i 0 - 96 * i) (drop (96 * i) (now (a .strata)))) (i + 1) ts ss ds (toZ w64 (ofZ w64 x)) (toZ w64 (ofZ w64 y))) ≡ one = rw (part, toZ-ofZ w64 x fx, toZ-ofZ w64 y fy) in
+    let part : 160 * i + getD (now (a .strata-lengths)) i 0 - 160 * i ≡ getD (now (a .strata-lengths)) i 0 = omega arith in
+    let e : rowsBytes (stratumRows (take (160 * i + getD (now (a .strata-lengths)) i 0 - 160 * i) (drop (160 * i) (now (a .strata)))) (i + 1) ts ss ds (toZ w64 (ofZ w64 x)) (toZ w64 (ofZ w64 y))) ≡ one = rw (part, toZ-ofZ w64 x fx, toZ-ofZ w64 y fy) in
     let wrote = wrote-as (b .loop .out) (b .loop .next) e (w .ensures) in (
       h,
       wrote-length (b .loop .out) (b .loop .next) one wrote ∙ b .loop .inv .1,
