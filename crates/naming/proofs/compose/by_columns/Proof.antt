@@ -8,11 +8,13 @@ use native.Mathlib.Omega.{arith}
 use denote.Ref.{now}
 use lib.ListN.{getD, drop}
 use borrow.Author.Needs.{needs}
+use Rattle.rules.specs.Factor.{Column}
 use Rattle.rules.specs.Family.{membersOf, allNumbered}
-use Rattle.rules.specs.Names.{equivalentColumn, nameByColumn, nameByInfimum, bytesOf}
+use Rattle.rules.specs.Names.{Name, equivalentColumn, nameByColumn, bytesOf}
 use Rattle.decimal.specs.Writing.{written, placeAfter}
 use Rattle.naming.proofs.Rules.{column-none, column-some}
 use Rattle.naming.proofs.Tables.{alone-numbered, rest-part}
+use Rattle.naming.specs.declared.columns.Look.{Look}
 use Rattle.naming.specs.Columns.{ownIn, lookedIn, ownNames, lookNames}
 use Rattle.naming.proofs.compose.by_columns.Statement.{statement}
 use Rattle.naming.proofs.compose.by_columns.Tie as tie
@@ -49,27 +51,50 @@ put-marked-requires c κs = search needs
 same-length : tie.Need-same-length
 same-length c = search needs
 
+-- the lowest equivalent column
+module _ (k : tie.After-equivalent-column) where
+  abbrev start : tie.Start
+  start = k .before .before .before .before .before .before .before
+
+  abbrev look : Look
+  look = start .args .look
+
+  abbrev F : Column
+  F = now (start .args .member)
+
+  abbrev out : List ℕ
+  out = now (start .args .out)
+
+  abbrev own : List Column
+  own = ownIn look (now (start .args .columns))
+
+  abbrev all : List Column
+  all = lookedIn look (now (start .args .columns))
+
+  abbrev names : List (List ℕ)
+  names = ownNames look (now (start .args .text))
+
+  abbrev looked : List (List ℕ)
+  looked = lookNames look (now (start .args .text))
+
+  abbrev name : ℕ → Name
+  name x = nameByColumn (look .plots) own all (start .args .place) F x
+
+  is : k .equivalent-column .result ≡ equivalentColumn F 0 own
+  is = k .equivalent-column .ensures ∙ ap (λ (t : List ℕ). equivalentColumn F 0 (membersOf (look .plots) t (look .count))) (rest-part (240 * look .before) (now (start .args .columns)))
+
 returns : tie.Need-returns
 unfolding bytesOf
 returns c =
-    let a = c .before .before .before .before .before .before .before .before .before .before .before .before .args in
-    let look = a .look in
-    let n = look .plots in
-    let F = now (a .member) in
-    let table = now (a .columns) in
-    let out = now (a .out) in
-    let own = ownIn look table in
-    let all = lookedIn look table in
-    let names = ownNames look (now (a .text)) in
-    let looked = lookNames look (now (a .text)) in
-    let x = c .before .before .before .before .before .equivalent-column .result in
-    let is : x ≡ equivalentColumn F 0 own = c .before .before .before .before .before .equivalent-column .ensures ∙ ap (λ (t : List ℕ). equivalentColumn F 0 (membersOf n t (look .count))) (rest-part (240 * look .before) table) in
+    let k = c .before .before .before .before .before in
+    let a = start k .args in
+    let x = k .equivalent-column .result in
     let some = c .before .before .before .before .if1 .taken in
     let up : x ≡ suc (x - 1) = omega arith in
-    let q : getD names (x - 1) [] ≡ bytesOf names looked (nameByColumn n own all (a .place) F (equivalentColumn F 0 own)) =
-    sym (ap (λ (y : ℕ). bytesOf names looked (nameByColumn n own all (a .place) F y)) (sym is ∙ up) ∙ ap (bytesOf names looked) (column-some names looked n own all (a .place) F (x - 1))) in
+    let q : getD (names k) (x - 1) [] ≡ bytesOf (names k) (looked k) (name k (equivalentColumn (F k) 0 (own k))) =
+    sym (ap (λ (y : ℕ). bytesOf (names k) (looked k) (name k y)) (sym (is k) ∙ up) ∙ ap (bytesOf (names k) (looked k)) (column-some (names k) (looked k) (look k .plots) (own k) (all k) (a .place) (F k) (x - 1))) in
     let w = c .before .before .put-marked .ensures in
-    (w .0 ∙ ap (placeAfter out 0) q, w .1 ∙ ap (written out 0) q)
+    (w .0 ∙ ap (placeAfter (out k) 0) q, w .1 ∙ ap (written (out k) 0) q)
 
 by-sides-requires : tie.Need-by-sides-requires
 by-sides-requires c κs = search needs
@@ -79,22 +104,11 @@ same-length-2 c = search needs
 
 returns-2 : tie.Need-returns-2
 returns-2 c =
-    let a = c .before .before .before .before .before .before .before .before .before .before .before .before .args in
-    let look = a .look in
-    let n = look .plots in
-    let F = now (a .member) in
-    let table = now (a .columns) in
-    let out = now (a .out) in
-    let own = ownIn look table in
-    let all = lookedIn look table in
-    let names = ownNames look (now (a .text)) in
-    let looked = lookNames look (now (a .text)) in
-    let x = c .before .before .before .before .before .equivalent-column .result in
-    let is : x ≡ equivalentColumn F 0 own = c .before .before .before .before .before .equivalent-column .ensures ∙ ap (λ (t : List ℕ). equivalentColumn F 0 (membersOf n t (look .count))) (rest-part (240 * look .before) table) in
-    let q : bytesOf names looked (nameByInfimum n own all (a .place) F) ≡ bytesOf names looked (nameByColumn n own all (a .place) F (equivalentColumn F 0 own)) =
-    ap (bytesOf names looked) (sym (ap (nameByColumn n own all (a .place) F) (sym is ∙ c .before .before .before .before .if1 .left) ∙ column-none names looked n own all (a .place) F)) in
+    let k = c .before .before .before .before .before in
+    let a = start k .args in
+    let q = ap (bytesOf (names k) (looked k)) (sym (ap (name k) (sym (is k) ∙ c .before .before .before .before .if1 .left) ∙ column-none (names k) (looked k) (look k .plots) (own k) (all k) (a .place) (F k))) in
     let w = c .before .before .by-sides .ensures in
-    (w .0 ∙ ap (placeAfter out 0) q, w .1 ∙ ap (written out 0) q)
+    (w .0 ∙ ap (placeAfter (out k) 0) q, w .1 ∙ ap (written (out k) 0) q)
 
 pub by-columns-spec : {M : Type 1} → statement M
 by-columns-spec =

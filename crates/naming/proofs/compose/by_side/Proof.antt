@@ -4,6 +4,7 @@ use mathlib.Core.Bool.{true, false}
 use mathlib.Core.Path.{_≡_, sym, ap, _∙_}
 use Prim.Native.Nat.{_+_}
 use native.Mathlib.Omega.{arith}
+use mathlib.Core.List.{List}
 use denote.Ref.{now}
 use lib.ListN.{length}
 use lib.Seq.{length-take-le}
@@ -16,6 +17,7 @@ use Rattle.decimal.proofs.Writing.{written-nil, place-nil}
 use Rattle.decimal.specs.Writing.{written, placeAfter}
 use Rattle.naming.proofs.Rules.{side-fits, side-fits-not}
 use Rattle.naming.proofs.SideWalks.{word-join, word-listed}
+use Rattle.naming.specs.declared.columns.Look.{Look}
 use Rattle.naming.specs.Columns.{lookedIn, sideOf}
 use Rattle.naming.specs.Members.{listText}
 use Rattle.naming.proofs.compose.by_side.Statement.{statement}
@@ -48,41 +50,47 @@ put-list-requires c κs = search needs
 same-length : tie.Need-same-length
 same-length c = search needs
 
+-- what the columns on the side make
+module _ (k : tie.After-alike) where
+  abbrev start : tie.Start
+  start = k .before .before .before .before .before .before .before .before .before
+
+  abbrev look : Look
+  look = start .args .look
+
+  abbrev side : RuleSide
+  side = sideOf (look .plots) (start .args .side)
+
+  abbrev F : Column
+  F = now (start .args .member)
+
+  abbrev S : List Column
+  S = lookedIn look (now (start .args .columns))
+
+  size : length S ≡ look .before + look .count
+  size = length-members (look .plots) (start .pre .0 .columns .few-plots) (now (start .args .columns)) (look .before + look .count)
+
+  found : alike (joinOf side F S) F ≡ k .alike .result
+  found = sym (ap (λ (X : Column). alike X F) (k .before .before .joined .ensures ∙ word-join (k .before .before .before .side-word .result) side F S (look .before + look .count) size (k .before .before .before .side-word .ensures))) ∙ sym (k .alike .ensures)
+
 returns : tie.Need-returns
 returns c =
-    let s = c .before .before .before .before .before .before .before .before .before .before .before .before .before .before in
-    let a = s .args in
-    let look = a .look in
-    let n = look .plots in
-    let count = look .before + look .count in
-    let F = now (a .member) in
+    let k = c .before .before .before .before .before in
+    let a = start k .args in
     let out = now (a .out) in
-    let side : RuleSide = sideOf n (a .side) in
-    let S = lookedIn look (now (a .columns)) in
-    let size = length-members n (s .pre .0 .columns .few-plots) (now (a .columns)) count in
     let word = c .before .before .before .before .before .before .before .before .side-word in
-    let is = word-join (word .result) side F S count size (word .ensures) in
-    let e : alike (joinOf side F S) F ≡ true = sym (ap (λ (X : Column). alike X F) (c .before .before .before .before .before .before .before .joined .ensures ∙ is)) ∙ sym (c .before .before .before .before .before .alike .ensures) ∙ c .before .before .before .before .if1 .taken in
-    let q = ap (listText look (a .side) (now (a .text))) (word-listed (word .result) side F S count size (word .ensures)) ∙ sym (side-fits look (a .side) (now (a .text)) (now (a .columns)) F e) in
+    let q =
+    ap (listText (look k) (a .side) (now (a .text))) (word-listed (word .result) (side k) (F k) (S k) (look k .before + look k .count) (size k) (word .ensures))
+    ∙ sym (side-fits (look k) (a .side) (now (a .text)) (now (a .columns)) (F k) (found k ∙ c .before .before .before .before .if1 .taken)) in
     let w = c .before .before .put-list .ensures in
     (w .0 ∙ ap (placeAfter out 0) q, w .1 ∙ ap (written out 0) q)
 
 returns-2 : tie.Need-returns-2
 returns-2 c =
-    let s = c .before .before .before .before .before .before .before .before .before .before in
-    let a = s .args in
-    let look = a .look in
-    let n = look .plots in
-    let count = look .before + look .count in
-    let F = now (a .member) in
+    let k = c .before in
+    let a = start k .args in
     let out = now (a .out) in
-    let side : RuleSide = sideOf n (a .side) in
-    let S = lookedIn look (now (a .columns)) in
-    let size = length-members n (s .pre .0 .columns .few-plots) (now (a .columns)) count in
-    let word = c .before .before .before .before .side-word in
-    let is = word-join (word .result) side F S count size (word .ensures) in
-    let e : alike (joinOf side F S) F ≡ false = sym (ap (λ (X : Column). alike X F) (c .before .before .before .joined .ensures ∙ is)) ∙ sym (c .before .alike .ensures) ∙ c .if1 .left in
-    let q = sym (side-fits-not look (a .side) (now (a .text)) (now (a .columns)) F e) in
+    let q = sym (side-fits-not (look k) (a .side) (now (a .text)) (now (a .columns)) (F k) (found k ∙ c .if1 .left)) in
     (sym (place-nil out 0) ∙ ap (placeAfter out 0) q, sym (written-nil out 0) ∙ ap (written out 0) q)
 
 pub by-side-spec : {M : Type 1} → statement M

@@ -6,11 +6,12 @@ use Prim.Native.Nat.{ℕ, _*_, _-_}
 use denote.Ref.{now}
 use lib.ListN.{length, drop, take}
 use borrow.Author.Needs.{needs}
+use Rattle.rules.specs.Factor.{Column}
 use Rattle.decimal.specs.Writing.{written, placeAfter}
 use Rattle.naming.proofs.Rules.{else-some, else-none, infimum-else, supremum-else}
 use Rattle.naming.proofs.Tables.{alone-numbered, rest-part}
 use Rattle.naming.specs.Columns.{alone}
-use Rattle.naming.specs.Members.{sideText, supremumText, placeText}
+use Rattle.naming.specs.Members.{sideText, supremumText, infimumText, placeText, orElse}
 use Rattle.naming.specs.declared.columns.Look.{Look}
 use Rattle.naming.specs.declared.sides.Side.the-variants.{Coarser, Finer}
 use Rattle.naming.proofs.compose.by_sides.Statement.{statement}
@@ -43,27 +44,74 @@ by-side-requires c κs =
 same-length : tie.Need-same-length
 same-length c = search needs
 
+-- the columns of the kind that are coarser
+module _ (k : tie.After-by-side) where
+  abbrev start : tie.Start
+  start = k .before .before .before .before .before .before .before .before .before
+
+  abbrev look : Look
+  look = start .args .look
+
+  abbrev F : Column
+  F = now (start .args .member)
+
+  abbrev text : List ℕ
+  text = now (start .args .text)
+
+  abbrev table : List ℕ
+  table = now (start .args .columns)
+
+  abbrev out : List ℕ
+  out = now (start .args .out)
+
+  abbrev above : List ℕ
+  above = sideText (alone look) Coarser text (drop (240 * look .before) table) F
+
+  abbrev rest : List ℕ
+  rest = supremumText look text table (start .args .place) F
+
+  abbrev whole : List ℕ
+  whole = infimumText look text table (start .args .place) F
+
+  same : sideText (k .before .before .alone .result) Coarser text (take (length table - 240 * look .before) (drop (240 * look .before) table)) F ≡ above
+  same = ap₂ (λ (l : Look) (t : List ℕ). sideText l Coarser text t F) (k .before .before .alone .ensures) (rest-part (240 * look .before) table)
+
+  at : k .by-side .result ≡ placeAfter out 0 above
+  at = k .by-side .ensures .0 ∙ ap (placeAfter out 0) same
+
+  bytes : k .by-side .last .1 .1 .1 .1 .1 .0 ≡ written out 0 above
+  bytes = k .by-side .ensures .1 ∙ ap (written out 0) same
+
+  -- none is the member: the buffer is as it was
+  module _ (z : k .by-side .result ≡ 0) where
+    kept : k .by-side .last .1 .1 .1 .1 .1 .0 ≡ out
+    kept = bytes ∙ else-none out (start .pre .2) above rest (sym at ∙ z) .0
+
+    rest-is : rest ≡ whole
+    rest-is = else-none out (start .pre .2) above rest (sym at ∙ z) .1 ∙ sym (infimum-else look text table (start .args .place) F)
+
+-- then all that are finer
+module _ (m : tie.After-by-side2) where
+  abbrev first : tie.After-by-side
+  first = m .before .before .before .before .before
+
+  abbrev below : List ℕ
+  below = sideText (look first) Finer (text first) (table first) (F first)
+
+  at2 : m .by-side2 .result ≡ placeAfter (out first) 0 below
+  at2 = m .by-side2 .ensures .0 ∙ ap (λ (o : List ℕ). placeAfter o 0 below) (kept first (m .before .before .if1 .left))
+
+  bytes2 : m .by-side2 .last .1 .1 .1 .1 .1 .0 ≡ written (out first) 0 below
+  bytes2 = m .by-side2 .ensures .1 ∙ ap (λ (o : List ℕ). written o 0 below) (kept first (m .before .before .if1 .left))
+
+  below-is : orElse below (placeText (start first .args .place)) ≡ whole first
+  below-is = sym (supremum-else (look first) (text first) (table first) (start first .args .place) (F first)) ∙ rest-is first (m .before .before .if1 .left)
+
 returns : tie.Need-returns
 returns c =
-    let s = c .before .before .before .before .before .before .before .before .before .before .before .before in
-    let a = s .args in
-    let look = a .look in
-    let F = now (a .member) in
-    let text = now (a .text) in
-    let table = now (a .columns) in
-    let out = now (a .out) in
-    let room = s .pre .2 in
-    let after = drop (240 * look .before) table in
-    let above = sideText (alone look) Coarser text after F in
-    let rest = supremumText look text table (a .place) F in
-    let is = infimum-else look text table (a .place) F in
-    let k = c .before .before .before .by-side in
-    let same : sideText (c .before .before .before .before .before .alone .result) Coarser text (take (length table - 240 * look .before) after) F ≡ above =
-    ap₂ (λ (l : Look) (t : List ℕ). sideText l Coarser text t F) (c .before .before .before .before .before .alone .ensures) (rest-part (240 * look .before) table) in
-    let at : k .result ≡ placeAfter out 0 above = k .ensures .0 ∙ ap (placeAfter out 0) same in
-    let bytes : k .last .1 .1 .1 .1 .1 .0 ≡ written out 0 above = k .ensures .1 ∙ ap (written out 0) same in
-    let q = else-some out room above rest (λ z. c .if1 .taken (at ∙ z)) ∙ sym is in
-    (at ∙ ap (placeAfter out 0) q, bytes ∙ ap (written out 0) q)
+    let k = c .before .before .before in
+    let q = else-some (out k) (start k .pre .2) (above k) (rest k) (λ z. c .if1 .taken (at k ∙ z)) ∙ sym (infimum-else (look k) (text k) (table k) (start k .args .place) (F k)) in
+    (at k ∙ ap (placeAfter (out k) 0) q, bytes k ∙ ap (written (out k) 0) q)
 
 by-side-requires-2 : tie.Need-by-side-requires-2
 by-side-requires-2 c κs = search needs
@@ -73,32 +121,10 @@ same-length-2 c = search needs
 
 returns-2 : tie.Need-returns-2
 returns-2 c =
-    let s = c .before .before .before .before .before .before .before .before .before .before .before .before .before .before .before .before .before in
-    let a = s .args in
-    let look = a .look in
-    let F = now (a .member) in
-    let text = now (a .text) in
-    let table = now (a .columns) in
-    let out = now (a .out) in
-    let room = s .pre .2 in
-    let after = drop (240 * look .before) table in
-    let above = sideText (alone look) Coarser text after F in
-    let rest = supremumText look text table (a .place) F in
-    let is = infimum-else look text table (a .place) F in
-    let k = c .before .before .before .before .before .before .before .before .by-side in
-    let same : sideText (c .before .before .before .before .before .before .before .before .before .before .alone .result) Coarser text (take (length table - 240 * look .before) after) F ≡ above =
-    ap₂ (λ (l : Look) (t : List ℕ). sideText l Coarser text t F) (c .before .before .before .before .before .before .before .before .before .before .alone .ensures) (rest-part (240 * look .before) table) in
-    let at : k .result ≡ placeAfter out 0 above = k .ensures .0 ∙ ap (placeAfter out 0) same in
-    let bytes : k .last .1 .1 .1 .1 .1 .0 ≡ written out 0 above = k .ensures .1 ∙ ap (written out 0) same in
-    let none = else-none out room above rest (sym at ∙ c .before .before .before .before .before .if1 .left) in
-    let kept : k .last .1 .1 .1 .1 .1 .0 ≡ out = bytes ∙ none .0 in
-    let below = sideText look Finer text table F in
-    let m = c .before .before .before .by-side2 in
-    let at2 : m .result ≡ placeAfter out 0 below = m .ensures .0 ∙ ap (λ (o : List ℕ). placeAfter o 0 below) kept in
-    let bytes2 : m .last .1 .1 .1 .1 .1 .0 ≡ written out 0 below = m .ensures .1 ∙ ap (λ (o : List ℕ). written o 0 below) kept in
-    let is2 = supremum-else look text table (a .place) F in
-    let q = else-some out room below (placeText (a .place)) (λ z. c .if2 .taken (at2 ∙ z)) ∙ sym is2 ∙ none .1 ∙ sym is in
-    (at2 ∙ ap (placeAfter out 0) q, bytes2 ∙ ap (written out 0) q)
+    let m = c .before .before .before in
+    let k = first m in
+    let q = else-some (out k) (start k .pre .2) (below m) (placeText (start k .args .place)) (λ z. c .if2 .taken (at2 m ∙ z)) ∙ below-is m in
+    (at2 m ∙ ap (placeAfter (out k) 0) q, bytes2 m ∙ ap (written (out k) 0) q)
 
 put-place-requires : tie.Need-put-place-requires
 put-place-requires c κs = search needs
@@ -108,36 +134,13 @@ same-length-3 c = search needs
 
 returns-3 : tie.Need-returns-3
 returns-3 c =
-    let s = c .before .before .before .before .before .before .before .before .before .before .before .before .before .before .before .before .before .before .before .before .before in
-    let a = s .args in
-    let look = a .look in
-    let F = now (a .member) in
-    let text = now (a .text) in
-    let table = now (a .columns) in
-    let out = now (a .out) in
-    let room = s .pre .2 in
-    let after = drop (240 * look .before) table in
-    let above = sideText (alone look) Coarser text after F in
-    let rest = supremumText look text table (a .place) F in
-    let is = infimum-else look text table (a .place) F in
-    let k = c .before .before .before .before .before .before .before .before .before .before .before .before .by-side in
-    let same : sideText (c .before .before .before .before .before .before .before .before .before .before .before .before .before .before .alone .result) Coarser text (take (length table - 240 * look .before) after) F ≡ above =
-    ap₂ (λ (l : Look) (t : List ℕ). sideText l Coarser text t F) (c .before .before .before .before .before .before .before .before .before .before .before .before .before .before .alone .ensures) (rest-part (240 * look .before) table) in
-    let at : k .result ≡ placeAfter out 0 above = k .ensures .0 ∙ ap (placeAfter out 0) same in
-    let bytes : k .last .1 .1 .1 .1 .1 .0 ≡ written out 0 above = k .ensures .1 ∙ ap (written out 0) same in
-    let none = else-none out room above rest (sym at ∙ c .before .before .before .before .before .before .before .before .before .if1 .left) in
-    let kept : k .last .1 .1 .1 .1 .1 .0 ≡ out = bytes ∙ none .0 in
-    let below = sideText look Finer text table F in
-    let m = c .before .before .before .before .before .before .before .by-side2 in
-    let at2 : m .result ≡ placeAfter out 0 below = m .ensures .0 ∙ ap (λ (o : List ℕ). placeAfter o 0 below) kept in
-    let bytes2 : m .last .1 .1 .1 .1 .1 .0 ≡ written out 0 below = m .ensures .1 ∙ ap (λ (o : List ℕ). written o 0 below) kept in
-    let is2 = supremum-else look text table (a .place) F in
-    let last = placeText (a .place) in
-    let none2 = else-none out room below last (sym at2 ∙ c .before .before .before .before .if2 .left) in
-    let kept2 : m .last .1 .1 .1 .1 .1 .0 ≡ out = bytes2 ∙ none2 .0 in
-    let q = none2 .1 ∙ sym is2 ∙ none .1 ∙ sym is in
+    let m = c .before .before .before .before .before .before .before in
+    let k = first m in
+    let none = else-none (out k) (start k .pre .2) (below m) (placeText (start k .args .place)) (sym (at2 m) ∙ c .before .before .before .before .if2 .left) in
+    let still : m .by-side2 .last .1 .1 .1 .1 .1 .0 ≡ out k = bytes2 m ∙ none .0 in
+    let q = none .1 ∙ below-is m in
     let w = c .before .before .put-place .ensures in
-    (w .0 ∙ ap₂ (λ (o t : List ℕ). placeAfter o 0 t) kept2 q, w .1 ∙ ap₂ (λ (o t : List ℕ). written o 0 t) kept2 q)
+    (w .0 ∙ ap₂ (λ (o t : List ℕ). placeAfter o 0 t) still q, w .1 ∙ ap₂ (λ (o t : List ℕ). written o 0 t) still q)
 
 pub by-sides-spec : {M : Type 1} → statement M
 by-sides-spec =

@@ -1,7 +1,7 @@
 -- `is_listed` meets its contract: no column before j keeps column i from the list.
 -- Assumes nothing.
-use mathlib.Core.Bool.{true, false}
-use mathlib.Core.List.{[]}
+use mathlib.Core.Bool.{Bool, true}
+use mathlib.Core.List.{List, []}
 use mathlib.Core.Path.{_≡_, refl, sym, ap, ap₂, _∙_}
 use Prim.Native.Nat.{ℕ, _-_, _≤_}
 use native.Mathlib.Omega.{arith}
@@ -42,21 +42,39 @@ outdoes-requires c κs =
     let s = c .before .before .before .before .before in
     omega (arith, s .pre .0 .few-plots, s .pre .0 .few, s .pre .0 .long)
 
+-- whether column j keeps column i from the list
+module _ (k : tie.After-outdoes Inv-loop μ-loop) where
+  abbrev start : tie.Start Inv-loop μ-loop
+  start = k .before .before .before .before .before .before
+
+  abbrev t : ℕ → Bool
+  t = bitAt (start .args .word)
+
+  abbrev side : RuleSide
+  side = sideOf (start .args .n) (start .args .side)
+
+  abbrev S : List Column
+  S = membersOf (start .args .n) (now (start .args .columns)) (start .args .count)
+
+  abbrev i : ℕ
+  i = start .args .i
+
+  abbrev j : ℕ
+  j = k .before .before .loop .j
+
+  found : outdone (t j) side (getD S j []) (getD S i []) (ltb j i) ≡ k .outdoes .result
+  found =
+      let a = start .args in
+      let small = start .pre .0 .few-plots in
+      ap₂ (λ (C D : Column). outdone (t j) side C D (ltb j i)) (member-is (a .n) small (now (a .columns)) (a .count) j (omega arith)) (member-is (a .n) small (now (a .columns)) (a .count) i (omega arith))
+      ∙ sym (k .outdoes .ensures)
+
 returns-2 : tie.Need-returns-2 Inv-loop μ-loop
 returns-2 c =
-    let b = c .before .before .before in
-    let s = c .before .before .before .before .before .before .before in
-    let a = s .args in
-    let t = bitAt (a .word) in
-    let f : RuleSide = sideOf (a .n) (a .side) in
-    let b′ = now (a .columns) in
-    let S = membersOf (a .n) b′ (a .count) in
-    let j = b .loop .j in
-    let small = s .pre .0 .few-plots in
-    let e : outdone (t j) f (getD S j []) (getD S (a .i) []) (ltb j (a .i)) ≡ true =
-    ap₂ (λ (C D : Column). outdone (t j) f C D (ltb j (a .i))) (member-is (a .n) small b′ (a .count) j (omega arith)) (member-is (a .n) small b′ (a .count) (a .i) (omega arith))
-    ∙ sym (c .before .outdoes .ensures) ∙ c .if2 .taken in
-    sym (listed-if t f S (a .i) (b .loop .inv .1) ∙ outdone-here t f S (a .i) j (omega (arith, length-members (a .n) small b′ (a .count))) e)
+    let k = c .before in
+    let s = start k in
+    let size = length-members (s .args .n) (s .pre .0 .few-plots) (now (s .args .columns)) (s .args .count) in
+    sym (listed-if (t k) (side k) (S k) (i k) (c .before .before .before .loop .inv .1) ∙ outdone-here (t k) (side k) (S k) (i k) (j k) (omega (arith, size)) (found k ∙ c .if2 .taken))
 
 add-j : tie.Need-add-j Inv-loop μ-loop
 add-j c = omega arith
@@ -66,19 +84,8 @@ loop-less c = omega arith
 
 loop-again : tie.Need-loop-again Inv-loop μ-loop
 loop-again c =
-    let b = c .before .before .before in
-    let s = c .before .before .before .before .before .before .before in
-    let a = s .args in
-    let t = bitAt (a .word) in
-    let f : RuleSide = sideOf (a .n) (a .side) in
-    let b′ = now (a .columns) in
-    let S = membersOf (a .n) b′ (a .count) in
-    let j = b .loop .j in
-    let small = s .pre .0 .few-plots in
-    let e : outdone (t j) f (getD S j []) (getD S (a .i) []) (ltb j (a .i)) ≡ false =
-    ap₂ (λ (C D : Column). outdone (t j) f C D (ltb j (a .i))) (member-is (a .n) small b′ (a .count) j (omega arith)) (member-is (a .n) small b′ (a .count) (a .i) (omega arith))
-    ∙ sym (c .before .outdoes .ensures) ∙ c .if2 .left in
-    (omega arith, b .loop .inv .1, allowed-here t f S (a .i) j (b .loop .inv .2) e)
+    let k = c .before in
+    (omega arith, c .before .before .before .loop .inv .1, allowed-here (t k) (side k) (S k) (i k) (j k) (c .before .before .before .loop .inv .2) (found k ∙ c .if2 .left))
 
 returns-3 : tie.Need-returns-3 Inv-loop μ-loop
 returns-3 c =

@@ -1,8 +1,8 @@
 -- `joined` meets its contract: the columns from c on are joined.
 -- Assumes nothing.
-use mathlib.Core.Bool.{true, false, true≢false}
-use mathlib.Core.List.{[]}
-use mathlib.Core.Path.{_≡_, sym, ap, _∙_}
+use mathlib.Core.Bool.{Bool, true, false, true≢false}
+use mathlib.Core.List.{List, []}
+use mathlib.Core.Path.{_≡_, sym, ap, ap₂, _∙_}
 use Prim.Native.Nat.{ℕ, suc, _-_, _≤_, _<_}
 use native.Mathlib.Omega.{arith}
 use denote.Ref.{now}
@@ -43,25 +43,49 @@ sub-c c = omega arith
 has-requires : tie.Need-has-requires Inv-loop μ-loop
 has-requires c κs = omega (arith, c .before .before .before .before .pre .0 .few)
 
+-- the column before those that are joined
+module _ (b : tie.At-loop Inv-loop μ-loop) (some : 0 < b .loop .c) where
+  abbrev start : tie.Start Inv-loop μ-loop
+  start = b .before .before .before
+
+  abbrev n : ℕ
+  n = start .args .n
+
+  abbrev side : RuleSide
+  side = sideOf n (start .args .side)
+
+  abbrev word : ℕ → Bool
+  word = bitAt (start .args .word)
+
+  abbrev S : List Column
+  S = membersOf n (now (start .args .columns)) (start .args .count)
+
+  abbrev i : ℕ
+  i = b .loop .c - 1
+
+  size : length S ≡ start .args .count
+  size = length-members n (start .pre .0 .few-plots) (now (start .args .columns)) (start .args .count)
+
+  less : i < length S
+  less = omega (arith, size, b .loop .inv .0)
+
+  is : getD S i [] ≡ columnAt n (now (start .args .columns)) i
+  is = member-is n (start .pre .0 .few-plots) (now (start .args .columns)) (start .args .count) i (omega (arith, less, size))
+
+  -- what is joined before it
+  joined-before : take n (b .loop .made) ≡ joinBy word side (suc i) (drop (suc i) S)
+  joined-before =
+      let next : b .loop .c ≡ suc i = omega arith in
+      b .loop .inv .2 ∙ ap (λ (j : ℕ). joinBy word side j (drop j S)) next
+
 join-requires : tie.Need-join-requires Inv-loop μ-loop
 join-requires c κs =
     let b = c .before .before .before .before in
-    let s = c .before .before .before .before .before .before .before in
-    let a = s .args in
-    let n = a .n in
-    let t = now (a .columns) in
-    let word = bitAt (a .word) in
-    let f : RuleSide = sideOf n (a .side) in
-    let S = membersOf n t (a .count) in
-    let small = s .pre .0 .few-plots in
-    let few = s .pre .0 .few in
-    let long = s .pre .0 .long in
-    let i = b .loop .c - 1 in
-    let next : suc i ≡ b .loop .c = omega arith in
-    let less : i < a .count = omega arith in
-    let size : length S ≡ a .count = length-members n small t (a .count) in
-    let is : getD S i [] ≡ columnAt n t i = member-is n small t (a .count) i less in
-    (small, omega arith, (sym (ap number is) ∙ numbered-at S (s .pre .1) i (omega arith) ∙ is, b .loop .inv .1))
+    let h : 0 < b .loop .c = omega arith in
+    let s = start b h in
+    let l = less b h in
+    let z = size b h in
+    (s .pre .0 .few-plots, omega (arith, s .pre .0 .few-plots, s .pre .0 .long), (sym (ap number (is b h)) ∙ numbered-at (S b h) (s .pre .1) (i b h) (less b h) ∙ is b h, b .loop .inv .1))
 
 loop-less : tie.Need-loop-less Inv-loop μ-loop
 loop-less c = omega arith
@@ -69,26 +93,12 @@ loop-less c = omega arith
 loop-again : tie.Need-loop-again Inv-loop μ-loop
 loop-again c =
     let b = c .before .before .before .before .before in
-    let s = c .before .before .before .before .before .before .before .before in
-    let a = s .args in
-    let n = a .n in
-    let t = now (a .columns) in
-    let word = bitAt (a .word) in
-    let f : RuleSide = sideOf n (a .side) in
-    let S = membersOf n t (a .count) in
-    let small = s .pre .0 .few-plots in
-    let few = s .pre .0 .few in
-    let long = s .pre .0 .long in
-    let i = b .loop .c - 1 in
-    let next : suc i ≡ b .loop .c = omega arith in
-    let less : i < a .count = omega arith in
-    let size : length S ≡ a .count = length-members n small t (a .count) in
-    let is : getD S i [] ≡ columnAt n t i = member-is n small t (a .count) i less in
-    let e : word i ≡ true = sym (c .before .before .before .has .ensures) ∙ c .before .before .if1 .taken in
-    let more : take n (b .loop .made) ≡ joinBy word f (suc i) (drop (suc i) S) = b .loop .inv .2 ∙ ap (λ (j : ℕ). joinBy word f j (drop j S)) (sym next) in (
+    let h : 0 < b .loop .c = omega arith in
+    let f = side b h in
+    let e : word b h (i b h) ≡ true = sym (c .before .before .before .has .ensures) ∙ c .before .before .if1 .taken in (
       omega arith,
       λ z. absurd (true≢false z),
-      c .join .ensures ∙ ap (f .join (columnAt n t i)) more ∙ ap (λ (X : Column). f .join X (joinBy word f (suc i) (drop (suc i) S))) (sym is) ∙ sym (by-here word f S i (omega arith) e),
+      c .join .ensures ∙ ap₂ (f .join) (sym (is b h)) (joined-before b h) ∙ sym (by-here (word b h) f (S b h) (i b h) (less b h) e),
     )
 
 loop-less-2 : tie.Need-loop-less-2 Inv-loop μ-loop
@@ -97,26 +107,9 @@ loop-less-2 c = omega arith
 loop-again-2 : tie.Need-loop-again-2 Inv-loop μ-loop
 loop-again-2 c =
     let b = c .before .before .before in
-    let s = c .before .before .before .before .before .before in
-    let a = s .args in
-    let n = a .n in
-    let t = now (a .columns) in
-    let word = bitAt (a .word) in
-    let f : RuleSide = sideOf n (a .side) in
-    let S = membersOf n t (a .count) in
-    let small = s .pre .0 .few-plots in
-    let few = s .pre .0 .few in
-    let long = s .pre .0 .long in
-    let i = b .loop .c - 1 in
-    let next : suc i ≡ b .loop .c = omega arith in
-    let less : i < a .count = omega arith in
-    let size : length S ≡ a .count = length-members n small t (a .count) in
-    let is : getD S i [] ≡ columnAt n t i = member-is n small t (a .count) i less in
-    let e : word i ≡ false = sym (c .before .has .ensures) ∙ c .if1 .left in (
-      omega arith,
-      b .loop .inv .1,
-      b .loop .inv .2 ∙ ap (λ (j : ℕ). joinBy word f j (drop j S)) (sym next) ∙ sym (by-past word f S i (omega arith) e),
-    )
+    let h : 0 < b .loop .c = omega arith in
+    let e : word b h (i b h) ≡ false = sym (c .before .has .ensures) ∙ c .if1 .left in
+    (omega arith, b .loop .inv .1, joined-before b h ∙ sym (by-past (word b h) (side b h) (S b h) (i b h) (less b h) e))
 
 returns : tie.Need-returns Inv-loop μ-loop
 returns c =
