@@ -56,9 +56,9 @@ pub struct Trial {
 }
 
 impl Trial {
-    /// Of a sheet, or of a formula, which has no line end.
+    /// Of a sheet, or of a formula, which has no line end but some byte.
     pub fn new(sheet: &Sheet) -> Trial {
-        if sheet.text.contains(&b'\n') {
+        if sheet.text.is_empty() || sheet.text.contains(&b'\n') {
             return Trial::of_sheet(sheet.text.clone());
         }
         let mut text = vec![0; SHEET];
