@@ -52,8 +52,8 @@ examples:
 
 In the table, U is the mean of all plots and E is every plot by itself. I(Gain,Cable) is the combinations of two columns.
 S(Hut,Week) is the coarser grouping that two columns share: plots are together when a chain of plots joins them, each step
-within a hut or within a week. Among the sources, S(Hut) is the huts themselves, where no treatment is used in two huts. #4 is
-the fourth member of its family, a grouping that none of these names fits.
+within a hut or within a week. Among the sources, S(Hut) is the huts themselves, where no combination of the treatments is used
+in two huts. #4 is the fourth member of its family, a grouping that none of these names fits.
 
 exit status: 0 for a table, 1 for a refusal, 2 for a wrong call.
 """
