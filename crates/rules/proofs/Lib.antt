@@ -54,6 +54,7 @@ pub mod Signed
 pub mod DegreesLaws
 pub mod Treatments
 pub mod Made
+pub mod Comparison
 pub mod PlotInfima
 pub mod ReadSheets
 pub mod SheetText

@@ -82,21 +82,30 @@ asks8 x = asked 8 (withoutPlaces (fewEnough x))
 abbrev pub asks9 : ℕ → Family → Asked
 asks9 n P = asked 9 (atPlaces (firstFailing (uniform n) 1 P) 0)
 
--- 10. "Are every two plot members orthogonal?"
+-- 10. "Are every two plot members orthogonal?": by a test of two factors
+abbrev pub asks10By : (Column → Column → Bool) → Family → Asked
+asks10By test P = asked 10 (atBoth (firstPair test 1 P))
+
 abbrev pub asks10 : ℕ → Family → Asked
-asks10 n P = asked 10 (atBoth (firstPair (orthogonal n) 1 P))
+asks10 n P = asks10By (orthogonal n) P
 
 -- 11. "Has the first treatment family at most 32 members?"
 abbrev pub asks11 : Closing → Asked
 asks11 x = asked 11 (withoutPlaces (fewEnough x))
 
 -- 12. "Are every two of its members orthogonal?"
+abbrev pub asks12By : (Column → Column → Bool) → Family → Asked
+asks12By test S = asked 12 (atBoth (firstPair test 1 S))
+
 abbrev pub asks12 : ℕ → Family → Asked
-asks12 n S = asked 12 (atBoth (firstPair (orthogonal n) 1 S))
+asks12 n S = asks12By (orthogonal n) S
 
 -- 13. "Is every plot member orthogonal to every one of them?"
+abbrev pub asks13By : (Column → Column → Bool) → Family → Family → Asked
+asks13By test P S = asked 13 (atBoth (firstCross test 1 P S))
+
 abbrev pub asks13 : ℕ → Family → Family → Asked
-asks13 n P S = asked 13 (atBoth (firstCross (orthogonal n) 1 P S))
+asks13 n P S = asks13By (orthogonal n) P S
 
 -- 14. "Has the final treatment family at most 32 members?"
 abbrev pub asks14 : Family → Family → Asked
@@ -118,15 +127,21 @@ plotMembers n Fs = membersIn (plotFamily n Fs)
 abbrev pub firstMembers : ℕ → ℕ → List Column → Family
 firstMembers n k Ts = membersIn (firstTreatmentFamily n k Ts)
 
--- "The plot design asks 6 to 10": `within` is the reply to 6
+-- "The plot design asks 6 to 10": `within` is the reply to 6, and `test` is what two factors have to pass
+abbrev pub plotQuestionsBy : (Column → Column → Bool) → Bool → ℕ → List Column → List Asked
+plotQuestionsBy test within n Fs = asks6 within ∷ asks7 Fs ∷ asks8 (plotFamily n Fs) ∷ asks9 n (plotMembers n Fs) ∷ asks10By test (plotMembers n Fs) ∷ []
+
 abbrev pub plotQuestions : Bool → ℕ → List Column → List Asked
-plotQuestions within n Fs = asks6 within ∷ asks7 Fs ∷ asks8 (plotFamily n Fs) ∷ asks9 n (plotMembers n Fs) ∷ asks10 n (plotMembers n Fs) ∷ []
+plotQuestions within n Fs = plotQuestionsBy (orthogonal n) within n Fs
 
 -- "the full design 6 to 14"
+abbrev pub fullQuestionsBy : (Column → Column → Bool) → Bool → ℕ → ℕ → List Column → List Column → List Asked
+fullQuestionsBy test within n k Fs Ts =
+    asks6 within ∷ asks7 (Fs ++ Ts) ∷ asks8 (plotFamily n Fs) ∷ asks9 n (plotMembers n Fs) ∷ asks10By test (plotMembers n Fs) ∷ asks11 (firstTreatmentFamily n k Ts)
+    ∷ asks12By test (firstMembers n k Ts) ∷ asks13By test (plotMembers n Fs) (firstMembers n k Ts) ∷ asks14 (plotMembers n Fs) (firstMembers n k Ts) ∷ []
+
 abbrev pub fullQuestions : Bool → ℕ → ℕ → List Column → List Column → List Asked
-fullQuestions within n k Fs Ts =
-    asks6 within ∷ asks7 (Fs ++ Ts) ∷ asks8 (plotFamily n Fs) ∷ asks9 n (plotMembers n Fs) ∷ asks10 n (plotMembers n Fs) ∷ asks11 (firstTreatmentFamily n k Ts)
-    ∷ asks12 n (firstMembers n k Ts) ∷ asks13 n (plotMembers n Fs) (firstMembers n k Ts) ∷ asks14 (plotMembers n Fs) (firstMembers n k Ts) ∷ []
+fullQuestions within n k Fs Ts = fullQuestionsBy (orthogonal n) within n k Fs Ts
 
 -- ---- answers: a verdict and the families whose sizes are answered
 

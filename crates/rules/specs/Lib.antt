@@ -15,6 +15,8 @@ pub mod Closing
 pub mod Structure
 pub mod Design
 pub mod Relation
+pub mod Comparison
+pub mod Conditions
 pub mod Degrees
 pub mod Strata
 pub mod Names
