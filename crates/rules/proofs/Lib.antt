@@ -55,6 +55,7 @@ pub mod DegreesLaws
 pub mod Treatments
 pub mod Made
 pub mod Comparison
+pub mod ComparedPairs
 pub mod PlotInfima
 pub mod ReadSheets
 pub mod SheetText
