@@ -1,15 +1,18 @@
--- Laws of nested factors, and of two factors exchanged.
+-- Laws of nested factors, of two factors exchanged, and of how two lent columns stand.
 -- Assumes nothing.
-use mathlib.Core.Path.{_≡_, refl, sym, ap, _∙_}
-use mathlib.Core.Bool.{true}
+use mathlib.Core.Path.{_≡_, refl, sym, ap, ap₂, _∙_}
+use mathlib.Core.Bool.{Bool, true, false}
 use Prim.Native.Nat.{ℕ}
-use lib.ListN.{length}
+use native.Mathlib.Omega.{arith}
+use lib.ListN.{length, take}
 use Rattle.rules.specs.Factor.{Column, Finer, number, classes, supremum, finer, orthogonal}
+use Rattle.rules.specs.Comparison.{firstFitting, comparison, passes, pairPasses}
 use Rattle.rules.proofs.Columns.{classes-number}
 use Rattle.rules.proofs.Classes.{finer-test}
 use Rattle.rules.proofs.Tests.{orthogonal-test, orthogonal-sym}
 use Rattle.rules.proofs.Orthogonality.{same-test}
 use Rattle.rules.proofs.Bounds.{nested-orthogonal, supremum-comm, supremum-coarser-is}
+use Rattle.factor.specs.Lent.{common, testCommon}
 
 -- where G is finer than F: the supremum is F itself, numbered, and they are orthogonal
 module _ (F G : Column) (l : length G ≡ length F) (e : finer (length F) G F ≡ true) where
@@ -31,3 +34,29 @@ orthogonal-flip n F G lF lG =
     same-test (orthogonal n F G) (orthogonal n G F)
     (λ e. orthogonal-test n G F .1 (orthogonal-sym n F G lF lG (orthogonal-test n F G .0 e)))
     (λ e. orthogonal-test n F G .1 (orthogonal-sym n G F lG lF (orthogonal-test n G F .0 e)))
+
+-- ---- how two lent columns stand, by the tests over their common plots
+
+-- where neither is finer, the case passes exactly where they are orthogonal
+passes-neither : (o : Bool) → passes (firstFitting false false o) ≡ o
+passes-neither true = refl
+passes-neither false = refl
+
+module _ (F G : Column) where
+  abbrev level : Bool
+  level = testCommon orthogonal F G
+
+  -- the columns exchanged have the same plots in common
+  finer-back : testCommon finer G F ≡ finer (common F G) (take (common F G) G) (take (common F G) F)
+  finer-back =
+      let e : common G F ≡ common F G = omega arith in
+      ap (λ (m : ℕ). finer m (take m G) (take m F)) e
+
+  pub case-fitting : (a b : Bool) → testCommon finer F G ≡ a → testCommon finer G F ≡ b → firstFitting a b level ≡ testCommon comparison F G
+  unfolding comparison
+  case-fitting a b e f = ap₂ (λ (x y : Bool). firstFitting x y level) (sym e) (sym f ∙ finer-back)
+
+  pub case-neither : (o : Bool) → testCommon finer F G ≡ false → testCommon finer G F ≡ false → o ≡ testCommon pairPasses F G → firstFitting false false o ≡ testCommon comparison F G
+  case-neither o e f h =
+      let c = case-fitting false false e f in
+      ap (firstFitting false false) (h ∙ ap passes (sym c) ∙ passes-neither level) ∙ c

@@ -3,6 +3,7 @@ ghost use mathlib.Core.Path.{_≡_};
 ghost use Prim.Native.Nat.{_*_};
 ghost use lib.ListN.{length};
 ghost use Rattle.rules.specs.Factor.{classes, infimum, supremum, orthogonal};
+ghost use Rattle.rules.specs.Comparison.{pairPasses};
 ghost use Rattle.factor.specs.Lent.{onCommon, testCommon, overlay};
 ghost use Rattle.standing.specs.Cells.{InRanges, CellRoom, CellsListed, LabelsListed, WithBounds};
 use crate::cells::CELLS;
@@ -148,10 +149,10 @@ fn supremum_listed(
 }
 
 // Numbers the classes of the supremum of two columns over their common plots; answers how many there are, and whether the
-// columns are orthogonal.
+// columns are orthogonal, which `compare` says of all but `NotOrthogonal`.
 pub fn crossing_of(f: &[u8], g: &[u8], above: &mut [u8; PLOTS]) -> Crossing
     ensures supremum { λ r. ⌜ r .supremum ≡ classes (onCommon supremum (now (f .entry)) (now (g .entry))) ⌝ }
-    ensures orthogonal { λ r. ⌜ r .orthogonal ≡ testCommon orthogonal (now (f .entry)) (now (g .entry)) ⌝ }
+    ensures orthogonal { λ r. ⌜ r .orthogonal ≡ testCommon pairPasses (now (f .entry)) (now (g .entry)) ⌝ }
     ensures above { λ _. ⌜ now (above .exit) ≡ overlay (now (above .entry)) (onCommon supremum (now (f .entry)) (now (g .entry))) ⌝ }
 {
     let n = common_plots(f.len(), g.len());

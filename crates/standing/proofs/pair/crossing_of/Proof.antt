@@ -6,7 +6,9 @@ use native.Mathlib.Omega.{arith}
 use denote.Ref.{now}
 use lib.ListN.{length, take, length-take}
 use Rattle.rules.specs.Factor.{Column, classes, supremum, orthogonal}
+use Rattle.rules.specs.Comparison.{pairPasses}
 use Rattle.rules.proofs.Bounds.{supremum-comm}
+use Rattle.rules.proofs.Comparison.{comparison-passes}
 use Rattle.factor.specs.Lent.{onCommon, testCommon, overlay}
 use Rattle.standing.proofs.Nesting.{orthogonal-flip}
 use borrow.Author.Needs.{needs}
@@ -45,8 +47,8 @@ module _ (c : tie.After-common-plots) where
   whole : supremum f g ≡ onCommon supremum F G
   whole = ap (λ (m : ℕ). supremum (take m F) (take m G)) (c .common-plots .ensures)
 
-  level : orthogonal (length f) f g ≡ testCommon orthogonal F G
-  level = ap (λ (m : ℕ). orthogonal m f g) (sym long-f) ∙ ap (λ (m : ℕ). orthogonal m (take m F) (take m G)) (c .common-plots .ensures)
+  level : orthogonal (length f) f g ≡ testCommon pairPasses F G
+  level = ap (λ (m : ℕ). orthogonal m f g) (sym long-f) ∙ comparison-passes n f g (sym long-f) (sym long-g) ∙ ap (λ (m : ℕ). pairPasses m (take m F) (take m G)) (c .common-plots .ensures)
 
 slice-aggregate-past-labels : tie.Need-slice-aggregate-past-labels
 slice-aggregate-past-labels c = long-f (c .before)
