@@ -25,7 +25,8 @@ use Rattle.rules.proofs.Places.{at-places, length-places}
 use Rattle.rules.proofs.Lists.{length-tabulate, getD-tabulate}
 use Rattle.strata.specs.Lent.{Formed}
 use Rattle.strata.specs.Sums.{residualAt}
-use Rattle.strata.proofs.Lent.{Within, within-limits, formed-family, size-members}
+use Rattle.families.proofs.Lent.{Within, within-limits}
+use Rattle.strata.proofs.Lent.{formed-family, size-members}
 use Rattle.strata.proofs.Sums.{small-places}
 use Rattle.strata.proofs.DegreeTurns.{small-degrees}
 use Rattle.strata.proofs.StratumLaws.{residuals-are, residual-fits}

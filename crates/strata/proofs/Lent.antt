@@ -1,20 +1,16 @@
 -- Laws of a family in lent memory: its members, and what questions 6 and 15 tell of it.
 -- Assumes nothing.
 use mathlib.Core.Path.{_≡_, ap, _∙_}
-use mathlib.Core.Bool.{true, _&&_}
+use mathlib.Core.Bool.{true}
 use mathlib.Core.List.{List, []}
 use Prim.Native.Nat.{ℕ, _≤_, _<_}
 use native.Mathlib.Omega.{arith}
-use lib.Dec.{ltb, leb}
 use lib.ListN.{length, getD}
-use borrow.Author.Tests.{leb-true}
 use Rattle.rules.specs.Family.{membersOf, wellFormed}
-use Rattle.rules.specs.Design.{plotsWithin}
 use Rattle.rules.proofs.Buffer.{length-members, member-is}
-use Rattle.rules.proofs.Sheet.{and-left, and-right}
 use Rattle.rules.proofs.WellFormed.{Accepted, accepted}
 use Rattle.strata.specs.Lent.{Formed}
-use Rattle.families.proofs.Lent.{length-column}
+use Rattle.families.proofs.Lent.{length-column, Within}
 
 module _ {n : ℕ} {b : List ℕ} {size : ℕ} (is : Formed n b size) where
   pub accepted-members : Accepted (membersOf n b size)
@@ -31,19 +27,6 @@ module _ {n : ℕ} {b : List ℕ} {size : ℕ} (is : Formed n b size) where
       ap length (member-is n (is .few-plots) b size i k) ∙ length-column n i b (is .few-plots) (omega arith) (is .long)
 
 -- ---- what questions 6 and 15 tell
-
-pub record Within (n bytes : ℕ) : Type 0 where
-  pub few-plots : n ≤ 240
-  pub long : 7680 ≤ bytes
-
-pub within-limits : (n bytes : ℕ) → plotsWithin n && leb 7680 bytes ≡ true → Within n bytes
-unfolding plotsWithin
-within-limits n bytes e =
-    let plots = and-left (ltb 0 n && leb n 240) (leb 7680 bytes) e in
-    record {
-      few-plots = leb-true n 240 (and-right (ltb 0 n) (leb n 240) plots);
-      long = leb-true 7680 bytes (and-right (ltb 0 n && leb n 240) (leb 7680 bytes) e);
-    }
 
 pub formed-family : (n : ℕ) (b : List ℕ) (size : ℕ) → Within n (length b) → wellFormed (membersOf n b size) ≡ true → Formed n b size
 formed-family n b size w e = record {

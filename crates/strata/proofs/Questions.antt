@@ -1,6 +1,6 @@
 -- The answers by questions 6, 15 and 16.
 -- Assumes nothing.
-use mathlib.Core.Path.{_≡_, refl, sym}
+use mathlib.Core.Path.{_≡_, refl, sym, subst}
 use mathlib.Core.Bool.{Bool, true, false, _&&_}
 use mathlib.Core.List.{List, [], map}
 use Prim.Native.Nat.{ℕ, suc}
@@ -12,15 +12,20 @@ use borrow.Author.Tests.{ne-eqb}
 use Rattle.rules.specs.Family.{Family, membersOf, wellFormed}
 use Rattle.rules.specs.Lists.{forPlaces}
 use Rattle.rules.specs.Design.{plotsWithin}
-use Rattle.rules.specs.Relation.{familyWithin, relation, relationOf, relationRefused}
+use Rattle.rules.specs.Relation.{familyWithin, RelationAnswer, relation, relationOf, relationRefused}
 use Rattle.rules.specs.Degrees.{degrees, degreesOfFreedom, degreesRefused}
 use Rattle.rules.specs.Strata.{StrataAnswer, stratum, residuals, allHaveStratum, question15, question16, strata, strataRefused}
 use Rattle.rules.proofs.Members.{clash}
 use Rattle.rules.proofs.Numbering.{by-cases}
 use Rattle.rules.proofs.Places.{places-start}
-use Rattle.strata.specs.Answers.{degreesFound, analysisIn, Cleared, withDegrees}
+use Rattle.rules.proofs.ComparedPairs.{relation-compares}
+use Rattle.strata.specs.Answers.{RelationCompared, degreesFound, analysisIn, Cleared, withDegrees}
 
 module _ (n : ℕ) (b : List ℕ) (size : ℕ) where
+  -- what is answered as the relation compares
+  pub relation-promised : (a : RelationAnswer) → a ≡ relation n b size → (a ≡ relation n b size) × RelationCompared n b size a
+  relation-promised a e = (e, subst (λ (x : RelationAnswer). RelationCompared n b size x) (sym e) (relation-compares n b size))
+
   pub relation-6 : familyWithin n b ≡ false → relation n b size ≡ relationRefused 6
   unfolding relation
   relation-6 e = rw (e, relation)

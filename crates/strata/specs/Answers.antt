@@ -11,6 +11,7 @@ use Rattle.rules.specs.Limits.{mostPlots, mostMembers, familyBytes}
 use Rattle.rules.specs.Family.{Family, membersOf}
 use Rattle.rules.specs.Lists.{forPlaces}
 use Rattle.rules.specs.Relation.{RelationAnswer}
+use Rattle.rules.specs.Comparison.{BitsCompared}
 use Rattle.rules.specs.Degrees.{DegreesAnswer, degrees}
 use Rattle.rules.specs.Strata.{StrataAnswer, stratum, allHaveStratum, strata}
 use Rattle.strata.specs.declared.RelationReport.{RelationReport}
@@ -19,6 +20,10 @@ use Rattle.strata.specs.declared.StrataReport.{StrataReport}
 
 abbrev pub relationIn : RelationReport → RelationAnswer
 relationIn r = record { refusal = r .refusal; size = r .size; coarser = r .coarser; direct = r .direct; counts = r .counts }
+
+-- "in the relation a bit is set exactly when it is finer"
+abbrev pub RelationCompared : ℕ → List ℕ → ℕ → RelationAnswer → Type 0
+RelationCompared n buffer size a = a .refusal ≡ 0 → BitsCompared n (membersOf n buffer size) (a .coarser)
 
 abbrev pub degreesIn : DegreesReport → DegreesAnswer
 degreesIn r = record { refusal = r .refusal; degrees = r .degrees }

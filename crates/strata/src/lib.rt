@@ -3,7 +3,7 @@ ghost use mathlib.Core.Path.{_≡_};
 ghost use Rattle.rules.specs.Relation.{relation};
 ghost use Rattle.rules.specs.Degrees.{degreesOfFreedom};
 ghost use Rattle.rules.specs.Strata.{strata};
-ghost use Rattle.strata.specs.Answers.{relationIn, degreesIn, strataIn, analysisIn, strataAnalysis};
+ghost use Rattle.strata.specs.Answers.{relationIn, RelationCompared, degreesIn, strataIn, analysisIn, strataAnalysis};
 use limits::MEMBERS;
 
 mod degrees;
@@ -42,9 +42,10 @@ pub struct StrataReport {
     pub residuals: [i64; MEMBERS],
 }
 
-// The relation of a family.
+// The relation of a family. A bit is set exactly where its member compares as finer.
 pub fn relation(family: &[u8], plots: usize, size: usize) -> RelationReport
-    ensures { λ r. ⌜ relationIn r ≡ relation plots (now (family .entry)) size ⌝ }
+    ensures answer { λ r. ⌜ relationIn r ≡ relation plots (now (family .entry)) size ⌝ }
+    ensures compared { λ r. ⌜ RelationCompared plots (now (family .entry)) size (relationIn r) ⌝ }
 {
     if !families::within(plots, family.len()) {
         return order::refused(6);

@@ -10,7 +10,7 @@ use borrow.Author.Tests.{not-true, not-false}
 use Rattle.rules.specs.Family.{membersOf}
 use Rattle.rules.specs.Relation.{familyWithin}
 use Rattle.strata.specs.Answers.{Cleared, withDegrees}
-use Rattle.strata.proofs.Lent.{within-limits}
+use Rattle.families.proofs.Lent.{within-limits}
 use Rattle.strata.proofs.Questions.{strata-6-plot, strata-6-treatment, strata-6-on, with-refused}
 use Rattle.strata.proofs.analysis.Statement.{statement}
 use Rattle.strata.proofs.analysis.Tie as tie

@@ -8,8 +8,8 @@ use borrow.Author.Needs.{needs}
 use borrow.Author.Tests.{not-true, not-false}
 use Rattle.rules.specs.Family.{membersOf, wellFormed}
 use Rattle.rules.specs.Relation.{familyWithin}
-use Rattle.families.proofs.Lent.{formed-in}
-use Rattle.strata.proofs.Lent.{within-limits, formed-family}
+use Rattle.families.proofs.Lent.{formed-in, within-limits}
+use Rattle.strata.proofs.Lent.{formed-family}
 use Rattle.strata.proofs.Questions.{degrees-6, degrees-15, degrees-found}
 use Rattle.strata.proofs.degrees_of_freedom.Statement.{statement}
 use Rattle.strata.proofs.degrees_of_freedom.Tie as tie

@@ -8,9 +8,9 @@ use borrow.Author.Needs.{needs}
 use borrow.Author.Tests.{not-true, not-false}
 use Rattle.rules.specs.Family.{membersOf, wellFormed}
 use Rattle.rules.specs.Relation.{familyWithin}
-use Rattle.families.proofs.Lent.{formed-in}
-use Rattle.strata.proofs.Lent.{within-limits, formed-family}
-use Rattle.strata.proofs.Questions.{relation-6, relation-15, relation-found}
+use Rattle.families.proofs.Lent.{formed-in, within-limits}
+use Rattle.strata.proofs.Lent.{formed-family}
+use Rattle.strata.proofs.Questions.{relation-promised, relation-6, relation-15, relation-found}
 use Rattle.strata.proofs.relation.Statement.{statement}
 use Rattle.strata.proofs.relation.Tie as tie
 
@@ -25,7 +25,7 @@ unfolding familyWithin
 returns c =
     let a = c .before .before .before .before .args in
     let e : familyWithin (a .plots) (now (a .family)) ≡ false = sym (c .before .before .within .ensures) ∙ not-true _ (c .before .if1 .taken) in
-    c .refused .ensures ∙ sym (relation-6 (a .plots) (now (a .family)) (a .size) e)
+    relation-promised (a .plots) (now (a .family)) (a .size) _ (c .refused .ensures ∙ sym (relation-6 (a .plots) (now (a .family)) (a .size) e))
 
 well-formed-requires : tie.Need-well-formed-requires
 well-formed-requires c κs = search needs
@@ -40,7 +40,7 @@ returns-2 c =
     let e : familyWithin (a .plots) (now (a .family)) ≡ true = sym (c .before .before .before .before .within .ensures) ∙ not-false _ (c .before .before .before .if1 .left) in
     let w = within-limits (a .plots) (length (now (a .family))) e in
     let f : wellFormed (membersOf (a .plots) (now (a .family)) (a .size)) ≡ false = sym (c .before .before .well-formed .ensures ∙ formed-in (a .plots) (now (a .family)) (a .size) (w .few-plots) (w .long)) ∙ not-true _ (c .before .if2 .taken) in
-    c .refused2 .ensures ∙ sym (relation-15 (a .plots) (now (a .family)) (a .size) e f)
+    relation-promised (a .plots) (now (a .family)) (a .size) _ (c .refused2 .ensures ∙ sym (relation-15 (a .plots) (now (a .family)) (a .size) e f))
 
 report-requires : tie.Need-report-requires
 report-requires c κs =
@@ -55,7 +55,7 @@ returns-3 c =
     let e : familyWithin (a .plots) (now (a .family)) ≡ true = sym (c .before .before .before .before .within .ensures) ∙ not-false _ (c .before .before .before .if1 .left) in
     let w = within-limits (a .plots) (length (now (a .family))) e in
     let f : wellFormed (membersOf (a .plots) (now (a .family)) (a .size)) ≡ true = sym (c .before .before .well-formed .ensures ∙ formed-in (a .plots) (now (a .family)) (a .size) (w .few-plots) (w .long)) ∙ not-false _ (c .before .if2 .left) in
-    c .report .ensures ∙ sym (relation-found (a .plots) (now (a .family)) (a .size) e f)
+    relation-promised (a .plots) (now (a .family)) (a .size) _ (c .report .ensures ∙ sym (relation-found (a .plots) (now (a .family)) (a .size) e f))
 
 pub relation-spec : {M : Type 1} → statement M
 relation-spec =
