@@ -7,6 +7,9 @@ use Rattle.rules.specs.Family.{Family, written, membersOf, columnsFrom, AtMost}
 use Rattle.rules.specs.Design.{Answer, Places, firstPair, question9, question10, refused, question8, firstFailing, plotBuffer, withinLimits, allNonzero, question7, plotDesign, returned}
 use Rattle.rules.proofs.Demand3.{demand-3}
 use Rattle.rules.proofs.PlotStrata.{plot-trusted}
+use Rattle.rules.specs.Asking.{plotDesignBy}
+use Rattle.rules.specs.Comparison.{pairPasses}
+use Rattle.rules.proofs.ComparedPairs.{plot-compares}
 use Rattle.rules.proofs.Verdict.{verdict-members}
 use borrow.Author.Tests.{eq-eqb, ne-eqb}
 use mathlib.Core.List.{List}
@@ -100,7 +103,7 @@ module _ (n c : ℕ) (levels : List ℕ) (b : ℕ) where
   unfolding plotDesign question7
   design-8 e f = rw (e, plotDesign) (rw (f, question7))
 
--- the promise whole: demand 3 and C-13 of the numbers answered and the bytes left are its last parts
+-- the promise whole: demand 3 and C-13 of the numbers answered and the bytes left, and that pairs fail by the comparison, are its last parts
 module _ (n c : ℕ) (levels buffer after : List ℕ) (numbers : PlotNumbers) where
   abbrev made : Answer
   made = plotDesign n c levels (length buffer)
@@ -109,6 +112,11 @@ module _ (n c : ℕ) (levels buffer after : List ℕ) (numbers : PlotNumbers) wh
   Demanded =
       Lent n c levels buffer → AtMost 32 (InPlotFamily n (columnsFrom n levels 0 c)) → Demand3 n (columnsFrom n levels 0 c) (numbers .refusal) (membersOf n after (numbers .size))
 
-  pub promised : numbers ≡ plotNumbersOf made → after ≡ plotBuffer buffer made → (numbers ≡ plotNumbersOf made) × ((after ≡ plotBuffer buffer made) × (Demanded × PlotTrusted n numbers after))
+  abbrev Compared : Type 0
+  Compared = numbers ≡ plotNumbersOf (plotDesignBy (pairPasses n) n c levels (length buffer))
+
+  pub promised : numbers ≡ plotNumbersOf made → after ≡ plotBuffer buffer made
+      → (numbers ≡ plotNumbersOf made) × ((after ≡ plotBuffer buffer made) × (Demanded × (PlotTrusted n numbers after × Compared)))
   unfolding returned plotNumbersOf
-  promised e f = (e, (f, (λ lent few. rw (e, f) (demand-3 n c levels buffer lent few), rw (e, f) (plot-trusted n c levels buffer))))
+  promised e f =
+      (e, (f, (λ lent few. rw (e, f) (demand-3 n c levels buffer lent few), (rw (e, f) (plot-trusted n c levels buffer), e ∙ ap plotNumbersOf (plot-compares n c levels (length buffer))))))

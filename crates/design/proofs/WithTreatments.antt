@@ -14,6 +14,9 @@ use Rattle.rules.specs.Family.{Family, _∈_, columnsFrom, membersOf}
 use Rattle.rules.specs.Closing.{Closing, tooMany, family, plotFamily, by-equality, firstTreatmentFamily, finalTreatmentFamily}
 use Rattle.rules.specs.Design.{Answer, Places, firstPair, firstCross, firstFailing, question8, question9, question10, question11, question12, question13, question14, withTreatments, nonzero, allNonzero, fullWithinLimits, fullQuestion7, fullDesign, refused, plotBuffer, treatmentBuffer}
 use Rattle.rules.specs.Demand2.{Demand2}
+use Rattle.rules.specs.Asking.{fullDesignBy}
+use Rattle.rules.specs.Comparison.{pairPasses}
+use Rattle.rules.proofs.ComparedPairs.{full-compares}
 use Rattle.rules.proofs.Numbering.{by-cases}
 use Rattle.rules.proofs.Verdict.{verdict-members}
 use Rattle.rules.proofs.Buffer.{length-members}
@@ -167,14 +170,17 @@ module _ (n c d k : ℕ) (levels : List ℕ) (p b : ℕ) where
     unfolding fullDesign fullQuestion7
     full-8 f g = rw (e, fullDesign) (rw (nonzero-append (columnsFrom n levels 0 c) (columnsFrom n levels 6 d) ∙ ap₂ _&&_ f g, fullQuestion7))
 
--- the promise whole: demand 2 and C-13 of the numbers answered and the bytes left are its last parts
+-- the promise whole: demand 2 and C-13 of the numbers answered and the bytes left, and that pairs fail by the comparison, are its last parts
 module _ (n c d k : ℕ) (levels p b after after′ : List ℕ) (r : FullNumbers) where
   abbrev made : Answer
   made = fullDesign n c d k levels (length p) (length b)
 
+  abbrev Compared : Type 0
+  Compared = r ≡ fullNumbersOf (fullDesignBy (pairPasses n) n c d k levels (length p) (length b))
+
   pub promised : r ≡ fullNumbersOf made → after ≡ plotBuffer p made → after′ ≡ treatmentBuffer b made
-      → (r ≡ fullNumbersOf made) × ((after ≡ plotBuffer p made) × ((after′ ≡ treatmentBuffer b made) × (Demand2 n c d k levels p b (fullLeft n r after after′) × FullTrusted n r after after′)))
+      → (r ≡ fullNumbersOf made) × ((after ≡ plotBuffer p made) × ((after′ ≡ treatmentBuffer b made) × (Demand2 n c d k levels p b (fullLeft n r after after′) × (FullTrusted n r after after′ × Compared))))
   unfolding fullNumbersOf
   promised e f g =
       let met : Demand2 n c d k levels p b (fullLeft n r after after′) = rw (e, f, g) (demand-2 n c d k levels p b) in
-      (e, (f, (g, (met, demand-trusted n c d k levels p b (fullLeft n r after after′) met))))
+      (e, (f, (g, (met, (demand-trusted n c d k levels p b (fullLeft n r after after′) met, e ∙ ap fullNumbersOf (full-compares n c d k levels (length p) (length b)))))))

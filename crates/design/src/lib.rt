@@ -5,6 +5,8 @@ ghost use lib.ListN.{length};
 ghost use Rattle.rules.specs.Family.{columnsFrom, membersOf, AtMost};
 ghost use Rattle.rules.specs.Closing.{InPlotFamily};
 ghost use Rattle.rules.specs.Design.{plotDesign, plotBuffer, fullDesign, treatmentBuffer};
+ghost use Rattle.rules.specs.Asking.{plotDesignBy, fullDesignBy};
+ghost use Rattle.rules.specs.Comparison.{pairPasses};
 ghost use Rattle.rules.specs.Structure.{Lent, Demand3};
 ghost use Rattle.rules.specs.Demand2.{Demand2};
 ghost use Rattle.design.specs.Answers.{plotNumbers, plotNumbersOf, PlotTrusted, fullNumbers, fullNumbersOf, fullLeft, FullTrusted};
@@ -48,6 +50,7 @@ pub fn plot_design(levels: &[Level], plots: usize, columns: usize, family: &mut 
     ensures buffer { λ _. ⌜ now (family .exit) ≡ plotBuffer (now (family .entry)) (plotDesign plots columns (now (levels .entry)) (length (now (family .entry)))) ⌝ }
     ensures demand { λ r. ⌜ (Lent plots columns (now (levels .entry)) (now (family .entry)) → AtMost 32 (InPlotFamily plots (columnsFrom plots (now (levels .entry)) 0 columns)) → Demand3 plots (columnsFrom plots (now (levels .entry)) 0 columns) (plotNumbers r .refusal) (membersOf plots (now (family .exit)) (plotNumbers r .size))) ⌝ }
     ensures trusted { λ r. ⌜ PlotTrusted plots (plotNumbers r) (now (family .exit)) ⌝ }
+    ensures compared { λ r. ⌜ plotNumbers r ≡ plotNumbersOf (plotDesignBy (pairPasses plots) plots columns (now (levels .entry)) (length (now (family .entry)))) ⌝ }
 {
     if !questions::within(plots, columns, levels.len(), family.len()) {
         return verdict::refused(6);
@@ -94,6 +97,7 @@ pub fn full_design(
     ensures treatments { λ _. ⌜ now («treatment_family» .exit) ≡ treatmentBuffer (now («treatment_family» .entry)) (fullDesign plots «plot_columns» «treatment_columns» k (now (levels .entry)) (length (now («plot_family» .entry))) (length (now («treatment_family» .entry)))) ⌝ }
     ensures demand { λ r. ⌜ Demand2 plots «plot_columns» «treatment_columns» k (now (levels .entry)) (now («plot_family» .entry)) (now («treatment_family» .entry)) (fullLeft plots (fullNumbers r) (now («plot_family» .exit)) (now («treatment_family» .exit))) ⌝ }
     ensures trusted { λ r. ⌜ FullTrusted plots (fullNumbers r) (now («plot_family» .exit)) (now («treatment_family» .exit)) ⌝ }
+    ensures compared { λ r. ⌜ fullNumbers r ≡ fullNumbersOf (fullDesignBy (pairPasses plots) plots «plot_columns» «treatment_columns» k (now (levels .entry)) (length (now («plot_family» .entry))) (length (now («treatment_family» .entry)))) ⌝ }
 {
     if !questions::full_within(
         plots,

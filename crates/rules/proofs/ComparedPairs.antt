@@ -11,7 +11,7 @@ use Rattle.rules.specs.Factor.{Column, Finer, orthogonal}
 use Rattle.rules.specs.Family.{Family, _∈_, membersOf}
 use Rattle.rules.specs.Closing.{Closing, tooMany, family, plotFamily, firstTreatmentFamily}
 use Rattle.rules.specs.Design.{Places, firstPair, firstCross, withinLimits, fullWithinLimits, plotDesign, fullDesign}
-use Rattle.rules.specs.Asking.{Verdict, Asked, asked, firstNo, atBoth, membersIn, asks6, asks7, asks8, asks9, asks11, asks14, plotColumns, treatmentColumns, plotMembers, firstMembers, plotQuestionsBy, fullQuestionsBy, plotAnswer, fullAnswer}
+use Rattle.rules.specs.Asking.{Verdict, Asked, asked, firstNo, atBoth, membersIn, asks6, asks7, asks8, asks9, asks11, asks14, plotColumns, treatmentColumns, plotMembers, firstMembers, plotAnswer, fullAnswer, plotDesignBy, fullDesignBy}
 use Rattle.rules.specs.Demand2.{Within}
 use Rattle.rules.specs.Lists.{bitAt}
 use Rattle.rules.specs.Relation.{memberAt, relation}
@@ -49,8 +49,7 @@ closing-on n tooMany made F m = absurd (List·Memᴰ·not-nil m)
 closing-on n (family S) made F m = made S refl .on F m
 
 -- the plot design: refusal 10 is given exactly where it was
-pub plot-compares : (n c : ℕ) (levels : List ℕ) (r : ℕ)
-    → plotDesign n c levels r ≡ plotAnswer (firstNo (plotQuestionsBy (pairPasses n) (withinLimits n c (length levels) r) n (plotColumns n c levels))) (plotMembers n (plotColumns n c levels))
+pub plot-compares : (n c : ℕ) (levels : List ℕ) (r : ℕ) → plotDesign n c levels r ≡ plotDesignBy (pairPasses n) n c levels r
 plot-compares n c levels r = plot-design-asks n c levels r ∙ ap (λ (v : Verdict). plotAnswer v P) (after-six (withinLimits n c (length levels) r) _ _ same)
   where
     Fs : List Column
@@ -68,9 +67,7 @@ plot-compares n c levels r = plot-design-asks n c levels r ∙ ap (λ (v : Verdi
         ap asking (pair-comparison n 1 P (closing-on n (plotFamily n Fs) (plot-made n Fs (column-length n levels c 0 (l .plots-few) (l .table) (omega (arith, l .columns))))))
 
 -- the full design: 10, 12 and 13 are given exactly where they were
-pub full-compares : (n c d k : ℕ) (levels : List ℕ) (p r : ℕ)
-    → fullDesign n c d k levels p r
-    ≡ fullAnswer (firstNo (fullQuestionsBy (pairPasses n) (fullWithinLimits n c d k (length levels) p r) n k (plotColumns n c levels) (treatmentColumns n d levels))) (plotMembers n (plotColumns n c levels)) (firstMembers n k (treatmentColumns n d levels))
+pub full-compares : (n c d k : ℕ) (levels : List ℕ) (p r : ℕ) → fullDesign n c d k levels p r ≡ fullDesignBy (pairPasses n) n c d k levels p r
 full-compares n c d k levels p r = full-design-asks n c d k levels p r ∙ ap (λ (v : Verdict). fullAnswer v P S) (after-six (fullWithinLimits n c d k (length levels) p r) _ _ same)
   where
     Fs : List Column

@@ -10,7 +10,7 @@ use Rattle.rules.specs.Factor.{Column, uniform, orthogonal}
 use Rattle.rules.specs.Family.{Family}
 use Rattle.rules.specs.Closing.{Closing, tooMany, family, plotFamily, firstTreatmentFamily, finalTreatmentFamily}
 use Rattle.rules.specs.Design.{Answer, Places, none, refused, firstFailing, firstPair, firstCross, question7, question8, question9, question10, question11, question12, question13, question14, withTreatments, fullQuestion7, allNonzero, withinLimits, fullWithinLimits, plotDesign, fullDesign}
-use Rattle.rules.specs.Asking.{Verdict, nothingRefused, fail, Asked, asked, firstNo, withoutPlaces, atPlaces, atBoth, membersIn, asks6, asks7, asks8, asks9, asks10, asks11, asks12, asks13, asks14, plotColumns, treatmentColumns, plotMembers, firstMembers, plotQuestions, fullQuestions, answered, plotAnswer, fullAnswer}
+use Rattle.rules.specs.Asking.{Verdict, nothingRefused, fail, Asked, asked, firstNo, withoutPlaces, atPlaces, atBoth, membersIn, asks6, asks7, asks8, asks9, asks10, asks11, asks12, asks13, asks14, plotColumns, treatmentColumns, plotMembers, firstMembers, plotQuestions, fullQuestions, answered, plotAnswer, fullAnswer, plotDesignBy, fullDesignBy}
 use Rattle.rules.proofs.Numbering.{by-cases}
 use Rattle.rules.proofs.FirstNo.{plain-pass, places-pass, first-pass, first-fail}
 
@@ -152,8 +152,7 @@ module _ (n c : ℕ) (levels : List ℕ) (r : ℕ) where
 
 -- the full design is the first "no" of 6 to 14, in this order, and what is written after it
 pub full-design-asks : (n c d k : ℕ) (levels : List ℕ) (p r : ℕ)
-    → fullDesign n c d k levels p r
-    ≡ fullAnswer (firstNo (fullQuestions (fullWithinLimits n c d k (length levels) p r) n k (plotColumns n c levels) (treatmentColumns n d levels))) (plotMembers n (plotColumns n c levels)) (firstMembers n k (treatmentColumns n d levels))
+    → fullDesign n c d k levels p r ≡ fullDesignBy (orthogonal n) n c d k levels p r
 full-design-asks n c d k levels p r =
     by-cases b
     (λ e. six-yes n c d k levels p r e ∙ seven ∙ ap (λ (v : Verdict). fullAnswer v P S) (sym (first-pass (asks6 b) after6 (plain-pass b .1 e))))
@@ -207,7 +206,7 @@ module _ (n : ℕ) where
 
 -- the plot design is the first "no" of 6 to 10, in this order, and what is written after it
 pub plot-design-asks : (n c : ℕ) (levels : List ℕ) (r : ℕ)
-    → plotDesign n c levels r ≡ plotAnswer (firstNo (plotQuestions (withinLimits n c (length levels) r) n (plotColumns n c levels))) (plotMembers n (plotColumns n c levels))
+    → plotDesign n c levels r ≡ plotDesignBy (orthogonal n) n c levels r
 plot-design-asks n c levels r =
     by-cases b
     (λ e. plot-six-yes n c levels r e ∙ seven ∙ ap (λ (v : Verdict). plotAnswer v P) (sym (first-pass (asks6 b) after6 (plain-pass b .1 e))))

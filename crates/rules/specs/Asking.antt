@@ -9,7 +9,7 @@ use Rattle.rules.specs.Limits.{mostColumns, mostMembers}
 use Rattle.rules.specs.Factor.{Column, uniform, orthogonal}
 use Rattle.rules.specs.Family.{Family, columnsFrom}
 use Rattle.rules.specs.Closing.{Closing, tooMany, family, plotFamily, firstTreatmentFamily, finalTreatmentFamily}
-use Rattle.rules.specs.Design.{Answer, Places, none, firstFailing, firstPair, firstCross, allNonzero}
+use Rattle.rules.specs.Design.{Answer, Places, none, firstFailing, firstPair, firstCross, allNonzero, withinLimits, fullWithinLimits}
 
 -- the number of the question that failed, 0 for none, and its places
 pub record Verdict : Type 0 where
@@ -162,3 +162,12 @@ plotAnswer v P = answered v (writtenFrom 9 (v .refusal) P) []
 -- the full design: "after 12 to 14 the first treatment family is too"; where nothing is refused it is the final one
 abbrev pub fullAnswer : Verdict → Family → Family → Answer
 fullAnswer v P S = answered v (writtenFrom 9 (v .refusal) P) (elim (v .refusal) [ zero ↦ finalTreatmentFamily P S | suc q ↦ writtenFrom 12 (suc q) S ])
+
+-- ---- the designs by a test of two factors: 10, 12 and 13 ask whether it is passed
+
+abbrev pub plotDesignBy : (Column → Column → Bool) → ℕ → ℕ → List ℕ → ℕ → Answer
+plotDesignBy test n c levels r = plotAnswer (firstNo (plotQuestionsBy test (withinLimits n c (length levels) r) n (plotColumns n c levels))) (plotMembers n (plotColumns n c levels))
+
+abbrev pub fullDesignBy : (Column → Column → Bool) → ℕ → ℕ → ℕ → ℕ → List ℕ → ℕ → ℕ → Answer
+fullDesignBy test n c d k levels p r =
+    fullAnswer (firstNo (fullQuestionsBy test (fullWithinLimits n c d k (length levels) p r) n k (plotColumns n c levels) (treatmentColumns n d levels))) (plotMembers n (plotColumns n c levels)) (firstMembers n k (treatmentColumns n d levels))

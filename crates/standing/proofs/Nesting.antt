@@ -2,7 +2,8 @@
 -- Assumes nothing.
 use mathlib.Core.Path.{_≡_, refl, sym, ap, ap₂, _∙_}
 use mathlib.Core.Bool.{Bool, true, false}
-use Prim.Native.Nat.{ℕ}
+use mathlib.Core.List.{List}
+use Prim.Native.Nat.{ℕ, _+_, _*_, _≤_}
 use native.Mathlib.Omega.{arith}
 use lib.ListN.{length, take}
 use Rattle.rules.specs.Factor.{Column, Finer, number, classes, supremum, finer, orthogonal}
@@ -12,7 +13,9 @@ use Rattle.rules.proofs.Classes.{finer-test}
 use Rattle.rules.proofs.Tests.{orthogonal-test, orthogonal-sym}
 use Rattle.rules.proofs.Orthogonality.{same-test}
 use Rattle.rules.proofs.Bounds.{nested-orthogonal, supremum-comm, supremum-coarser-is}
-use Rattle.factor.specs.Lent.{common, testCommon}
+use Rattle.rules.proofs.Comparison.{comparison-passes}
+use Rattle.factor.specs.Lent.{columnAt, common, testCommon}
+use Rattle.factor.proofs.Lent.{length-part, test-parts}
 
 -- where G is finer than F: the supremum is F itself, numbered, and they are orthogonal
 module _ (F G : Column) (l : length G ≡ length F) (e : finer (length F) G F ≡ true) where
@@ -60,3 +63,10 @@ module _ (F G : Column) where
   case-neither o e f h =
       let c = case-fitting false false e f in
       ap (firstFitting false false) (h ∙ ap passes (sym c) ∙ passes-neither level) ∙ c
+
+-- of columns that are parts of buffers: the pair passes exactly where they are orthogonal
+pub orthogonal-parts : (n : ℕ) (b d : List ℕ) (i j : ℕ) → n ≤ 240 → 240 * i + n ≤ length b → 240 * j + n ≤ length d
+    → (X Y : Column) → X ≡ columnAt n b i → Y ≡ columnAt n d j → testCommon pairPasses X Y ≡ orthogonal n (columnAt n b i) (columnAt n d j)
+orthogonal-parts n b d i j h hb hd X Y eX eY =
+    test-parts pairPasses n b d i j h hb hd X Y eX eY
+    ∙ sym (comparison-passes n (columnAt n b i) (columnAt n d j) (length-part n i b hb) (length-part n j d hd))

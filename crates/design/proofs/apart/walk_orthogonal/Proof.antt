@@ -3,8 +3,7 @@
 use mathlib.Core.Path.{_∙_}
 use native.Mathlib.Omega.{arith}
 use denote.Ref.{now}
-use Rattle.rules.specs.Factor.{orthogonal}
-use Rattle.factor.proofs.Lent.{test-parts}
+use Rattle.standing.proofs.Nesting.{orthogonal-parts}
 use borrow.Author.Needs.{needs}
 use Rattle.design.proofs.apart.walk_orthogonal.Statement.{statement}
 use Rattle.design.proofs.apart.walk_orthogonal.Tie as tie
@@ -23,7 +22,7 @@ returns c =
     let m = c .before .before .before in
     let s = m .before .before .before .args in
     c .crossing-of .ensures .1 .0
-    ∙ test-parts orthogonal (s .n) (now (s .plot)) (now (s .first)) (s .i) (s .j) (omega arith) (omega arith) (omega arith) _ _ (m .member .ensures) (c .before .before .member2 .ensures)
+    ∙ orthogonal-parts (s .n) (now (s .plot)) (now (s .first)) (s .i) (s .j) (omega arith) (omega arith) (omega arith) _ _ (m .member .ensures) (c .before .before .member2 .ensures)
 
 pub walk-orthogonal-spec : {M : Type 1} → statement M
 walk-orthogonal-spec =

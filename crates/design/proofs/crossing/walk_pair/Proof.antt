@@ -9,7 +9,8 @@ use denote.Ref.{now}
 use lib.ListN.{length, take, replicate}
 use Rattle.rules.specs.Factor.{Column, number, classes, supremum, orthogonal}
 use Rattle.rules.proofs.Members.{clash}
-use Rattle.factor.proofs.Lent.{part-of, test-parts}
+use Rattle.factor.proofs.Lent.{part-of}
+use Rattle.standing.proofs.Nesting.{orthogonal-parts}
 use Rattle.design.specs.State.{columnAt}
 use Rattle.design.proofs.Suprema.{length-made, number-made, classes-made, take-made, long-made}
 use Rattle.design.proofs.Joins.{growing-on, grown-on, entered-on, adds-on, joins-entered}
@@ -70,7 +71,7 @@ tested : (w : tie.After-crossing-of) → w .crossing-of .result .orthogonal ≡ 
 tested w =
     let s = start w .args in
     w .crossing-of .ensures .1 .0
-    ∙ test-parts orthogonal (s .n) (now (s .plot)) (now (s .first)) (s .i) (s .j) (start w .pre .0 .held .most) (in-plot w) (in-first w) _ _ (part-of (s .n) (s .i) (now (s .plot))) (part-of (s .n) (s .j) (now (s .first)))
+    ∙ orthogonal-parts (s .n) (now (s .plot)) (now (s .first)) (s .i) (s .j) (start w .pre .0 .held .most) (in-plot w) (in-first w) _ _ (part-of (s .n) (s .i) (now (s .plot))) (part-of (s .n) (s .j) (now (s .first)))
 
 mul-a : tie.Need-mul-a
 mul-a c = search needs
