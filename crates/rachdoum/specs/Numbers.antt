@@ -11,6 +11,7 @@ use mir.Val.{SFits}
 use Rattle.rules.specs.Sheet.{Outcome, read, refused}
 use Rattle.rules.specs.Design.{Answer, plotSize, treatmentSize}
 use Rattle.rules.specs.Relation.{RelationAnswer}
+use Rattle.rules.specs.Comparison.{ComparisonAnswer}
 use Rattle.rules.specs.Strata.{StrataAnswer}
 use Rattle.rules.specs.Naming.{Kind, plot, treatment, NameAnswer}
 use Rattle.rules.specs.Table.{TableAnswer}
@@ -37,6 +38,10 @@ fullDesignNumbers a = a .places .first ∷ a .places .second ∷ plotSize a ∷ 
 -- the size, the words, the words of direct neighbours, the counts
 abbrev pub relationNumbers : RelationAnswer → List ℕ
 relationNumbers a = a .size ∷ a .coarser ++ a .direct ++ a .counts
+
+-- the number of the case
+abbrev pub comparisonNumbers : ComparisonAnswer → List ℕ
+comparisonNumbers a = a .case ∷ []
 
 -- the places of the strata, then the residuals
 abbrev pub strataNumbers : StrataAnswer → List ℤ

@@ -6,6 +6,7 @@ ghost use lib.ListN.{length};
 ghost use Rattle.rules.specs.Sheet.{reading, levelsAfter};
 ghost use Rattle.rules.specs.Design.{plotDesign, plotBuffer, fullDesign, treatmentBuffer};
 ghost use Rattle.rules.specs.Relation.{relation};
+ghost use Rattle.rules.specs.Comparison.{caseNumber, comparing};
 ghost use Rattle.rules.specs.Degrees.{degreesOfFreedom};
 ghost use Rattle.rules.specs.Strata.{strata};
 ghost use Rattle.rules.specs.Naming.{naming, nameBuffer};
@@ -13,18 +14,21 @@ ghost use Rattle.rules.specs.Table.{skeletonTable, tableBuffer};
 ghost use Rattle.rules.specs.SheetText.{sheetBuffer};
 ghost use Rattle.rules.specs.Parents.{conversion};
 ghost use Rattle.rules.specs.Formula.{formulaSheet};
+ghost use Rattle.standing.specs.Cases.{caseOf};
 ghost use Rattle.naming.specs.Answers.{kindOf};
 ghost use Rattle.writer.specs.Answers.{writingNumbers};
-ghost use Rattle.rachdoum.specs.Numbers.{readingRefusal, readingNumbers, plotDesignNumbers, fullDesignNumbers, relationNumbers, strataNumbers, statedKind, namingNumbers, textNumbers, sheetNumbers};
+ghost use Rattle.rachdoum.specs.Numbers.{readingRefusal, readingNumbers, plotDesignNumbers, fullDesignNumbers, relationNumbers, comparisonNumbers, strataNumbers, statedKind, namingNumbers, textNumbers, sheetNumbers};
 
 mod gather;
 
+use comparison::Compared;
 use design::FullDesign;
 use design::PlotDesign;
 use limits::Level;
 use naming::Kind;
 use naming::Named;
 use sheet::Reading;
+use standing::Comparison;
 use table::Printed;
 use writer::Writing;
 
@@ -193,6 +197,55 @@ pub extern "C" fn rachdoum_strata(
     *answer = all;
     let number = found.refusal;
     number as u32
+}
+
+// The number of a case: 1 equivalent, 2 finer, 3 coarser, 4 orthogonal, 5 not orthogonal.
+fn case_number(case: Comparison) -> u64
+    ensures { λ r. ⌜ r ≡ caseNumber (caseOf case) ⌝ }
+{
+    match case {
+        Comparison::Equivalent => 1,
+        Comparison::Finer => 2,
+        Comparison::Coarser => 3,
+        Comparison::Orthogonal => 4,
+        Comparison::NotOrthogonal => 5,
+    }
+}
+
+// Questions 6 and 15. The answer: the number of the case, which is said of the first member.
+#[no_mangle]
+pub extern "C" fn rachdoum_compare(
+    first_family: &[u8],
+    first_size: usize,
+    first_place: usize,
+    second_family: &[u8],
+    second_size: usize,
+    second_place: usize,
+    plots: usize,
+    answer: &mut [u64; 1],
+) -> u32
+    ensures refusal { λ r. ⌜ r ≡ comparing plots (now («first_family» .entry)) «first_size» «first_place» (now («second_family» .entry)) «second_size» «second_place» .refusal ⌝ }
+    ensures numbers { λ _. ⌜ now (answer .exit) ≡ comparisonNumbers (comparing plots (now («first_family» .entry)) «first_size» «first_place» (now («second_family» .entry)) «second_size» «second_place») ⌝ }
+{
+    let found = comparison::compare_members(
+        first_family,
+        first_size,
+        first_place,
+        second_family,
+        second_size,
+        second_place,
+        plots,
+    );
+    match found {
+        Compared::Stands(case) => {
+            *answer = [case_number(case)];
+            0
+        }
+        Compared::Refused(number) => {
+            *answer = [0];
+            number
+        }
+    }
 }
 
 // The kind that a number states: 0 plot, any other treatment.

@@ -26,7 +26,7 @@ unfolding sizeIn
 cast-words c =
     let f = c .before .before .before in
     let a = f .before .before .args in
-    let e = ap sizeIn (f .relation .ensures) in
+    let e = ap sizeIn (f .relation .ensures .0) in
     record { fits = omega (arith, e, relation-few (a .plots) (now (a .family)) (a .size)) }
 
 words-requires : tie.Need-words-requires
@@ -38,7 +38,7 @@ cast-result c = search needs
 returns : tie.Need-returns
 unfolding refusalIn
 returns c =
-    let e = c .before .before .before .before .relation .ensures in
+    let e = c .before .before .before .before .relation .ensures .0 in
     (ap refusalIn e, c .words .ensures ∙ ap relationNumbers e)
 
 pub rachdoum-relation-spec : {M : Type 1} → statement M
