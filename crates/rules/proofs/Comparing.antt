@@ -2,8 +2,8 @@
 -- Assumes nothing.
 use mathlib.Core.Path.{_≡_, refl, sym, ap, _∙_}
 use mathlib.Core.Logic.{_↔_, inl, inr}
-use mathlib.Core.Bool.{Bool, true, _&&_}
-use mathlib.Core.List.{List}
+use mathlib.Core.Bool.{Bool, true, false, _&&_}
+use mathlib.Core.List.{List, [], _∷_}
 use Prim.Native.Nat.{ℕ, zero, suc, _-_, _≤_}
 use native.Mathlib.Omega.{arith}
 use lib.Dec.{lit≤}
@@ -11,10 +11,9 @@ use lib.ListN.{length}
 use Rattle.rules.specs.Factor.{Column, Finer, Equivalent, Orthogonal}
 use Rattle.rules.specs.Family.{Family, _∈_, membersOf, wellFormed}
 use Rattle.rules.specs.Relation.{familyWithin, memberAt}
-use Rattle.rules.specs.Comparison.{Comparison, isEquivalent, isFiner, isCoarser, isOrthogonal, notOrthogonal, comparison, caseNumber, ComparisonAnswer, placeWithin, comparing}
-use Rattle.rules.specs.Demand2.{FirstBroken, AllHold}
+use Rattle.rules.specs.Comparison.{Comparison, isEquivalent, isFiner, isCoarser, isOrthogonal, notOrthogonal, comparison, caseNumber, ComparisonAnswer, comparisonRefused, compared, placeWithin, comparing}
+use Rattle.rules.specs.Demand2.{condition, FirstBroken, AllHold}
 use Rattle.rules.specs.Conditions.{FamiliesWithin, ComparingWithin, Formed, comparingConditions}
-use Rattle.rules.proofs.Numbering.{by-cases}
 use Rattle.rules.proofs.Members.{clash}
 use Rattle.rules.proofs.WellFormed.{accepted, member-at}
 use Rattle.rules.proofs.WellMade.{well-formed}
@@ -41,6 +40,24 @@ formed-test S = (
       record { some = a .some; few = a .few; numbered = accepted-numbered S a; ascending = a .ascending },
   λ f. well-formed S (f .some) (f .few) (f .ascending) (f .numbered),
 )
+
+-- ---- 6 and then 15
+
+module _ (a b : Bool) (c : Comparison) where
+  abbrev inTurn : ComparisonAnswer
+  inTurn = elim a [ true ↦ elim b [ true ↦ compared c | false ↦ comparisonRefused 15 ] | false ↦ comparisonRefused 6 ]
+
+-- the first of two conditions that is broken, by the tests of both
+turn-broken : (a b : Bool) (c : Comparison) {A B : Type 0} → a ≡ true ↔ A → b ≡ true ↔ B → FirstBroken (condition 6 A ∷ condition 15 B ∷ []) (inTurn a b c .refusal)
+unfolding FirstBroken
+turn-broken true true c s t = inl (s .0 refl, inl (t .0 refl, refl))
+turn-broken true false c s t = inl (s .0 refl, inr (λ h. clash (t .1 h) refl, refl))
+turn-broken false b c s t = inr (λ h. clash (s .1 h) refl, refl)
+
+turn-refused : (a b : Bool) (c : Comparison) → (inTurn a b c .refusal ≡ 0 → ⊥) → inTurn a b c .case ≡ 0
+turn-refused true true c h = absurd (h refl)
+turn-refused true false c h = refl
+turn-refused false b c h = refl
 
 -- ---- numbers of cases
 
@@ -100,16 +117,13 @@ module _ (n : ℕ) (first : List ℕ) (firstSize i : ℕ) (second : List ℕ) (s
 
   -- the refusal is the number of the first condition broken, 6 or 15
   pub comparing-first-broken : FirstBroken (comparingConditions n first firstSize i second secondSize j) (answer .refusal)
-  unfolding FirstBroken comparing
-  comparing-first-broken =
-      by-cases six
-      (λ e. inl (six-test .0 e, by-cases fifteen (λ f. inl (fifteen-test .0 f, rw (e, comparing, f))) (λ f. inr (λ h. clash (fifteen-test .1 h) f, rw (e, comparing, f)))))
-      (λ e. inr (λ h. clash (six-test .1 h) e, rw (e, comparing)))
+  unfolding comparing
+  comparing-first-broken = turn-broken six fifteen (comparison n one other) six-test fifteen-test
 
   -- after a refusal the case is 0
   pub comparing-refused : (answer .refusal ≡ 0 → ⊥) → answer .case ≡ 0
   unfolding comparing
-  comparing-refused h = by-cases six (λ e. by-cases fifteen (λ f. absurd (h (rw (e, comparing, f)))) (λ f. rw (e, comparing, f))) (λ e. rw (e, comparing))
+  comparing-refused = turn-refused six fifteen (comparison n one other)
 
   -- ---- nothing is refused
 

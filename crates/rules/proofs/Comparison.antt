@@ -38,7 +38,16 @@ module _ (n : ℕ) (F G : Column) where
   beside : orthogonal n F G ≡ true ↔ Orthogonal n F G
   beside = orthogonal-test n F G
 
-  -- the case found says it
+  -- a case that says what is so is the one found
+  found : (c : Comparison) → Says c → comparison n F G ≡ c
+  unfolding comparison
+  found isEquivalent h = rw (below .1 (h .to), above .1 (h .from))
+  found isFiner h = rw (below .1 (h .0), not-passed above (h .1))
+  found isCoarser h = rw (not-passed below (h .1), above .1 (h .0))
+  found isOrthogonal h = rw (not-passed below (h .1), not-passed above (h .2), beside .1 (h .0))
+  found notOrthogonal h = rw (not-passed below (h .1), not-passed above (h .2), not-passed beside (h .0))
+
+  -- and the one found says what is so
   says : Says (comparison n F G)
   unfolding comparison
   says = go (finer n F G) (finer n G F) (orthogonal n F G) refl refl refl
@@ -49,15 +58,6 @@ module _ (n : ℕ) (F G : Column) where
       go false true o e f g = (above .0 f, not-held below e)
       go false false true e f g = (beside .0 g, not-held below e, not-held above f)
       go false false false e f g = (not-held beside g, not-held below e, not-held above f)
-
-  -- and no other case does
-  found : (c : Comparison) → Says c → comparison n F G ≡ c
-  unfolding comparison
-  found isEquivalent h = rw (below .1 (h .to), above .1 (h .from))
-  found isFiner h = rw (below .1 (h .0), not-passed above (h .1))
-  found isCoarser h = rw (not-passed below (h .1), above .1 (h .0))
-  found isOrthogonal h = rw (not-passed below (h .1), not-passed above (h .2), beside .1 (h .0))
-  found notOrthogonal h = rw (not-passed below (h .1), not-passed above (h .2), not-passed beside (h .0))
 
   comparison-says : (c : Comparison) → comparison n F G ≡ c ↔ Says c
   comparison-says c = (λ e. subst Says e says, found c)

@@ -9,7 +9,7 @@ use Rattle.rules.specs.Limits.{mostColumns, tableCells, familyBytes, nam
 use Rattle.rules.specs.Factor.{Column}
 use Rattle.rules.specs.Family.{Family, written}
 use Rattle.rules.specs.Relation.{RelationAnswer, relation}
-use Rattle.rules.specs.Comparison.{Comparison, isEquivalent, isFiner, isCoarser, isOrthogonal, notOrthogonal, comparison, ComparisonAnswer, comparisonRefused, compared, comparing}
+use Rattle.rules.specs.Comparison.{Comparison, isEquivalent, isFiner, isCoarser, isOrthogonal, notOrthogonal, comparison, ComparisonAnswer, comparing}
 use Rattle.rules.specs.Degrees.{DegreesAnswer, degreesOfFreedom}
 use Rattle.rules.specs.Strata.{StrataAnswer, strata}
 use Rattle.rules.specs.Sheet.{Outcome, read, refused, readingTo, reading}
@@ -315,30 +315,30 @@ furtherTrials =
     -- one plot: U is E
     ∷ stand 1 (1 ∷ []) (1 ∷ []) isEquivalent isEquivalent
     -- members of two families, one of each case
-    ∷ comparesMembers 4 square 3 (one ∷ turns ∷ []) 2 (compared isEquivalent)
-    ∷ comparesMembers 4 square 4 (one ∷ turns ∷ []) 2 (compared isFiner)
-    ∷ comparesMembers 4 square 1 (one ∷ turns ∷ []) 2 (compared isCoarser)
-    ∷ comparesMembers 4 square 2 (one ∷ turns ∷ []) 2 (compared isOrthogonal)
-    ∷ comparesMembers 6 pairings 2 pairings 3 (compared notOrthogonal)
+    ∷ comparesMembers 4 square 3 (one ∷ turns ∷ []) 2 (record { refusal = 0; case = 1 })
+    ∷ comparesMembers 4 square 4 (one ∷ turns ∷ []) 2 (record { refusal = 0; case = 2 })
+    ∷ comparesMembers 4 square 1 (one ∷ turns ∷ []) 2 (record { refusal = 0; case = 3 })
+    ∷ comparesMembers 4 square 2 (one ∷ turns ∷ []) 2 (record { refusal = 0; case = 4 })
+    ∷ comparesMembers 6 pairings 2 pairings 3 (record { refusal = 0; case = 5 })
     -- no plots and too many; a place past the size of its family, though not of the other; no place 0
-    ∷ comparesMembers 0 square 1 square 1 (comparisonRefused 6)
-    ∷ comparesMembers 241 square 1 square 1 (comparisonRefused 6)
-    ∷ comparesMembers 4 (one ∷ turns ∷ []) 3 square 1 (comparisonRefused 6)
-    ∷ comparesMembers 4 square 1 (one ∷ turns ∷ []) 3 (comparisonRefused 6)
-    ∷ comparesMembers 4 square 0 square 1 (comparisonRefused 6)
-    ∷ comparesMembers 4 square 1 square 0 (comparisonRefused 6)
+    ∷ comparesMembers 0 square 1 square 1 (record { refusal = 6; case = 0 })
+    ∷ comparesMembers 241 square 1 square 1 (record { refusal = 6; case = 0 })
+    ∷ comparesMembers 4 (one ∷ turns ∷ []) 3 square 1 (record { refusal = 6; case = 0 })
+    ∷ comparesMembers 4 square 1 (one ∷ turns ∷ []) 3 (record { refusal = 6; case = 0 })
+    ∷ comparesMembers 4 square 0 square 1 (record { refusal = 6; case = 0 })
+    ∷ comparesMembers 4 square 1 square 0 (record { refusal = 6; case = 0 })
     -- a buffer that is one byte short
-    ∷ compares 4 7679 square 4 1 7680 square 4 1 (comparisonRefused 6)
-    ∷ compares 4 7680 square 4 1 7679 square 4 1 (comparisonRefused 6)
+    ∷ compares 4 7679 square 4 1 7680 square 4 1 (record { refusal = 6; case = 0 })
+    ∷ compares 4 7680 square 4 1 7679 square 4 1 (record { refusal = 6; case = 0 })
     -- the size 0 has no place; of 33 members place 34 is none, and place 33 is one, but they are too many
-    ∷ compares 4 7680 square 0 0 7680 square 4 1 (comparisonRefused 6)
-    ∷ compares 4 7680 square 4 1 7680 square 0 1 (comparisonRefused 6)
-    ∷ compares 4 7680 square 33 34 7680 square 4 1 (comparisonRefused 6)
-    ∷ compares 4 7680 square 33 33 7680 square 4 1 (comparisonRefused 15)
+    ∷ compares 4 7680 square 0 0 7680 square 4 1 (record { refusal = 6; case = 0 })
+    ∷ compares 4 7680 square 4 1 7680 square 0 1 (record { refusal = 6; case = 0 })
+    ∷ compares 4 7680 square 33 34 7680 square 4 1 (record { refusal = 6; case = 0 })
+    ∷ compares 4 7680 square 33 33 7680 square 4 1 (record { refusal = 15; case = 0 })
     -- members out of order, at other places than those asked about; 6 comes first
-    ∷ comparesMembers 4 (one ∷ each ∷ turns ∷ []) 1 square 1 (comparisonRefused 15)
-    ∷ comparesMembers 4 square 1 (one ∷ each ∷ turns ∷ []) 1 (comparisonRefused 15)
-    ∷ comparesMembers 4 (one ∷ each ∷ turns ∷ []) 4 square 1 (comparisonRefused 6)
+    ∷ comparesMembers 4 (one ∷ each ∷ turns ∷ []) 1 square 1 (record { refusal = 15; case = 0 })
+    ∷ comparesMembers 4 square 1 (one ∷ each ∷ turns ∷ []) 1 (record { refusal = 15; case = 0 })
+    ∷ comparesMembers 4 (one ∷ each ∷ turns ∷ []) 4 square 1 (record { refusal = 6; case = 0 })
     -- strata: beside U and E both treatment columns are in E; beside U alone a column has none
     ∷ allots 4 (one ∷ each ∷ []) (one ∷ halves ∷ turns ∷ []) (record { refusal = 0; places = filled (1 ∷ 2 ∷ 2 ∷ []); residuals = filledSigned (pos 0 ∷ pos 1 ∷ []) })
     -- treatment members that are not orthogonal to the plot members: six with 1 each in E, which has 8 less 1 and 3
