@@ -3,15 +3,15 @@
 use mathlib.Core.Path.{_≡_, refl, ap, _∙_}
 use mathlib.Core.Logic.{_↔_}
 use mathlib.Core.Bool.{Bool, true, false}
-use mathlib.Core.List.{List, [], _∷_, _++_, List·Memᴰ·not-nil}
+use mathlib.Core.List.{List, _∷_, List·Memᴰ·not-nil}
 use Prim.Native.Nat.{ℕ, _<_}
 use native.Mathlib.Omega.{arith}
 use lib.ListN.{length, getD, replicate, length-replicate}
 use Rattle.rules.specs.Factor.{Column, Finer, orthogonal}
 use Rattle.rules.specs.Family.{Family, _∈_, membersOf}
 use Rattle.rules.specs.Closing.{Closing, tooMany, family, plotFamily, firstTreatmentFamily}
-use Rattle.rules.specs.Design.{Places, firstPair, firstCross, withinLimits, fullWithinLimits, plotDesign, fullDesign}
-use Rattle.rules.specs.Asking.{Verdict, Asked, asked, firstNo, atBoth, membersIn, asks6, asks7, asks8, asks9, asks11, asks14, plotColumns, treatmentColumns, plotMembers, firstMembers, plotAnswer, fullAnswer, plotDesignBy, fullDesignBy}
+use Rattle.rules.specs.Design.{firstPair, firstCross, withinLimits, fullWithinLimits, plotDesign, fullDesign}
+use Rattle.rules.specs.Asking.{Verdict, Asked, firstNo, membersIn, asks6, plotColumns, treatmentColumns, plotMembers, firstMembers, plotAnswer, fullAnswer, plotDesignBy, fullDesignBy}
 use Rattle.rules.specs.Demand2.{Within}
 use Rattle.rules.specs.Lists.{bitAt}
 use Rattle.rules.specs.Relation.{memberAt, relation}
@@ -50,25 +50,22 @@ closing-on n (family S) made F m = made S refl .on F m
 
 -- the plot design: refusal 10 is given exactly where it was
 pub plot-compares : (n c : ℕ) (levels : List ℕ) (r : ℕ) → plotDesign n c levels r ≡ plotDesignBy (pairPasses n) n c levels r
-plot-compares n c levels r = plot-design-asks n c levels r ∙ ap (λ (v : Verdict). plotAnswer v P) (after-six (withinLimits n c (length levels) r) _ _ same)
+plot-compares n c levels r =
+    plot-design-asks n c levels r
+    ∙ ap (λ (v : Verdict). plotAnswer v (plotMembers n Fs)) (after-six (withinLimits n c (length levels) r) _ _ (λ e. rw (pair-comparison n 1 (plotMembers n Fs) (on e))))
   where
     Fs : List Column
     Fs = plotColumns n c levels
 
-    P : Family
-    P = plotMembers n Fs
-
-    asking : Places → List Asked
-    asking p = asks7 Fs ∷ asks8 (plotFamily n Fs) ∷ asks9 n P ∷ asked 10 (atBoth p) ∷ []
-
-    same : withinLimits n c (length levels) r ≡ true → asking (firstPair (orthogonal n) 1 P) ≡ asking (firstPair (pairPasses n) 1 P)
-    same e =
-        let l = plot-limits n c (length levels) r e in
-        ap asking (pair-comparison n 1 P (closing-on n (plotFamily n Fs) (plot-made n Fs (column-length n levels c 0 (l .plots-few) (l .table) (omega (arith, l .columns))))))
+    on : withinLimits n c (length levels) r ≡ true → (F : Column) → F ∈ plotMembers n Fs → length F ≡ n
+    on e = let l = plot-limits n c (length levels) r e in closing-on n (plotFamily n Fs) (plot-made n Fs (column-length n levels c 0 (l .plots-few) (l .table) (omega (arith, l .columns))))
 
 -- the full design: 10, 12 and 13 are given exactly where they were
 pub full-compares : (n c d k : ℕ) (levels : List ℕ) (p r : ℕ) → fullDesign n c d k levels p r ≡ fullDesignBy (pairPasses n) n c d k levels p r
-full-compares n c d k levels p r = full-design-asks n c d k levels p r ∙ ap (λ (v : Verdict). fullAnswer v P S) (after-six (fullWithinLimits n c d k (length levels) p r) _ _ same)
+full-compares n c d k levels p r =
+    full-design-asks n c d k levels p r
+    ∙ ap (λ (v : Verdict). fullAnswer v P S)
+    (after-six (fullWithinLimits n c d k (length levels) p r) _ _ (λ e. rw (pair-comparison n 1 P (onP e), pair-comparison n 1 S (onS e), cross-comparison n 1 P S (onP e) (onS e))))
   where
     Fs : List Column
     Fs = plotColumns n c levels
@@ -82,18 +79,14 @@ full-compares n c d k levels p r = full-design-asks n c d k levels p r ∙ ap (�
     S : Family
     S = firstMembers n k Ts
 
-    asking : Places → Places → Places → List Asked
-    asking x y z =
-        asks7 (Fs ++ Ts) ∷ asks8 (plotFamily n Fs) ∷ asks9 n P ∷ asked 10 (atBoth x) ∷ asks11 (firstTreatmentFamily n k Ts)
-        ∷ asked 12 (atBoth y) ∷ asked 13 (atBoth z) ∷ asks14 P S ∷ []
+    within : fullWithinLimits n c d k (length levels) p r ≡ true → Within n c d k levels (replicate p 0) (replicate r 0)
+    within e = within-to n c d k levels (replicate p 0) (replicate r 0) (rw (length-replicate {A = ℕ} p 0, length-replicate {A = ℕ} r 0) e)
 
-    same : fullWithinLimits n c d k (length levels) p r ≡ true
-        → asking (firstPair (orthogonal n) 1 P) (firstPair (orthogonal n) 1 S) (firstCross (orthogonal n) 1 P S) ≡ asking (firstPair (pairPasses n) 1 P) (firstPair (pairPasses n) 1 S) (firstCross (pairPasses n) 1 P S)
-    same e =
-        let l : Within n c d k levels (replicate p 0) (replicate r 0) = within-to n c d k levels (replicate p 0) (replicate r 0) (rw (length-replicate {A = ℕ} p 0, length-replicate {A = ℕ} r 0) e) in
-        let onP = closing-on n (plotFamily n Fs) (plot-made n Fs (column-length n levels c 0 (l .plots-most) (l .table) (omega (arith, l .plot-columns)))) in
-        let onS = closing-on n (firstTreatmentFamily n k Ts) (first-made n k Ts (column-length n levels d 6 (l .plots-most) (l .table) (omega (arith, l .treatment-columns)))) in
-        rw (pair-comparison n 1 P onP, pair-comparison n 1 S onS, cross-comparison n 1 P S onP onS)
+    onP : fullWithinLimits n c d k (length levels) p r ≡ true → (F : Column) → F ∈ P → length F ≡ n
+    onP e = let l = within e in closing-on n (plotFamily n Fs) (plot-made n Fs (column-length n levels c 0 (l .plots-most) (l .table) (omega (arith, l .plot-columns))))
+
+    onS : fullWithinLimits n c d k (length levels) p r ≡ true → (F : Column) → F ∈ S → length F ≡ n
+    onS e = let l = within e in closing-on n (firstTreatmentFamily n k Ts) (first-made n k Ts (column-length n levels d 6 (l .plots-most) (l .table) (omega (arith, l .treatment-columns))))
 
 -- ---- the relation
 

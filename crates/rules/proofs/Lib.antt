@@ -56,6 +56,7 @@ pub mod Treatments
 pub mod Made
 pub mod Comparison
 pub mod ComparedPairs
+pub mod Comparing
 pub mod PlotInfima
 pub mod ReadSheets
 pub mod SheetText

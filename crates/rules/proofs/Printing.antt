@@ -9,30 +9,25 @@ use native.Mathlib.Omega.{arith}
 use lib.Dec.{eqb}
 use lib.IntN.{pos}
 use lib.ListN.{length}
-use borrow.Author.Tests.{le-leb, lt-ltb, eqb-false}
+use borrow.Author.Tests.{le-leb, eqb-false}
 use Rattle.rules.specs.Factor.{Column}
 use Rattle.rules.specs.Family.{Family, _∈_, wellFormed, membersOf}
-use Rattle.rules.specs.Design.{Answer, plotsWithin, plotBuffer, treatmentBuffer}
+use Rattle.rules.specs.Design.{Answer, plotBuffer, treatmentBuffer}
 use Rattle.rules.specs.Lists.{forPlaces}
-use Rattle.rules.specs.Relation.{familyWithin}
 use Rattle.rules.specs.Degrees.{degrees, degreesOfFreedom}
 use Rattle.rules.specs.Strata.{all, allHaveStratum, isStratum, stratum, residuals, question15, question16, strata}
 use Rattle.rules.proofs.Numbering.{by-cases}
 use Rattle.rules.proofs.Members.{clash}
 use Rattle.rules.proofs.Sheet.{not-yes}
 use Rattle.rules.proofs.First.{failing-first}
+use Rattle.rules.proofs.Taken.{family-test}
 use Rattle.rules.proofs.Made.{Tells, plot-back, plot-buffer-length, treatment-back, treatment-buffer-length}
-
--- question 6 of a family on 1 to 240 plots in a buffer that is long enough
-family-within : (n : ℕ) → 1 ≤ n → n ≤ 240 → (b : List ℕ) → 7680 ≤ length b → familyWithin n b ≡ true
-unfolding familyWithin plotsWithin
-family-within n h l b room = rw (lt-ltb 0 n h, le-leb n 240 l, le-leb 7680 (length b) room)
 
 -- the degrees of freedom of a family in a buffer, which question 15 accepts
 pub degrees-answered : (n : ℕ) → 1 ≤ n → n ≤ 240 → (b : List ℕ) → 7680 ≤ length b → (m : ℕ) (S : Family) → membersOf n b m ≡ S → wellFormed S ≡ true
     → degreesOfFreedom n b m ≡ record { refusal = 0; degrees = forPlaces (pos 0) (degrees n S) }
 unfolding degreesOfFreedom
-degrees-answered n h l b room m S is formed = rw (family-within n h l b room, degreesOfFreedom, is, formed) (rw is)
+degrees-answered n h l b room m S is formed = rw (family-test n b .1 ((h, l), room), degreesOfFreedom, is, formed) (rw is)
 
 -- the strata of two families in buffers, which question 15 accepts, where every treatment member has one
 pub strata-answered : (n : ℕ) → 1 ≤ n → n ≤ 240 → (b c : List ℕ) → 7680 ≤ length b → 7680 ≤ length c → (k m : ℕ) (P R : Family) → membersOf n b k ≡ P → membersOf n c m ≡ R
@@ -40,7 +35,7 @@ pub strata-answered : (n : ℕ) → 1 ≤ n → n ≤ 240 → (b c : List ℕ) �
     → strata n b k c m ≡ record { refusal = 0; places = forPlaces 0 (map (stratum n P) R); residuals = forPlaces (pos 0) (residuals n P R) }
 unfolding strata question15 question16
 strata-answered n h l b c room more k m P R isP isR fP fR has =
-    rw (family-within n h l b room, le-leb 7680 (length c) more, strata, isP, isR) (rw (fP, fR, question15) (rw (has, question16)))
+    rw (family-test n b .1 ((h, l), room), le-leb 7680 (length c) more, strata, isP, isR) (rw (fP, fR, question15) (rw (has, question16)))
 
 all-passes : (p : Column → Bool) (S : Family) → all p S ≡ true → (F : Column) → F ∈ S → p F ≡ true
 unfolding all

@@ -1,8 +1,8 @@
 -- What an entry that takes families already made tells where it does not refuse: questions 6 and 15 are passed, and the answer is that of the members in the buffer.
 -- Assumes nothing.
 use mathlib.Core.Path.{_≡_, sym, ap, _∙_}
-use mathlib.Core.Logic.{_⊎_, inl, inr}
-use mathlib.Core.Bool.{true, _&&_}
+use mathlib.Core.Logic.{_↔_, _⊎_, inl, inr}
+use mathlib.Core.Bool.{Bool, true, _&&_}
 use mathlib.Core.List.{List, map, List·Memᴰ·cases-cons, List·Memᴰ·not-nil}
 use Prim.Native.Nat.{ℕ, zero, suc, _+_, _*_, _≤_}
 use native.Mathlib.Nat.{suc-ne-zero}
@@ -11,7 +11,7 @@ use lib.Dec.{ltb, leb}
 use lib.IntN.{pos}
 use lib.ListN.{length, getD, take, drop, length-drop, List·getD-eq-default}
 use lib.Seq.{length-take-le}
-use borrow.Author.Tests.{leb-true, ltb-true, ltb-false}
+use borrow.Author.Tests.{leb-true, ltb-true, ltb-false, lt-ltb, le-leb}
 use Rattle.rules.specs.Factor.{Column}
 use Rattle.rules.specs.Family.{Family, _∈_, columnsFrom, membersOf, wellFormed}
 use Rattle.rules.specs.Design.{plotsWithin}
@@ -53,6 +53,18 @@ places-found z xs h i =
 
 -- ---- questions 6 and 15
 
+-- two tests are passed exactly where both are
+pub both-test : (a b : Bool) {A B : Type 0} → a ≡ true ↔ A → b ≡ true ↔ B → a && b ≡ true ↔ (A × B)
+both-test a b s t = (λ e. (s .0 (and-left a b e), t .0 (and-right a b e)), λ w. rw (s .1 (w .0), t .1 (w .1)))
+
+-- from 1 to m
+pub range-test : (x m : ℕ) → ltb 0 x && leb x m ≡ true ↔ ((1 ≤ x) × (x ≤ m))
+range-test x m = both-test (ltb 0 x) (leb x m) (ltb-true 0 x, lt-ltb 0 x) (leb-true x m, le-leb x m)
+
+pub family-test : (n : ℕ) (b : List ℕ) → familyWithin n b ≡ true ↔ (((1 ≤ n) × (n ≤ 240)) × (7680 ≤ length b))
+unfolding familyWithin plotsWithin
+family-test n b = both-test (plotsWithin n) (leb 7680 (length b)) (range-test n 240) (leb-true 7680 (length b), le-leb 7680 (length b))
+
 pub record Taken (n : ℕ) (b : List ℕ) (m : ℕ) : Type 0 where
   pub plots-least : 1 ≤ n
   pub plots-most : n ≤ 240
@@ -68,10 +80,7 @@ unfolding membersOf
 taken-on n b m t = members-on n b m 0 (t .plots-most) (omega (arith, t .room, accepted (membersOf n b m) (t .formed) .few, taken-many n b m))
 
 taken : (n : ℕ) (b : List ℕ) (m : ℕ) → familyWithin n b ≡ true → wellFormed (membersOf n b m) ≡ true → Taken n b m
-unfolding familyWithin plotsWithin
-taken n b m w f =
-    let p = and-left (ltb 0 n && leb n 240) (leb 7680 (length b)) w in
-    record { plots-least = ltb-true 0 n (and-left (ltb 0 n) (leb n 240) p); plots-most = leb-true n 240 (and-right (ltb 0 n) (leb n 240) p); room = leb-true 7680 (length b) (and-right (ltb 0 n && leb n 240) (leb 7680 (length b)) w); formed = f }
+taken n b m w f = let t = family-test n b .0 w in record { plots-least = t .0 .0; plots-most = t .0 .1; room = t .1; formed = f }
 
 -- ---- the entries
 

@@ -9,6 +9,7 @@ use Rattle.rules.specs.Limits.{mostColumns, tableCells, familyBytes, nam
 use Rattle.rules.specs.Factor.{Column}
 use Rattle.rules.specs.Family.{Family, written}
 use Rattle.rules.specs.Relation.{RelationAnswer, relation}
+use Rattle.rules.specs.Comparison.{Comparison, isEquivalent, isFiner, isCoarser, isOrthogonal, notOrthogonal, comparison, ComparisonAnswer, comparing}
 use Rattle.rules.specs.Degrees.{DegreesAnswer, degreesOfFreedom}
 use Rattle.rules.specs.Strata.{StrataAnswer, strata}
 use Rattle.rules.specs.Sheet.{Outcome, read, refused, readingTo, reading}
@@ -22,6 +23,10 @@ pub data FurtherTrial : Type 0 where
   -- plots, the members in the buffer, the size asked about; the answer
   relates : ℕ → Family → ℕ → RelationAnswer → FurtherTrial
   subtracts : ℕ → Family → ℕ → DegreesAnswer → FurtherTrial
+  -- plots, two factors; how the first stands to the second, and the second to the first
+  stand : ℕ → Column → Column → Comparison → Comparison → FurtherTrial
+  -- plots, of each family the bytes of its buffer, the members in it, the size and the place asked about; the answer
+  compares : ℕ → ℕ → Family → ℕ → ℕ → ℕ → Family → ℕ → ℕ → ComparisonAnswer → FurtherTrial
   -- plots, the members in both buffers; the answer
   allots : ℕ → Family → Family → StrataAnswer → FurtherTrial
   -- the kind, the text, plots, plot and treatment columns of the level table, the members in the buffer, the place asked about; the answer
@@ -69,6 +74,20 @@ square = one ∷ halves ∷ turns ∷ each ∷ []
 abbrev pairings : Family
 pairings =
     (1 ∷ 1 ∷ 1 ∷ 1 ∷ 1 ∷ 1 ∷ []) ∷ (1 ∷ 1 ∷ 2 ∷ 2 ∷ 3 ∷ 3 ∷ []) ∷ (1 ∷ 2 ∷ 1 ∷ 3 ∷ 2 ∷ 3 ∷ []) ∷ (1 ∷ 2 ∷ 3 ∷ 1 ∷ 3 ∷ 2 ∷ []) ∷ (1 ∷ 2 ∷ 3 ∷ 4 ∷ 5 ∷ 6 ∷ []) ∷ []
+
+-- classes of unequal sizes: three plots and one; four and two, three and three, in proportion
+abbrev threeAndOne : Column
+threeAndOne = 1 ∷ 1 ∷ 1 ∷ 2 ∷ []
+
+abbrev fourAndTwo : Column
+fourAndTwo = 1 ∷ 1 ∷ 1 ∷ 1 ∷ 2 ∷ 2 ∷ []
+
+abbrev inProportion : Column
+inProportion = 1 ∷ 1 ∷ 2 ∷ 2 ∷ 1 ∷ 2 ∷ []
+
+-- a member of each of two whole families in buffers that are long enough
+abbrev comparesMembers : ℕ → Family → ℕ → Family → ℕ → ComparisonAnswer → FurtherTrial
+comparesMembers n S i R j a = compares n familyBytes S (length S) i familyBytes R (length R) j a
 
 -- eight plots: two columns that cross, their infimum, U
 abbrev fours : Column
@@ -282,6 +301,44 @@ furtherTrials =
     ∷ subtracts 6 pairings 5 (record { refusal = 0; degrees = filledSigned (pos 1 ∷ pos 2 ∷ pos 2 ∷ pos 2 ∷ negsuc 0 ∷ []) })
     ∷ subtracts 0 square 4 (record { refusal = 6; degrees = filledSigned [] })
     ∷ subtracts 4 square 0 (record { refusal = 15; degrees = filledSigned [] })
+    -- two factors: the same classes under other labels; E and a column; two that cross; three pairs, where some two classes do not meet
+    ∷ stand 4 halves (2 ∷ 2 ∷ 1 ∷ 1 ∷ []) isEquivalent isEquivalent
+    ∷ stand 4 each halves isFiner isCoarser
+    ∷ stand 4 halves turns isOrthogonal isOrthogonal
+    ∷ stand 6 (1 ∷ 1 ∷ 2 ∷ 2 ∷ 3 ∷ 3 ∷ []) (1 ∷ 2 ∷ 1 ∷ 3 ∷ 2 ∷ 3 ∷ []) notOrthogonal notOrthogonal
+    -- classes of unequal sizes: against U; against two pairs; in proportion
+    ∷ stand 4 threeAndOne one isFiner isCoarser
+    ∷ stand 4 threeAndOne halves notOrthogonal notOrthogonal
+    ∷ stand 6 fourAndTwo inProportion isOrthogonal isOrthogonal
+    -- orthogonal within each class of the supremum: 1 × 4 = 2 × 2, and not 1 × 8
+    ∷ stand 8 pairsOfEight crossedInHalves isOrthogonal isOrthogonal
+    -- one plot: U is E
+    ∷ stand 1 (1 ∷ []) (1 ∷ []) isEquivalent isEquivalent
+    -- members of two families, one of each case
+    ∷ comparesMembers 4 square 3 (one ∷ turns ∷ []) 2 (record { refusal = 0; case = 1 })
+    ∷ comparesMembers 4 square 4 (one ∷ turns ∷ []) 2 (record { refusal = 0; case = 2 })
+    ∷ comparesMembers 4 square 1 (one ∷ turns ∷ []) 2 (record { refusal = 0; case = 3 })
+    ∷ comparesMembers 4 square 2 (one ∷ turns ∷ []) 2 (record { refusal = 0; case = 4 })
+    ∷ comparesMembers 6 pairings 2 pairings 3 (record { refusal = 0; case = 5 })
+    -- no plots and too many; a place past the size of its family, though not of the other; no place 0
+    ∷ comparesMembers 0 square 1 square 1 (record { refusal = 6; case = 0 })
+    ∷ comparesMembers 241 square 1 square 1 (record { refusal = 6; case = 0 })
+    ∷ comparesMembers 4 (one ∷ turns ∷ []) 3 square 1 (record { refusal = 6; case = 0 })
+    ∷ comparesMembers 4 square 1 (one ∷ turns ∷ []) 3 (record { refusal = 6; case = 0 })
+    ∷ comparesMembers 4 square 0 square 1 (record { refusal = 6; case = 0 })
+    ∷ comparesMembers 4 square 1 square 0 (record { refusal = 6; case = 0 })
+    -- a buffer that is one byte short
+    ∷ compares 4 7679 square 4 1 7680 square 4 1 (record { refusal = 6; case = 0 })
+    ∷ compares 4 7680 square 4 1 7679 square 4 1 (record { refusal = 6; case = 0 })
+    -- the size 0 has no place; of 33 members place 34 is none, and place 33 is one, but they are too many
+    ∷ compares 4 7680 square 0 0 7680 square 4 1 (record { refusal = 6; case = 0 })
+    ∷ compares 4 7680 square 4 1 7680 square 0 1 (record { refusal = 6; case = 0 })
+    ∷ compares 4 7680 square 33 34 7680 square 4 1 (record { refusal = 6; case = 0 })
+    ∷ compares 4 7680 square 33 33 7680 square 4 1 (record { refusal = 15; case = 0 })
+    -- members out of order, at other places than those asked about; 6 comes first
+    ∷ comparesMembers 4 (one ∷ each ∷ turns ∷ []) 1 square 1 (record { refusal = 15; case = 0 })
+    ∷ comparesMembers 4 square 1 (one ∷ each ∷ turns ∷ []) 1 (record { refusal = 15; case = 0 })
+    ∷ comparesMembers 4 (one ∷ each ∷ turns ∷ []) 4 square 1 (record { refusal = 6; case = 0 })
     -- strata: beside U and E both treatment columns are in E; beside U alone a column has none
     ∷ allots 4 (one ∷ each ∷ []) (one ∷ halves ∷ turns ∷ []) (record { refusal = 0; places = filled (1 ∷ 2 ∷ 2 ∷ []); residuals = filledSigned (pos 0 ∷ pos 1 ∷ []) })
     -- treatment members that are not orthogonal to the plot members: six with 1 each in E, which has 8 less 1 and 3
@@ -405,10 +462,12 @@ unfolding written
 inTable cells Fs Ts = written (written (replicate cells 0) 0 Fs) mostColumns Ts
 
 unfoldable pub seen : FurtherTrial → FurtherTrial
-unfolding observed inBuffer inTable relation degreesOfFreedom strata naming readingTo tableText skeletonTable signed
+unfolding observed inBuffer inTable relation degreesOfFreedom comparison comparing strata naming readingTo tableText skeletonTable signed
 seen (plans t) = plans (observed t)
 seen (relates n S m a) = relates n S m (relation n (inBuffer familyBytes S) m)
 seen (subtracts n S m a) = subtracts n S m (degreesOfFreedom n (inBuffer familyBytes S) m)
+seen (stand n F G c d) = stand n F G (comparison n F G) (comparison n G F)
+seen (compares n bytes S size i room R many j a) = compares n bytes S size i room R many j (comparing n (inBuffer bytes S) size i (inBuffer room R) many j)
 seen (allots n P R a) = allots n P R (strata n (inBuffer familyBytes P) (length P) (inBuffer familyBytes R) (length R))
 seen (namesMember kind text n Fs Ts S i a) = namesMember kind text n Fs Ts S i (naming kind text (inTable tableCells Fs Ts) (inBuffer familyBytes S) n (length S) i nameBytes)
 seen (fits cells bytes room q) = fits cells bytes room (naming plot twoAndTwo (inTable cells hutAndBay gainAndRow) (inBuffer bytes oneAndPairs) 8 2 2 room .refusal)
