@@ -16,9 +16,8 @@ use Rattle.rules.proofs.Numbering.{by-cases}
 use Rattle.rules.proofs.Tests.{count-none, count-same}
 use Rattle.rules.proofs.Walks.{bool-false}
 use Rattle.factor.specs.Sizes.{labelled}
-use Rattle.standing.specs.Cells.{labelledBoth, CellsInside, CellSizes, Listed, cellSize, sumAt}
+use Rattle.standing.specs.Cells.{labelledBoth, CellSizes, Listed, cellSize, sumAt, labelSum}
 use Rattle.standing.proofs.CellTable.{and-both, both-and, stays, added, count-split}
-use Rattle.standing.proofs.Listing.{listed-inside}
 
 -- ---- sums by label
 
@@ -57,7 +56,7 @@ sum-next t H i = rw add-one (sum-yes t H (at H i) i (eq-eqb (at H i) (at H i) re
 
 -- ---- the plots of the first cells
 
-module _ (n w : ℕ) (F G : Column) (cells : List ℕ) (counted : CellSizes n w (length F) F G cells) (inside : CellsInside w n F G) (X Y : Column) (listed : Listed F G X Y) where
+module _ (F G X Y : Column) (listed : Listed F G X Y) (sizes : List ℕ) (counted : CellSizes F G X Y sizes) where
   -- plot v is in cell i
   abbrev here : ℕ → ℕ → Bool
   here i v = eqb (at X i) (at F v) && eqb (at Y i) (at G v)
@@ -104,31 +103,31 @@ module _ (n w : ℕ) (F G : Column) (cells : List ℕ) (counted : CellSizes n w 
   among-all v h = let p = listed .stands .place v h in among-at (length X) (p .plot) v (p .less) (both-and _ _ (eq-eqb _ _ (p .first)) (eq-eqb _ _ (p .second)))
 
   -- the plots of cell i
-  cell-count : (i : ℕ) → i < length X → count (length F) (here i) ≡ cellSize w cells X Y i
+  cell-count : (i : ℕ) → i < length X → count (length F) (here i) ≡ cellSize sizes i
   unfolding labelledBoth
-  cell-count i h = let k = listed-inside F G X Y (listed .stands) w n inside i h in sym (counted .cell (at X i) (at Y i) (k .0) (k .1))
+  cell-count i h = sym (counted i h)
 
   -- plots of cell i have in K the label that the cell has in H
   module _ (K H : Column) (own : (i v : ℕ) → here i v ≡ true → at K v ≡ at H i) where
-    sums : (z i : ℕ) → i ≤ length X → sumAt (cellSize w cells X Y) H i z ≡ count (length F) (λ v. eqb z (at K v) && among i v)
+    sums : (z i : ℕ) → i ≤ length X → sumAt (cellSize sizes) H i z ≡ count (length F) (λ v. eqb z (at K v) && among i v)
     unfolding sumAt among
     sums z zero h = sym (count-none (length F) _ (λ v hv. and-false (eqb z (at K v))))
     sums z (suc i) h =
         by-cases (eqb z (at H i))
-        (λ e. sum-yes (cellSize w cells X Y) H z i e ∙ ap₂ _+_ (sums z i (omega arith)) (sym (cell-count i h))
+        (λ e. sum-yes (cellSize sizes) H z i e ∙ ap₂ _+_ (sums z i (omega arith)) (sym (cell-count i h))
         ∙ sym (count-split (length F) (λ v. eqb z (at K v) && among i v) (here i) (λ v. eqb z (at K v) && among (suc i) v) (λ v hv. by-cases (here i v)
         (λ f. added
         (ap (λ (b : Bool). eqb z (at K v) && b) (not-among i i v (omega arith) h f) ∙ and-false (eqb z (at K v)))
         f
         (both-and _ _ (ap (eqb z) (own i v f) ∙ e) (among-yes i v f)))
         (λ f. stays f (ap (λ (b : Bool). eqb z (at K v) && b) (among-no i v f))))))
-        (λ e. sum-no (cellSize w cells X Y) H z i e ∙ sums z i (omega arith)
+        (λ e. sum-no (cellSize sizes) H z i e ∙ sums z i (omega arith)
         ∙ count-same (length F) _ _ (λ v hv. by-cases (here i v)
         (λ f. let no : eqb z (at K v) ≡ false = ap (eqb z) (own i v f) ∙ e in ap (λ (b : Bool). b && among i v) no ∙ sym (ap (λ (b : Bool). b && among (suc i) v) no))
         (λ f. ap (λ (b : Bool). eqb z (at K v) && b) (sym (among-no i v f)))))
 
     -- all cells
-    sums-all : (z : ℕ) → sumAt (cellSize w cells X Y) H (length X) z ≡ labelled (length F) K z
+    sums-all : (z : ℕ) → sumAt (cellSize sizes) H (length X) z ≡ labelled (length F) K z
     unfolding labelled
     sums-all z = sums z (length X) (omega arith) ∙ count-same (length F) _ _ (λ v hv. ap (λ (b : Bool). eqb z (at K v) && b) (among-all v hv) ∙ and-true (eqb z (at K v)))
       where
@@ -136,8 +135,8 @@ module _ (n w : ℕ) (F G : Column) (cells : List ℕ) (counted : CellSizes n w 
         and-true true = refl
         and-true false = refl
 
-  pub sums-first : (z : ℕ) → sumAt (cellSize w cells X Y) X (length X) z ≡ labelled (length F) F z
+  pub sums-first : (z : ℕ) → labelSum sizes X z ≡ labelled (length F) F z
   sums-first = sums-all F X (λ i v e. sym (here-is i v e .0))
 
-  pub sums-second : (z : ℕ) → sumAt (cellSize w cells X Y) Y (length X) z ≡ labelled (length F) G z
-  sums-second = sums-all G Y (λ i v e. sym (here-is i v e .1))
+  pub sums-second : (z : ℕ) → labelSum sizes Y z ≡ labelled (length F) G z
+  sums-second z = ap (λ (k : ℕ). sumAt (cellSize sizes) Y k z) (listed .even) ∙ sums-all G Y (λ i v e. sym (here-is i v e .1)) z

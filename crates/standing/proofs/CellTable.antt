@@ -1,27 +1,23 @@
--- Laws of the table of cells, of sizes, and of orthogonality by cells.
+-- Laws of the cell of two labels, of sizes, and of orthogonality by cells.
 -- Assumes nothing.
 use mathlib.Core.Path.{_≡_, refl, sym, ap, ap₂, _∙_}
 use mathlib.Core.Bool.{Bool, true, false, _&&_, true≢false, and-false}
 use mathlib.Core.List.{List}
 use Prim.Native.Nat.{ℕ, zero, suc, _+_, _*_, _≤_, _<_, zero-le}
 use native.Mathlib.Nat.{le-refl, mul-le-mul-left, mul-suc, mul-comm}
-use native.Mathlib.Numerals.{add-one}
 use native.Mathlib.Omega.{arith}
 use lib.Dec.{eqb, ltb}
-use lib.ListN.{length, set, replicate, length-set}
-use lib.Seq.{getD-set-same, getD-set-other, take-all}
+use lib.ListN.{length, set}
+use lib.Seq.{getD-set-same, getD-set-other}
 use borrow.Author.Tests.{eqb-true, eqb-false, eq-eqb, ne-eqb, ltb-true, ltb-false, lt-ltb, le-ltb}
 use Rattle.rules.specs.Factor.{Column, at, every, count, classSize, overlap, infimum, supremum, orthogonal}
 use Rattle.rules.proofs.Numbering.{by-cases}
 use Rattle.rules.proofs.Tests.{every-at, every-all, count-yes, count-no, count-none, count-same, size-equivalent}
-use Rattle.rules.proofs.Walks.{bool-false, count-le}
+use Rattle.rules.proofs.Walks.{count-le}
 use Rattle.rules.proofs.Orthogonality.{same-test, overlap-infimum, orthogonal-test-plots}
-use Rattle.factor.specs.Lent.{plotsOf}
-use Rattle.factor.specs.Sizes.{labelled, sizes}
+use Rattle.factor.specs.Sizes.{labelled}
 use Rattle.standing.specs.Joining.{Below, OneClass, EntriesJoin, spread}
-use Rattle.standing.specs.Cells.{labelledBoth, CellsInside, CellSizes, LabelSizes, EntrySizes, Stands, evenCells}
-use Rattle.factor.proofs.SizeTable.{sizes-at}
-use Rattle.factor.proofs.Table.{getD-zeros}
+use Rattle.standing.specs.Cells.{labelledBoth, CellsInside, CellSizes, LabelSizes, EntrySizes, Stands, cellSize, evenCells}
 use Rattle.standing.proofs.Joining.{joins-supremum, spread-at}
 
 -- ---- the cell of two labels
@@ -44,6 +40,12 @@ cell-unique w x y a b hy hb e =
     let s : w * x ≡ w * a = ap (λ (z : ℕ). w * z) q in
     (q, omega arith)))
 
+-- cells of labels below a and w
+pub inside-below : (a w n : ℕ) (F G : Column) → length G ≡ length F → Below a F → Below w G → a * w ≤ n → CellsInside w n F G
+inside-below a w n F G l bf bg h u hu =
+    let hg : at G u < w = bg u (rw l hu) in
+    (hg, omega (arith, cell-below w a (at F u) (at G u) (bf u hu) hg, mul-comm a w))
+
 -- ---- counting
 
 pub and-both : (a b : Bool) → a && b ≡ true → (a ≡ true) × (b ≡ true)
@@ -53,44 +55,6 @@ and-both false b e = absurd (true≢false (sym e))
 pub both-and : (a b : Bool) → a ≡ true → b ≡ true → a && b ≡ true
 both-and true b d e = e
 both-and false b d e = d
-
--- no more plots than there are
-pub cell-le : (u : ℕ) (F G : Column) (x y : ℕ) → labelledBoth u F G x y ≤ u
-unfolding labelledBoth
-cell-le u F G x y = count-le u _
-
-module _ (n w u : ℕ) (F G : Column) (cells : List ℕ) (long : length cells ≡ n) (below : at G u < w) (h : w * at F u + at G u < n) where
-  abbrev here : ℕ
-  here = w * at F u + at G u
-
-  -- one plot more in the table of cells
-  cell-step : ((x y : ℕ) → y < w → w * x + y < n → at cells (w * x + y) ≡ labelledBoth u F G x y)
-      → (x y : ℕ) → y < w → w * x + y < n → at (set cells here (at cells here + 1)) (w * x + y) ≡ labelledBoth (u + 1) F G x y
-  unfolding labelledBoth
-  cell-step counts x y hy hx =
-      by-cases (eqb (w * x + y) here)
-      (λ e. let q : w * x + y ≡ here = eqb-true (w * x + y) here e in
-      let s = cell-unique w x y (at F u) (at G u) hy below q in
-      ap (at (set cells here (at cells here + 1))) q ∙ getD-set-same cells here (at cells here + 1) 0 (omega arith)
-      ∙ ap (λ (k : ℕ). k + 1) (ap (at cells) (sym q) ∙ counts x y hy hx) ∙ add-one (labelledBoth u F G x y)
-      ∙ sym (ap (λ (k : ℕ). labelledBoth k F G x y) (add-one u) ∙ count-yes u (λ v. eqb x (at F v) && eqb y (at G v)) (both-and _ _ (eq-eqb x (at F u) (s .0)) (eq-eqb y (at G u) (s .1)))))
-      (λ e. getD-set-other cells here (w * x + y) (at cells here + 1) 0 (eqb-false (w * x + y) here e) ∙ counts x y hy hx
-      ∙ sym (ap (λ (k : ℕ). labelledBoth k F G x y) (add-one u) ∙ count-no u (λ v. eqb x (at F v) && eqb y (at G v))
-      (bool-false _ (λ s. let b = and-both (eqb x (at F u)) (eqb y (at G u)) s in eqb-false (w * x + y) here e (ap₂ (λ (i j : ℕ). w * i + j) (eqb-true x (at F u) (b .0)) (eqb-true y (at G u) (b .1)))))))
-
-  pub cells-step : CellSizes n w u F G cells → CellSizes n w (u + 1) F G (set cells here (at cells here + 1))
-  cells-step t = record { cells-room = length-set cells here (at cells here + 1) ∙ long; cell = cell-step (t .cell) }
-
--- no plot yet
-pub cells-none : (n w : ℕ) (F G : Column) (cells : List ℕ) → length cells ≡ n → cells ≡ replicate n 0 → CellSizes n w 0 F G cells
-unfolding labelledBoth count
-cells-none n w F G cells l e = record { cells-room = l; cell = λ x y hy hx. ap (λ (t : List ℕ). at t (w * x + y)) e ∙ getD-zeros n (w * x + y) }
-
--- cells of labels below a and w
-pub inside-below : (a w n : ℕ) (F G : Column) → length G ≡ length F → Below a F → Below w G → a * w ≤ n → CellsInside w n F G
-inside-below a w n F G l bf bg h u hu =
-    let hg : at G u < w = bg u (rw l hu) in
-    (hg, omega (arith, cell-below w a (at F u) (at G u) (bf u hu) hg, mul-comm a w))
 
 -- ---- sizes of entries
 
@@ -186,38 +150,30 @@ module _ (t : List ℕ) (F : Column) where
 
 -- ---- orthogonality by cells
 
-module _ (n w : ℕ) (F G : Column) (l : length G ≡ length F) (inside : CellsInside w n F G) (bytesF : Below 256 F) (bytesG : Below 256 G)
-    (cells : List ℕ) (counted : CellSizes n w (length F) F G cells) (inF inG : List ℕ) (sizesF : LabelSizes F inF) (sizesG : LabelSizes G inG) (X Y : Column) (listed : Stands F G X Y)
-    (t inK : List ℕ) (joins : EntriesJoin X Y t) (sizes : EntrySizes t F inK) where
+module _ (F G : Column) (l : length G ≡ length F) (bytesF : Below 256 F) (bytesG : Below 256 G) (X Y : Column) (listed : Stands F G X Y)
+    (t : List ℕ) (joins : EntriesJoin X Y t) (inI inK inF inG : List ℕ) (sizesI : CellSizes F G X Y inI) (sizesK : EntrySizes t F inK) (sizesF : LabelSizes F inF) (sizesG : LabelSizes G inG) where
   abbrev evenAt : ℕ → Bool
-  evenAt i = eqb (at cells (w * at X i + at Y i) * at inK (at t (at X i))) (at inF (at X i) * at inG (at Y i))
+  evenAt i = eqb (cellSize inI i * at inK (at t (at X i))) (at inF (at X i) * at inG (at Y i))
 
   abbrev evenPlot : ℕ → Bool
   evenPlot u = eqb (classSize (length F) (infimum F G) u * classSize (length F) (supremum F G) u) (classSize (length F) F u * classSize (length F) G u)
 
   -- a cell is tested as each of its plots
-  same-even : (u i : ℕ) → u < length F → at F u ≡ at X i → at G u ≡ at Y i → evenAt i ≡ evenPlot u
+  same-even : (u i : ℕ) → u < length F → i < length X → at F u ≡ at X i → at G u ≡ at Y i → evenAt i ≡ evenPlot u
   unfolding labelledBoth labelled classSize overlap
-  same-even u i hu ex ey =
-      ap₂ (λ (x y : ℕ). eqb (at cells (w * x + y) * at inK (at t x)) (at inF x * at inG y)) (sym ex) (sym ey)
-      ∙ ap₂ eqb
+  same-even u i hu hi ex ey =
+      ap₂ eqb
       (ap₂ _*_
-      (counted .cell (at F u) (at G u) (inside u hu .0) (inside u hu .1) ∙ overlap-infimum (length F) F G refl l u hu)
-      (sizes u hu ∙ size-equivalent (joins-supremum F G l X Y t listed joins) u hu))
-      (ap₂ _*_ (sizesF (at F u) (bytesF u hu)) (sizesG (at G u) (bytesG u (rw l hu)) ∙ ap (λ (k : ℕ). labelled k G (at G u)) l))
+      (sizesI i hi ∙ ap₂ (labelledBoth (length F) F G) (sym ex) (sym ey) ∙ overlap-infimum (length F) F G refl l u hu)
+      (ap (λ (x : ℕ). at inK (at t x)) (sym ex) ∙ sizesK u hu ∙ size-equivalent (joins-supremum F G l X Y t listed joins) u hu))
+      (ap₂ _*_
+      (ap (at inF) (sym ex) ∙ sizesF (at F u) (bytesF u hu))
+      (ap (at inG) (sym ey) ∙ sizesG (at G u) (bytesG u (rw l hu)) ∙ ap (λ (k : ℕ). labelled k G (at G u)) l))
 
-  pub cells-orthogonal : evenCells w cells t inK inF inG X Y ≡ orthogonal (length F) F G
+  pub cells-orthogonal : evenCells inI t inK inF inG X Y ≡ orthogonal (length F) F G
   unfolding evenCells
   cells-orthogonal =
       same-test (every (length X) evenAt) (every (length F) evenPlot)
-      (λ e. every-all (length F) evenPlot (λ u hu. let p = listed .place u hu in sym (same-even u (p .plot) hu (sym (p .first)) (sym (p .second))) ∙ every-at (length X) evenAt e (p .plot) (p .less)))
-      (λ e. every-all (length X) evenAt (λ i hi. let p = listed .plot i hi in same-even (p .plot) i (p .less) (p .first) (p .second) ∙ every-at (length F) evenPlot e (p .plot) (p .less)))
+      (λ e. every-all (length F) evenPlot (λ u hu. let p = listed .place u hu in sym (same-even u (p .plot) hu (p .less) (sym (p .first)) (sym (p .second))) ∙ every-at (length X) evenAt e (p .plot) (p .less)))
+      (λ e. every-all (length X) evenAt (λ i hi. let p = listed .plot i hi in same-even (p .plot) i (p .less) hi (p .first) (p .second) ∙ every-at (length F) evenPlot e (p .plot) (p .less)))
       ∙ sym (orthogonal-test-plots (length F) F G refl l)
-
--- ---- sizes by plot
-
--- the size of a plot's class, read from the table of a column of at most 240 plots
-pub plot-size : (n : ℕ) (X H : Column) {t : List ℕ} → X ≡ H → length H ≡ n → n ≤ 240 → t ≡ sizes (plotsOf X) → (u : ℕ) → at X u < 256 → at t (at X u) ≡ classSize n H u
-plot-size n X H x l h e u byte =
-    let long : length X ≡ n = ap length x ∙ l in
-    sizes-at X (e ∙ ap sizes (take-all 240 X (omega arith))) u byte ∙ ap₂ (λ (k : ℕ) (Y : Column). classSize k Y u) long x

@@ -7,7 +7,7 @@ use Prim.Native.Nat.{ℕ, zero, suc, _+_, _*_, _≤_, _<_}
 use lib.Dec.{eqb}
 use lib.ListN.{length, take, replicate}
 use Rattle.rules.specs.Limits.{mostPlots}
-use Rattle.rules.specs.Factor.{Column, at, every, count, classSize, infimum, supremum}
+use Rattle.rules.specs.Factor.{Column, at, every, count, classes, classSize, infimum}
 use Rattle.factor.specs.Sizes.{labelled}
 use Rattle.standing.specs.Joining.{Below, InOrder, OneClass, spread}
 
@@ -27,23 +27,21 @@ pub record Plot (n : ℕ) (F G : Column) (x y : ℕ) : Type 0 where
 abbrev pub CellsInside : ℕ → ℕ → Column → Column → Type 0
 CellsInside w n F G = (u : ℕ) → u < length F → (at G u < w) × (w * at F u + at G u < n)
 
--- of the first u plots, how many are in each of n cells
-pub record CellSizes (n w u : ℕ) (F G : Column) (cells : List ℕ) : Type 0 where
-  pub cells-room : length cells ≡ n
-  pub cell : (x y : ℕ) → y < w → w * x + y < n → at cells (w * x + y) ≡ labelledBoth u F G x y
+-- one of the first u plots is in the cell listed at place i, which is the class i + 1 of the infimum
+pub record Cell (u : ℕ) (F G X Y : Column) (i : ℕ) : Type 0 where
+  pub plot : ℕ
+  pub less : plot < u
+  pub first : at F plot ≡ at X i
+  pub second : at G plot ≡ at Y i
+  pub number : at (infimum F G) plot ≡ suc i
 
--- no two of the first m cells have the same labels
-abbrev pub Once : ℕ → Column → Column → Type 0
-Once m X Y = (i j : ℕ) → i < m → j < m → at X i ≡ at X j → at Y i ≡ at Y j → i ≡ j
-
--- X and Y have room for 240 labels; the first m are those of the cells of the first u plots, once each, by first appearance
+-- X and Y have room for 240 labels; the first m are those of the cells of the first u plots, by first appearance
 pub record Cover (u : ℕ) (F G X Y : Column) (m : ℕ) : Type 0 where
   pub x-room : length X ≡ mostPlots
   pub y-room : length Y ≡ mostPlots
   pub few : m ≤ u
-  pub plot : (i : ℕ) → i < m → Plot u F G (at X i) (at Y i)
-  pub place : (p : ℕ) → p < u → Plot m X Y (at F p) (at G p)
-  pub once : Once m X Y
+  pub total : m ≡ classes (take u (infimum F G))
+  pub cell : (i : ℕ) → i < m → Cell u F G X Y i
   pub order : InOrder (take u F) (take m X)
 
 -- the labels X and Y are those of plots of F and G, and each plot has its labels there
@@ -56,7 +54,7 @@ pub record Listed (F G X Y : Column) : Type 0 where
   pub few : length X ≤ length F
   pub even : length Y ≡ length X
   pub stands : Stands F G X Y
-  pub once : Once (length X) X Y
+  pub once : (i j : ℕ) → i < length X → j < length X → at X i ≡ at X j → at Y i ≡ at Y j → i ≡ j
   pub order : InOrder F X
 
 -- t has for each label how many plots have it
@@ -67,15 +65,19 @@ LabelSizes F t = (x : ℕ) → x < 256 → at t x ≡ labelled (length F) F x
 abbrev pub EntrySizes : List ℕ → Column → List ℕ → Type 0
 EntrySizes t F r = (u : ℕ) → u < length F → at r (at t (at F u)) ≡ classSize (length F) (spread t F) u
 
--- for each listed cell the sizes of the cell and of its entry make the product that those of its labels make
-unfoldable pub evenCells : ℕ → List ℕ → List ℕ → List ℕ → List ℕ → List ℕ → Column → Column → Bool
-unfolding every
-evenCells w cells t inK inF inG X Y =
-    every (length X) (λ i. eqb (at cells (w * at X i + at Y i) * at inK (at t (at X i))) (at inF (at X i) * at inG (at Y i)))
+-- the size of the cell listed at place i
+abbrev pub cellSize : List ℕ → ℕ → ℕ
+cellSize sizes i = at sizes (i + 1)
 
--- the plots of the cell with the i-th labels of X and Y
-abbrev pub cellSize : ℕ → List ℕ → Column → Column → ℕ → ℕ
-cellSize w cells X Y i = at cells (w * at X i + at Y i)
+-- it is how many plots have the i-th labels of X and Y
+abbrev pub CellSizes : Column → Column → Column → Column → List ℕ → Type 0
+CellSizes F G X Y sizes = (i : ℕ) → i < length X → cellSize sizes i ≡ labelledBoth (length F) F G (at X i) (at Y i)
+
+-- for each listed cell the sizes of the cell and of its entry make the product that those of its labels make
+unfoldable pub evenCells : List ℕ → List ℕ → List ℕ → List ℕ → List ℕ → Column → Column → Bool
+unfolding every
+evenCells sizes t inK inF inG X Y =
+    every (length X) (λ i. eqb (cellSize sizes i * at inK (at t (at X i))) (at inF (at X i) * at inG (at Y i)))
 
 -- the sum of t over those of the first i places where H has the label x
 unfoldable pub sumAt : (ℕ → ℕ) → Column → ℕ → ℕ → ℕ
@@ -88,24 +90,6 @@ sumAt t H (suc i) x = sumAt t H i x + elim (eqb x (at H i)) [ true ↦ t i | fal
 abbrev pub InRanges : ℕ → ℕ → Column → Column → Type 0
 InRanges a w F G = (length F ≤ mostPlots) × (length G ≡ length F) × (a ≤ 256) × (w ≤ 256) × Below a F × Below w G
 
--- the same, with a table of zeros that has room for the cells
-abbrev pub CellRoom : ℕ → ℕ → Column → Column → List ℕ → Type 0
-CellRoom a w F G cells =
-    (length F ≤ mostPlots) × (length G ≡ length F) × (a ≤ 256) × (w ≤ 256) × Below a F × Below w G × (a * w ≤ length cells) × (length cells ≤ 65536)
-    × (cells ≡ replicate (length cells) 0)
-
--- the same, with the plots of each cell and the labels of the cells that have a plot
-abbrev pub CellsListed : ℕ → ℕ → Column → Column → List ℕ → Column → Column → Type 0
-CellsListed a w F G cells X Y =
-    (length F ≤ mostPlots) × (length G ≡ length F) × (a ≤ 256) × (w ≤ 256) × Below a F × Below w G × (length cells ≤ 65536) × CellsInside w (length cells) F G
-    × CellSizes (length cells) w (length F) F G cells × Listed F G X Y
-
--- no plot is counted yet, and no cell listed
-abbrev pub Uncounted : ℕ → Column → Column → List ℕ → Column → Column → Type 0
-Uncounted w F G cells X Y =
-    (length F ≤ mostPlots) × (length G ≡ length F) × (length cells ≤ 65536) × CellsInside w (length cells) F G × CellSizes (length cells) w 0 F G cells
-    × Cover 0 F G X Y 0
-
 -- no cell is numbered yet, and none listed
 abbrev pub Unnumbered : ℕ → Column → Column → List ℕ → Column → Column → Type 0
 Unnumbered w F G numbers X Y =
@@ -116,28 +100,27 @@ Unnumbered w F G numbers X Y =
 abbrev pub Unlisted : Column → Column → List ℕ → Column → Column → Type 0
 Unlisted F G below X Y = (length F ≤ mostPlots) × (length G ≡ length F) × (take (length F) below ≡ infimum F G) × Cover 0 F G X Y 0
 
--- the sums of the sizes of the cells that have the label z in H
-abbrev pub labelSum : ℕ → List ℕ → Column → Column → Column → ℕ → ℕ
-labelSum w cells X Y H z = sumAt (cellSize w cells X Y) H (length X) z
+-- the sum of the sizes of the cells that have the label z in H
+abbrev pub labelSum : List ℕ → Column → ℕ → ℕ
+labelSum sizes H z = sumAt (cellSize sizes) H (length H) z
 
 -- the listed cells, two tables of zeros, and sums that a byte holds
-abbrev pub Unsummed : ℕ → List ℕ → Column → Column → List ℕ → List ℕ → Type 0
-Unsummed w cells X Y inF inG =
-    (length Y ≡ length X) × (length cells ≤ 65536) × CellsInside w (length cells) X Y × (inF ≡ replicate 256 0) × (inG ≡ replicate 256 0)
-    × ((z : ℕ) → labelSum w cells X Y X z ≤ mostPlots) × ((z : ℕ) → labelSum w cells X Y Y z ≤ mostPlots)
+abbrev pub Unsummed : List ℕ → Column → Column → List ℕ → List ℕ → Type 0
+Unsummed sizes X Y inF inG =
+    (length X ≤ mostPlots) × (length Y ≡ length X) × (inF ≡ replicate 256 0) × (inG ≡ replicate 256 0) × ((z : ℕ) → labelSum sizes X z ≤ mostPlots)
+    × ((z : ℕ) → labelSum sizes Y z ≤ mostPlots)
 
--- the table has at each label what the cells that have it sum up to
-abbrev pub Summed : ℕ → List ℕ → Column → Column → Column → List ℕ → Type 0
-Summed w cells X Y H sums = (z : ℕ) → z < 256 → at sums z ≡ labelSum w cells X Y H z
+-- the table has at each label what the sizes of the cells that have it sum up to
+abbrev pub Summed : List ℕ → Column → List ℕ → Type 0
+Summed sizes H sums = (z : ℕ) → z < 256 → at sums z ≡ labelSum sizes H z
 
 -- entries of labels, and the plots of each label
 abbrev pub EntriesAsked : List ℕ → Column → List ℕ → ℕ → Bool → Type 0
 EntriesAsked t F inF top one = (length t ≡ 256) × (length F ≤ mostPlots) × (top ≤ 256) × Below top F × LabelSizes F inF × (one ≡ true → OneClass t F)
 
 -- entries of labels, and the listed cells
-abbrev pub CellsJudged : ℕ → List ℕ → List ℕ → Column → Column → Type 0
-CellsJudged w cells t X Y =
-    (length t ≡ 256) × (length X ≤ mostPlots) × (length Y ≡ length X) × (w ≤ 256) × (length cells ≤ 65536) × CellsInside w (length cells) X Y
+abbrev pub CellsJudged : List ℕ → Column → Column → Type 0
+CellsJudged t X Y = (length t ≡ 256) × (length X ≤ mostPlots) × (length Y ≡ length X)
 
 -- two columns of one length, the labels of G below w, and no cell listed yet
 abbrev pub Uncovered : ℕ → Column → Column → Column → Column → Type 0
@@ -147,6 +130,6 @@ Uncovered w F G X Y = (length F ≤ mostPlots) × (length G ≡ length F) × (w 
 abbrev pub LabelsListed : ℕ → Column → Column → Column → Column → Type 0
 LabelsListed a F G X Y = (length F ≤ mostPlots) × (length G ≡ length F) × (a ≤ 256) × Below a F × Listed F G X Y
 
--- two columns of one length with their infimum and supremum
-abbrev pub WithBounds : Column → Column → Column → Column → Type 0
-WithBounds F G below above = (length F ≤ mostPlots) × (length G ≡ length F) × (below ≡ infimum F G) × (above ≡ supremum F G)
+-- the same, the labels of G bytes, with the sizes of the cells
+abbrev pub CellsListed : ℕ → Column → Column → List ℕ → Column → Column → Type 0
+CellsListed a F G sizes X Y = LabelsListed a F G X Y × Below 256 G × CellSizes F G X Y sizes

@@ -2,7 +2,7 @@
 -- Assumes nothing.
 use mathlib.Core.Path.{_≡_, refl, ap, _∙_}
 use mathlib.Core.List.{List}
-use Prim.Native.Nat.{ℕ, _+_, _*_, _-_, _≤_, _<_}
+use Prim.Native.Nat.{ℕ, _+_, _-_, _≤_, _<_}
 use native.Mathlib.Omega.{arith}
 use denote.Ref.{now}
 use lib.ListN.{length, length-set}
@@ -17,16 +17,16 @@ abbrev Sums : (ℕ → ℕ) → Column → ℕ → List ℕ → Type 0
 Sums t H i sums = (length sums ≡ 256) × ((z : ℕ) → z < 256 → at sums z ≡ sumAt t H i z)
 
 abbrev Inv-loop : tie.InvT-loop
-Inv-loop w in-cells cell-f cell-g in-f₀ in-g₀ i₀ i-end in-f in-g i =
-    (i ≤ length cell-f) × (i-end ≡ length cell-f) × Sums (cellSize w in-cells cell-f cell-g) cell-f i in-f × Sums (cellSize w in-cells cell-f cell-g) cell-g i in-g
+Inv-loop sizes cell-f cell-g in-f₀ in-g₀ i₀ i-end in-f in-g i =
+    (i ≤ length cell-f) × (i-end ≡ length cell-f) × Sums (cellSize sizes) cell-f i in-f × Sums (cellSize sizes) cell-g i in-g
 
 abbrev μ-loop : tie.MeasureT-loop
-μ-loop w in-cells cell-f cell-g in-f₀ in-g₀ i₀ i-end in-f in-g i = length cell-f - i
+μ-loop sizes cell-f cell-g in-f₀ in-g₀ i₀ i-end in-f in-g i = length cell-f - i
 
 loop-holds : tie.Need-loop-holds Inv-loop μ-loop
 unfolding sumAt
 loop-holds c =
-    (omega arith, refl, (ap length (c .pre .3), λ z h. ap (λ (l : List ℕ). at l z) (c .pre .3) ∙ getD-zeros 256 z), (ap length (c .pre .4), λ z h. ap (λ (l : List ℕ). at l z) (c .pre .4) ∙ getD-zeros 256 z))
+    (omega arith, refl, (ap length (c .pre .2), λ z h. ap (λ (l : List ℕ). at l z) (c .pre .2) ∙ getD-zeros 256 z), (ap length (c .pre .3), λ z h. ap (λ (l : List ℕ). at l z) (c .pre .3) ∙ getD-zeros 256 z))
 
 shared-slice-read-x : tie.Need-shared-slice-read-x Inv-loop μ-loop
 shared-slice-read-x c = omega arith
@@ -40,20 +40,13 @@ shared-slice-read-y c = omega arith
 cast-y : tie.Need-cast-y Inv-loop μ-loop
 cast-y c = omega (arith, c .shared-slice-known2 .given (c .before .before .before .loop .i))
 
-mul-size : tie.Need-mul-size Inv-loop μ-loop
-mul-size c =
-    let b = c .before .before .before in
-    omega (arith, b .before .pre .1, b .before .pre .2 (b .loop .i) (omega arith) .1)
-
 add-size : tie.Need-add-size Inv-loop μ-loop
-add-size c =
-    let b = c .before .before .before in
-    omega (arith, b .before .pre .1, b .before .pre .2 (b .loop .i) (omega arith) .1)
+add-size c = omega arith
 
 -- what is known in a turn
-module _ (c : tie.After-shared-slice-known3 Inv-loop μ-loop) where
+module _ (c : tie.After-shared-slice-known2 Inv-loop μ-loop) where
   abbrev head : tie.At-loop Inv-loop μ-loop
-  head = c .before .before .before .before
+  head = c .before .before .before
 
   abbrev start : tie.Start Inv-loop μ-loop
   start = head .before
@@ -68,41 +61,38 @@ module _ (c : tie.After-shared-slice-known3 Inv-loop μ-loop) where
   Y = now (start .args .cell-g)
 
   abbrev size : ℕ → ℕ
-  size = cellSize (start .args .w) (now (start .args .in-cells)) X Y
+  size = cellSize (now (start .args .sizes))
 
   byte-x : at X i < 256
-  byte-x = omega (arith, c .before .before .shared-slice-known .given i)
+  byte-x = omega (arith, c .before .shared-slice-known .given i)
 
   byte-y : at Y i < 256
-  byte-y = omega (arith, c .before .shared-slice-known2 .given i)
+  byte-y = omega (arith, c .shared-slice-known2 .given i)
 
-  inside : start .args .w * at X i + at Y i < length (now (start .args .in-cells))
-  inside = start .pre .2 i (omega arith) .1
-
-shared-slice-read-size : tie.Need-shared-slice-read-size Inv-loop μ-loop
-shared-slice-read-size c = inside c
+element-copy-out-size : tie.Need-element-copy-out-size Inv-loop μ-loop
+element-copy-out-size c = omega arith
 
 element-copy-out-in-f : tie.Need-element-copy-out-in-f Inv-loop μ-loop
-element-copy-out-in-f c = byte-x c
+element-copy-out-in-f c = byte-x (c .before)
 
 add-in-f : tie.Need-add-in-f Inv-loop μ-loop
 add-in-f c =
-    let k = c .before in
-    omega (arith, head k .loop .inv .2 .1 (at (X k) (i k)) (byte-x k), sum-next (size k) (X k) (i k), sum-le (size k) (X k) (at (X k) (i k)) (i k + 1) (length (X k)) (omega arith), start k .pre .5 (at (X k) (i k)))
+    let k = c .before .before in
+    omega (arith, head k .loop .inv .2 .1 (at (X k) (i k)) (byte-x k), sum-next (size k) (X k) (i k), sum-le (size k) (X k) (at (X k) (i k)) (i k + 1) (length (X k)) (omega arith), start k .pre .4 (at (X k) (i k)))
 
 element-write-in-f : tie.Need-element-write-in-f Inv-loop μ-loop
-element-write-in-f c = byte-x (c .before)
+element-write-in-f c = byte-x (c .before .before)
 
 element-copy-out-in-g : tie.Need-element-copy-out-in-g Inv-loop μ-loop
-element-copy-out-in-g c = byte-y (c .before)
+element-copy-out-in-g c = byte-y (c .before .before)
 
 add-in-g : tie.Need-add-in-g Inv-loop μ-loop
 add-in-g c =
-    let k = c .before .before in
-    omega (arith, head k .loop .inv .3 .1 (at (Y k) (i k)) (byte-y k), sum-next (size k) (Y k) (i k), sum-le (size k) (Y k) (at (Y k) (i k)) (i k + 1) (length (X k)) (omega arith), start k .pre .6 (at (Y k) (i k)))
+    let k = c .before .before .before in
+    omega (arith, head k .loop .inv .3 .1 (at (Y k) (i k)) (byte-y k), sum-next (size k) (Y k) (i k), sum-le (size k) (Y k) (at (Y k) (i k)) (i k + 1) (length (Y k)) (omega arith), start k .pre .5 (at (Y k) (i k)))
 
 element-write-in-g : tie.Need-element-write-in-g Inv-loop μ-loop
-element-write-in-g c = byte-y (c .before .before)
+element-write-in-g c = byte-y (c .before .before .before)
 
 add-i : tie.Need-add-i Inv-loop μ-loop
 add-i c = omega arith
@@ -112,7 +102,7 @@ loop-less c = omega arith
 
 loop-again : tie.Need-loop-again Inv-loop μ-loop
 loop-again c =
-    let k = c .before .before in
+    let k = c .before .before .before in
     let a = head k .loop .inv .2 in
     let b = head k .loop .inv .3 in
     (omega arith, refl, (simp length-set (a .0), sum-step (size k) (X k) (i k) (head k .loop .in-f) (a .0) (byte-x k) (a .1)), (simp length-set (b .0), sum-step (size k) (Y k) (i k) (head k .loop .in-g) (b .0) (byte-y k) (b .1)))
@@ -121,7 +111,8 @@ returns : tie.Need-returns Inv-loop μ-loop
 returns c =
     let b = c .before in
     let e : length (now (b .before .args .cell-f)) ≡ b .loop .i = omega arith in
-    (λ z h. rw e (b .loop .inv .2 .1 z h), λ z h. rw e (b .loop .inv .3 .1 z h))
+    let f : length (now (b .before .args .cell-g)) ≡ b .loop .i = omega arith in
+    (λ z h. rw e (b .loop .inv .2 .1 z h), λ z h. rw f (b .loop .inv .3 .1 z h))
 
 pub sum-cells-spec : {M : Type 1} → statement M
 sum-cells-spec =
@@ -134,9 +125,8 @@ sum-cells-spec =
     cast-x
     shared-slice-read-y
     cast-y
-    mul-size
     add-size
-    shared-slice-read-size
+    element-copy-out-size
     element-copy-out-in-f
     add-in-f
     element-write-in-f

@@ -1,6 +1,6 @@
 -- `compare` meets its contract: the case is the first that fits.
 -- Assumes nothing.
-use mathlib.Core.Path.{_≡_, sym, ap, _∙_}
+use mathlib.Core.Path.{_≡_, sym, _∙_}
 use mathlib.Core.Bool.{Bool, true, false}
 use denote.Ref.{now}
 use borrow.Author.Needs.{needs}

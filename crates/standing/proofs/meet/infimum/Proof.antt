@@ -7,6 +7,7 @@ use denote.Ref.{now}
 use lib.ListN.{length, take, length-take}
 use Rattle.rules.specs.Factor.{Column, classes, infimum}
 use Rattle.factor.specs.Lent.{onCommon, overlay}
+use Rattle.standing.proofs.Listing.{cover-none}
 use borrow.Author.Needs.{needs}
 use Rattle.standing.proofs.meet.infimum.Statement.{statement}
 use Rattle.standing.proofs.meet.infimum.Tie as tie
@@ -55,25 +56,25 @@ slice-aggregate-past-labels-2 c = long-g (c .before .before .before)
 past-labels-requires-2 : tie.Need-past-labels-requires-2
 past-labels-requires-2 c κs = search needs
 
-slice-aggregate-infimum-whole : tie.Need-slice-aggregate-infimum-whole
-slice-aggregate-infimum-whole c = long-f (c .before .before .before .before .before)
+slice-aggregate-infimum-listed : tie.Need-slice-aggregate-infimum-listed
+slice-aggregate-infimum-listed c = long-f (c .before .before .before .before .before)
 
-slice-aggregate-infimum-whole-2 : tie.Need-slice-aggregate-infimum-whole-2
-slice-aggregate-infimum-whole-2 c = long-g (c .before .before .before .before .before .before)
+slice-aggregate-infimum-listed-2 : tie.Need-slice-aggregate-infimum-listed-2
+slice-aggregate-infimum-listed-2 c = long-g (c .before .before .before .before .before .before)
 
-infimum-whole-requires : tie.Need-infimum-whole-requires
-infimum-whole-requires c κs =
-    let k = c .before .before .before .before .before .before .before in
-    let p = c .before .before .before .past-labels2 .ensures in
-    let q = c .before .before .before .before .before .past-labels .ensures in
-    (subst (λ (m : ℕ). m ≤ 240) (long-f k) (few k), sym (long-g k) ∙ long-f k, q .1, p .1, q .2, p .2)
+infimum-listed-requires : tie.Need-infimum-listed-requires
+infimum-listed-requires c κs =
+    let k = c .before .before .before .before .before .before .before .before .before in
+    let p = c .before .before .before .before .before .past-labels2 .ensures in
+    let q = c .before .before .before .before .before .before .before .past-labels .ensures in
+    ((subst (λ (m : ℕ). m ≤ 240) (long-f k) (few k), sym (long-g k) ∙ long-f k, q .1, p .1, q .2, p .2), cover-none (f k) (g k))
 
 returns : tie.Need-returns
 returns c =
-    let k = c .before .before .before .before .before .before .before .before in
+    let k = c .before .before .before .before .before .before .before .before .before .before in
     let s = k .before .before .before .args in
-    let r = c .infimum-whole .ensures in
-    (r .0 ∙ ap classes (whole k), r .1 ∙ ap (overlay (now (s .out))) (whole k))
+    let r = c .infimum-listed .ensures in
+    (r .0 ∙ ap classes (whole k), r .1 .1 ∙ ap (overlay (now (s .out))) (whole k))
 
 pub infimum-spec : {M : Type 1} → statement M
 infimum-spec =
@@ -84,7 +85,7 @@ infimum-spec =
     past-labels-requires
     slice-aggregate-past-labels-2
     past-labels-requires-2
-    slice-aggregate-infimum-whole
-    slice-aggregate-infimum-whole-2
-    infimum-whole-requires
+    slice-aggregate-infimum-listed
+    slice-aggregate-infimum-listed-2
+    infimum-listed-requires
     returns)

@@ -145,8 +145,8 @@ listed c =
     let below : (v : ℕ) → v < length (f k) → at (g k) v < w k = λ v h. s .pre .3 v h .0 in
     let h : u k < length (f k) = omega arith in
     ⊎-elim
-    (λ v. rw (v .2, v .3, v .4) (cover-new (u k) (f k) (g k) (b .loop .cell-f) (b .loop .cell-g) (b .loop .k) (cover k) h (code-new (w k) (f k) (g k) l below (u k) h (λ y. getD (b .loop .numbers) y 0) (b .loop .inv .6) (v .0 .taken)) (omega (arith, few k, cover k .few))))
-    (λ v. rw (v .2, v .3, v .4) (cover-old (u k) (f k) (g k) (b .loop .cell-f) (b .loop .cell-g) (b .loop .k) (cover k) h (code-old (w k) (f k) (g k) l below (u k) h (λ y. getD (b .loop .numbers) y 0) (b .loop .inv .6) (v .0 .left))))
+    (λ v. rw (v .2, v .3, v .4) (cover-new (u k) (f k) (g k) (b .loop .cell-f) (b .loop .cell-g) (b .loop .k) (cover k) l h (code-new (w k) (f k) (g k) l below (u k) h (λ y. getD (b .loop .numbers) y 0) (b .loop .inv .6) (v .0 .taken)) (omega (arith, few k, cover k .few))))
+    (λ v. rw (v .2, v .3, v .4) (cover-old (u k) (f k) (g k) (b .loop .cell-f) (b .loop .cell-g) (b .loop .k) (cover k) l h (code-old (w k) (f k) (g k) l below (u k) h (λ y. getD (b .loop .numbers) y 0) (b .loop .inv .6) (v .0 .left))))
     (c .if1 .came)
 
 slice-read-room : tie.Need-slice-read-room Inv-loop μ-loop

@@ -1,31 +1,32 @@
--- `crossing_cells` meets its contract: the cells are counted and listed.
+-- `crossing_cells` meets its contract: the cells are listed, and the sizes of the infimum's classes are theirs.
 -- Assumes nothing.
-use mathlib.Core.Path.{refl, sym}
+use mathlib.Core.Path.{_≡_, sym, ap, _∙_}
 use mathlib.Core.List.{List}
 use Prim.Native.Nat.{ℕ, _≤_}
 use native.Mathlib.Omega.{arith}
 use denote.Ref.{now}
-use lib.ListN.{length}
+use lib.ListN.{length, take, replicate, length-take}
 use lib.Seq.{length-take-le}
-use Rattle.rules.specs.Factor.{Column}
-use Rattle.standing.proofs.CellTable.{cells-none, inside-below}
-use Rattle.standing.proofs.Listing.{cover-none, cover-listed}
+use Rattle.rules.specs.Factor.{Column, infimum}
+use Rattle.rules.proofs.Numbering.{length-infimum}
+use Rattle.factor.specs.Lent.{plotsOf}
+use Rattle.factor.specs.Sizes.{sizes}
+use Rattle.factor.proofs.Lent.{take-overlay}
+use Rattle.standing.specs.Cells.{Cover}
+use Rattle.standing.proofs.Listing.{cover-none, cover-listed, cover-sizes}
 use borrow.Author.Needs.{needs}
 use Rattle.standing.proofs.pair.crossing_cells.Statement.{statement}
 use Rattle.standing.proofs.pair.crossing_cells.Tie as tie
 
-count-cells-requires : tie.Need-count-cells-requires
-count-cells-requires c κs =
-    let s = c .before .before .before .before .before .before in
-    let f = now (s .args .f) in
-    let g = now (s .args .g) in
-    let n = length (now (s .args .in-cells)) in
-    (s .pre .0, s .pre .1, s .pre .7, inside-below (s .args .a) (s .args .w) n f g (s .pre .1) (s .pre .4) (s .pre .5) (s .pre .6), cells-none n (s .args .w) f g (now (s .args .in-cells)) refl (s .pre .8), cover-none f g)
+infimum-listed-requires : tie.Need-infimum-listed-requires
+infimum-listed-requires c κs =
+    let s = c .before .before .before .before .before in
+    (s .pre, cover-none (now (s .args .f)) (now (s .args .g)))
 
--- what is known of the list
-module _ (c : tie.After-count-cells) where
+-- what is known of the list and of the infimum
+module _ (c : tie.After-infimum-listed) where
   abbrev start : tie.Start
-  start = c .before .before .before .before .before .before .before
+  start = c .before .before .before .before .before .before
 
   abbrev F : Column
   F = now (start .args .f)
@@ -33,43 +34,75 @@ module _ (c : tie.After-count-cells) where
   abbrev G : Column
   G = now (start .args .g)
 
-  abbrev m : ℕ
-  m = c .count-cells .result
+  abbrev k : ℕ
+  k = c .infimum-listed .result
 
   abbrev cell-f : List ℕ
-  cell-f = c .count-cells .last .1 .1 .1 .1 .0
+  cell-f = c .infimum-listed .last .1 .1 .1 .1 .0
 
   abbrev cell-g : List ℕ
-  cell-g = c .count-cells .last .1 .1 .1 .1 .1 .0
+  cell-g = c .infimum-listed .last .1 .1 .1 .1 .1 .0
 
-  few-x : m ≤ length cell-f
-  few-x = omega (arith, c .count-cells .ensures .1 .few, c .count-cells .ensures .1 .x-room)
+  abbrev below : List ℕ
+  below = c .infimum-listed .last .1 .1 .1 .1 .1 .1 .0
 
-  few-y : m ≤ length cell-g
-  few-y = omega (arith, c .count-cells .ensures .1 .few, c .count-cells .ensures .1 .y-room)
+  abbrev cover : Cover (length F) F G cell-f cell-g k
+  cover = c .infimum-listed .ensures .1 .0
+
+  even : length F ≡ length G
+  even = sym (start .pre .1)
+
+  few-x : k ≤ length cell-f
+  few-x = omega (arith, cover .few, cover .x-room, start .pre .0)
+
+  few-y : k ≤ length cell-g
+  few-y = omega (arith, cover .few, cover .y-room, start .pre .0)
+
+  long : length (infimum F G) ≡ length F
+  long = length-infimum F G even
+
+  -- the infimum stands at the start of its array
+  whole : take (length F) below ≡ infimum F G
+  whole = ap (take (length F)) (c .infimum-listed .ensures .1 .1) ∙ take-overlay (replicate 240 0) (infimum F G) (length F) long
+
+  room : length F ≤ length below
+  room = omega (arith, sym (length-take (length F) below) ∙ ap length whole ∙ long)
+
+array-share-prefix-below : tie.Need-array-share-prefix-below
+array-share-prefix-below c = room c
+
+slice-aggregate-label-sizes : tie.Need-slice-aggregate-label-sizes
+slice-aggregate-label-sizes c = let d = c .before in sym (ap length (whole d) ∙ long d)
+
+label-sizes-requires : tie.Need-label-sizes-requires
+label-sizes-requires c κs = search needs
 
 array-share-prefix-cell-f : tie.Need-array-share-prefix-cell-f
 array-share-prefix-cell-f c = few-x (c .before .before .before)
 
 slice-aggregate-crossing-listed : tie.Need-slice-aggregate-crossing-listed
-slice-aggregate-crossing-listed c = sym (length-take-le (m (c .before .before .before .before)) (cell-f (c .before .before .before .before)) (few-x (c .before .before .before .before)))
+slice-aggregate-crossing-listed c =
+    let d = c .before .before .before .before in
+    sym (length-take-le (k d) (cell-f d) (few-x d))
 
 array-share-prefix-cell-g : tie.Need-array-share-prefix-cell-g
 array-share-prefix-cell-g c = few-y (c .before .before .before .before)
 
 slice-aggregate-crossing-listed-2 : tie.Need-slice-aggregate-crossing-listed-2
-slice-aggregate-crossing-listed-2 c = sym (length-take-le (m (c .before .before .before .before .before)) (cell-g (c .before .before .before .before .before)) (few-y (c .before .before .before .before .before)))
+slice-aggregate-crossing-listed-2 c =
+    let d = c .before .before .before .before .before in
+    sym (length-take-le (k d) (cell-g d) (few-y d))
 
 crossing-listed-requires : tie.Need-crossing-listed-requires
 crossing-listed-requires c κs =
-    let k = c .before .before .before .before .before .before in
-    let s = start k in
-    let n = length (now (s .args .in-cells)) in
-    let e = k .count-cells .ensures .0 .cells-room in
-    (s .pre .0, s .pre .1, s .pre .2, s .pre .3, s .pre .4, s .pre .5, rw e (s .pre .7), rw e (inside-below (s .args .a) (s .args .w) n (F k) (G k) (s .pre .1) (s .pre .4) (s .pre .5) (s .pre .6)), rw e (k .count-cells .ensures .0), cover-listed (F k) (G k) (cell-f k) (cell-g k) (m k) (k .count-cells .ensures .1) (s .pre .0))
-
-same-length : tie.Need-same-length
-same-length c = search needs
+    let sized = c .before .before .before .before in
+    let d = sized .before .before in
+    let s = start d in
+    let e = sized .label-sizes .ensures ∙ ap (λ (b : List ℕ). sizes (plotsOf b)) (whole d) in (
+      (s .pre .0, s .pre .1, s .pre .2, s .pre .4, cover-listed (F d) (G d) (cell-f d) (cell-g d) (k d) (even d) (s .pre .0) (cover d)),
+      λ u h. omega (arith, s .pre .3, s .pre .5 u h),
+      cover-sizes (F d) (G d) (cell-f d) (cell-g d) (k d) (even d) (s .pre .0) (cover d) (sized .label-sizes .result) e,
+    )
 
 returns : tie.Need-returns
 returns c = search needs
@@ -78,11 +111,13 @@ pub crossing-cells-spec : {M : Type 1} → statement M
 crossing-cells-spec =
     tie.close
     (tie.spec
-    count-cells-requires
+    infimum-listed-requires
+    array-share-prefix-below
+    slice-aggregate-label-sizes
+    label-sizes-requires
     array-share-prefix-cell-f
     slice-aggregate-crossing-listed
     array-share-prefix-cell-g
     slice-aggregate-crossing-listed-2
     crossing-listed-requires
-    same-length
     returns)

@@ -1,9 +1,7 @@
--- `crossing_whole` meets its contract: there is room for all cells.
+-- `crossing_whole` meets its contract: the supremum of nested factors is the coarser one.
 -- Assumes nothing.
 use mathlib.Core.Path.{_≡_, refl, sym, ap, _∙_}
 use mathlib.Core.Bool.{true}
-use native.Mathlib.Omega.{arith}
-use native.Mathlib.Nat.{mul-le-mul}
 use borrow.Author.Needs.{needs}
 use denote.Ref.{now}
 use lib.ListN.{length}
@@ -38,50 +36,11 @@ returns c =
       ),
     )
 
-mul-cells : tie.Need-mul-cells
-mul-cells c =
-    let s = c .before .before .before .before in
-    omega (arith, mul-le-mul (s .pre .2) (s .pre .3))
-
-slice-aggregate-crossing-cells : tie.Need-slice-aggregate-crossing-cells
-slice-aggregate-crossing-cells c = search needs
-
 crossing-cells-requires : tie.Need-crossing-cells-requires
 crossing-cells-requires c κs = search needs
 
 returns-2 : tie.Need-returns-2
 returns-2 c = search needs
 
-slice-aggregate-crossing-cells-2 : tie.Need-slice-aggregate-crossing-cells-2
-slice-aggregate-crossing-cells-2 c = search needs
-
-crossing-cells-requires-2 : tie.Need-crossing-cells-requires-2
-crossing-cells-requires-2 c κs =
-    let s = c .before .before .before .before .before .before .before .before in
-    (s .pre .0, s .pre .1, s .pre .2, s .pre .3, s .pre .4, s .pre .5, c .before .before .if3 .taken, omega arith, refl)
-
-returns-3 : tie.Need-returns-3
-returns-3 c = search needs
-
-crossing-many-requires : tie.Need-crossing-many-requires
-crossing-many-requires c κs = search needs
-
-returns-4 : tie.Need-returns-4
-returns-4 c = search needs
-
 pub crossing-whole-spec : {M : Type 1} → statement M
-crossing-whole-spec =
-    tie.close
-    (tie.spec
-    finer-requires
-    infimum-many-requires
-    returns
-    mul-cells
-    slice-aggregate-crossing-cells
-    crossing-cells-requires
-    returns-2
-    slice-aggregate-crossing-cells-2
-    crossing-cells-requires-2
-    returns-3
-    crossing-many-requires
-    returns-4)
+crossing-whole-spec = tie.close (tie.spec finer-requires infimum-many-requires returns crossing-cells-requires returns-2)
