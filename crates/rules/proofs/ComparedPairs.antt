@@ -48,18 +48,26 @@ closing-on : (n : ℕ) (x : Closing) → ((S : Family) → x ≡ family S → We
 closing-on n tooMany made F m = absurd (List·Memᴰ·not-nil m)
 closing-on n (family S) made F m = made S refl .on F m
 
+-- the questions of a design by either test of two factors: the first "no" is the same, if the columns are on the plots where 6 passes
+plots-same : (n : ℕ) (Fs : List Column) (within : Bool) → (within ≡ true → (F : Column) → F ∈ Fs → length F ≡ n)
+    → firstNo (plotQuestionsBy (orthogonal n) within n Fs) ≡ firstNo (plotQuestionsBy (pairPasses n) within n Fs)
+plots-same n Fs within on = after-six within _ _ (λ e. rw (pair-comparison n 1 (plotMembers n Fs) (closing-on n (plotFamily n Fs) (plot-made n Fs (on e)))))
+
+full-same : (n k : ℕ) (Fs Ts : List Column) (within : Bool) → (within ≡ true → (F : Column) → F ∈ Fs → length F ≡ n) → (within ≡ true → (F : Column) → F ∈ Ts → length F ≡ n)
+    → firstNo (fullQuestionsBy (orthogonal n) within n k Fs Ts) ≡ firstNo (fullQuestionsBy (pairPasses n) within n k Fs Ts)
+full-same n k Fs Ts within onF onT =
+    after-six within _ _ (λ e.
+    let onP = closing-on n (plotFamily n Fs) (plot-made n Fs (onF e)) in
+    let onS = closing-on n (firstTreatmentFamily n k Ts) (first-made n k Ts (onT e)) in
+    rw (pair-comparison n 1 (plotMembers n Fs) onP, pair-comparison n 1 (firstMembers n k Ts) onS, cross-comparison n 1 (plotMembers n Fs) (firstMembers n k Ts) onP onS))
+
 -- the plot design: refusal 10 is given exactly where it was
 pub plot-compares : (n c : ℕ) (levels : List ℕ) (r : ℕ)
     → plotDesign n c levels r ≡ plotAnswer (firstNo (plotQuestionsBy (pairPasses n) (withinLimits n c (length levels) r) n (plotColumns n c levels))) (plotMembers n (plotColumns n c levels))
 plot-compares n c levels r =
     plot-design-asks n c levels r
-    ∙ ap (λ (v : Verdict). plotAnswer v (plotMembers n Fs)) (after-six (withinLimits n c (length levels) r) _ _ (λ e. rw (pair-comparison n 1 (plotMembers n Fs) (on e))))
-  where
-    Fs : List Column
-    Fs = plotColumns n c levels
-
-    on : withinLimits n c (length levels) r ≡ true → (F : Column) → F ∈ plotMembers n Fs → length F ≡ n
-    on e = let l = plot-limits n c (length levels) r e in closing-on n (plotFamily n Fs) (plot-made n Fs (column-length n levels c 0 (l .plots-few) (l .table) (omega (arith, l .columns))))
+    ∙ ap (λ (v : Verdict). plotAnswer v (plotMembers n (plotColumns n c levels))) (plots-same n (plotColumns n c levels) (withinLimits n c (length levels) r) (λ e.
+    let l = plot-limits n c (length levels) r e in column-length n levels c 0 (l .plots-few) (l .table) (omega (arith, l .columns))))
 
 -- the full design: 10, 12 and 13 are given exactly where they were
 pub full-compares : (n c d k : ℕ) (levels : List ℕ) (p r : ℕ)
@@ -67,29 +75,13 @@ pub full-compares : (n c d k : ℕ) (levels : List ℕ) (p r : ℕ)
     ≡ fullAnswer (firstNo (fullQuestionsBy (pairPasses n) (fullWithinLimits n c d k (length levels) p r) n k (plotColumns n c levels) (treatmentColumns n d levels))) (plotMembers n (plotColumns n c levels)) (firstMembers n k (treatmentColumns n d levels))
 full-compares n c d k levels p r =
     full-design-asks n c d k levels p r
-    ∙ ap (λ (v : Verdict). fullAnswer v P S)
-    (after-six (fullWithinLimits n c d k (length levels) p r) _ _ (λ e. rw (pair-comparison n 1 P (onP e), pair-comparison n 1 S (onS e), cross-comparison n 1 P S (onP e) (onS e))))
+    ∙ ap (λ (v : Verdict). fullAnswer v (plotMembers n (plotColumns n c levels)) (firstMembers n k (treatmentColumns n d levels)))
+    (full-same n k (plotColumns n c levels) (treatmentColumns n d levels) (fullWithinLimits n c d k (length levels) p r)
+    (λ e. let l = within e in column-length n levels c 0 (l .plots-most) (l .table) (omega (arith, l .plot-columns)))
+    (λ e. let l = within e in column-length n levels d 6 (l .plots-most) (l .table) (omega (arith, l .treatment-columns))))
   where
-    Fs : List Column
-    Fs = plotColumns n c levels
-
-    Ts : List Column
-    Ts = treatmentColumns n d levels
-
-    P : Family
-    P = plotMembers n Fs
-
-    S : Family
-    S = firstMembers n k Ts
-
     within : fullWithinLimits n c d k (length levels) p r ≡ true → Within n c d k levels (replicate p 0) (replicate r 0)
     within e = within-to n c d k levels (replicate p 0) (replicate r 0) (rw (length-replicate {A = ℕ} p 0, length-replicate {A = ℕ} r 0) e)
-
-    onP : fullWithinLimits n c d k (length levels) p r ≡ true → (F : Column) → F ∈ P → length F ≡ n
-    onP e = let l = within e in closing-on n (plotFamily n Fs) (plot-made n Fs (column-length n levels c 0 (l .plots-most) (l .table) (omega (arith, l .plot-columns))))
-
-    onS : fullWithinLimits n c d k (length levels) p r ≡ true → (F : Column) → F ∈ S → length F ≡ n
-    onS e = let l = within e in closing-on n (firstTreatmentFamily n k Ts) (first-made n k Ts (column-length n levels d 6 (l .plots-most) (l .table) (omega (arith, l .treatment-columns))))
 
 -- ---- the relation
 
