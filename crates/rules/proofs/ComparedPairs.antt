@@ -28,11 +28,15 @@ use Rattle.rules.proofs.Comparison.{comparison-passes, comparison-finer
 
 -- ---- pairs of families
 
+-- columns on n plots
+abbrev On : ℕ → List Column → Type 0
+On n S = (F : Column) → F ∈ S → length F ≡ n
+
 -- the first pair that fails, in a family and across two, is the first that is not orthogonal
-pub pair-comparison : (n a : ℕ) (S : Family) → ((F : Column) → F ∈ S → length F ≡ n) → firstPair (orthogonal n) a S ≡ firstPair (pairPasses n) a S
+pub pair-comparison : (n a : ℕ) (S : Family) → On n S → firstPair (orthogonal n) a S ≡ firstPair (pairPasses n) a S
 pair-comparison n a S on = pair-ext (orthogonal n) (pairPasses n) a S (λ F G m k. comparison-passes n F G (on F m) (on G k))
 
-pub cross-comparison : (n a : ℕ) (P S : Family) → ((F : Column) → F ∈ P → length F ≡ n) → ((F : Column) → F ∈ S → length F ≡ n) → firstCross (orthogonal n) a P S ≡ firstCross (pairPasses n) a P S
+pub cross-comparison : (n a : ℕ) (P S : Family) → On n P → On n S → firstCross (orthogonal n) a P S ≡ firstCross (pairPasses n) a P S
 cross-comparison n a P S onP onS = cross-ext (orthogonal n) (pairPasses n) a P S (λ F G m k. comparison-passes n F G (onP F m) (onS G k))
 
 -- ---- the designs
@@ -44,54 +48,48 @@ after-six true qs rs h = ap firstNo (h refl)
 after-six false qs rs h = refl
 
 -- the members of a closing, none where they are too many, are on the plots
-closing-on : (n : ℕ) (x : Closing) → ((S : Family) → x ≡ family S → WellMade n S) → (F : Column) → F ∈ membersIn x → length F ≡ n
+closing-on : (n : ℕ) (x : Closing) → ((S : Family) → x ≡ family S → WellMade n S) → On n (membersIn x)
 closing-on n tooMany made F m = absurd (List·Memᴰ·not-nil m)
 closing-on n (family S) made F m = made S refl .on F m
+
+-- the questions of a design by either test of two factors: the first "no" is the same, if the columns are on the plots where 6 passes
+plots-same : (n : ℕ) (Fs : List Column) (within : Bool) → (within ≡ true → On n Fs)
+    → firstNo (plotQuestionsBy (orthogonal n) within n Fs) ≡ firstNo (plotQuestionsBy (pairPasses n) within n Fs)
+plots-same n Fs within on = after-six within _ _ (λ e. rw (pair-comparison n 1 (plotMembers n Fs) (closing-on n (plotFamily n Fs) (plot-made n Fs (on e)))))
+
+full-same : (n k : ℕ) (Fs Ts : List Column) (within : Bool) → (within ≡ true → On n Fs) → (within ≡ true → On n Ts)
+    → firstNo (fullQuestionsBy (orthogonal n) within n k Fs Ts) ≡ firstNo (fullQuestionsBy (pairPasses n) within n k Fs Ts)
+full-same n k Fs Ts within onF onT =
+    after-six within _ _ (λ e.
+    let onP = closing-on n (plotFamily n Fs) (plot-made n Fs (onF e)) in
+    let onS = closing-on n (firstTreatmentFamily n k Ts) (first-made n k Ts (onT e)) in
+    rw (pair-comparison n 1 _ onP, pair-comparison n 1 _ onS, cross-comparison n 1 _ _ onP onS))
 
 -- the plot design: refusal 10 is given exactly where it was
 pub plot-compares : (n c : ℕ) (levels : List ℕ) (r : ℕ) → plotDesign n c levels r ≡ plotDesignBy (pairPasses n) n c levels r
 plot-compares n c levels r =
     plot-design-asks n c levels r
-    ∙ ap (λ (v : Verdict). plotAnswer v (plotMembers n Fs)) (after-six (withinLimits n c (length levels) r) _ _ (λ e. rw (pair-comparison n 1 (plotMembers n Fs) (on e))))
-  where
-    Fs : List Column
-    Fs = plotColumns n c levels
-
-    on : withinLimits n c (length levels) r ≡ true → (F : Column) → F ∈ plotMembers n Fs → length F ≡ n
-    on e = let l = plot-limits n c (length levels) r e in closing-on n (plotFamily n Fs) (plot-made n Fs (column-length n levels c 0 (l .plots-few) (l .table) (omega (arith, l .columns))))
+    ∙ ap (λ (v : Verdict). plotAnswer v (plotMembers n (plotColumns n c levels)))
+    (plots-same n (plotColumns n c levels) (withinLimits n c (length levels) r) (λ e.
+    let l = plot-limits n c (length levels) r e in column-length n levels c 0 (l .plots-few) (l .table) (omega (arith, l .columns))))
 
 -- the full design: 10, 12 and 13 are given exactly where they were
 pub full-compares : (n c d k : ℕ) (levels : List ℕ) (p r : ℕ) → fullDesign n c d k levels p r ≡ fullDesignBy (pairPasses n) n c d k levels p r
 full-compares n c d k levels p r =
     full-design-asks n c d k levels p r
-    ∙ ap (λ (v : Verdict). fullAnswer v P S)
-    (after-six (fullWithinLimits n c d k (length levels) p r) _ _ (λ e. rw (pair-comparison n 1 P (onP e), pair-comparison n 1 S (onS e), cross-comparison n 1 P S (onP e) (onS e))))
+    ∙ ap (λ (v : Verdict). fullAnswer v (plotMembers n (plotColumns n c levels)) (firstMembers n k (treatmentColumns n d levels)))
+    (full-same n k (plotColumns n c levels) (treatmentColumns n d levels) (fullWithinLimits n c d k (length levels) p r)
+    (λ e. let l = within e in column-length n levels c 0 (l .plots-most) (l .table) (omega (arith, l .plot-columns)))
+    (λ e. let l = within e in column-length n levels d 6 (l .plots-most) (l .table) (omega (arith, l .treatment-columns))))
   where
-    Fs : List Column
-    Fs = plotColumns n c levels
-
-    Ts : List Column
-    Ts = treatmentColumns n d levels
-
-    P : Family
-    P = plotMembers n Fs
-
-    S : Family
-    S = firstMembers n k Ts
-
     within : fullWithinLimits n c d k (length levels) p r ≡ true → Within n c d k levels (replicate p 0) (replicate r 0)
     within e = within-to n c d k levels (replicate p 0) (replicate r 0) (rw (length-replicate {A = ℕ} p 0, length-replicate {A = ℕ} r 0) e)
-
-    onP : fullWithinLimits n c d k (length levels) p r ≡ true → (F : Column) → F ∈ P → length F ≡ n
-    onP e = let l = within e in closing-on n (plotFamily n Fs) (plot-made n Fs (column-length n levels c 0 (l .plots-most) (l .table) (omega (arith, l .plot-columns))))
-
-    onS : fullWithinLimits n c d k (length levels) p r ≡ true → (F : Column) → F ∈ S → length F ≡ n
-    onS e = let l = within e in closing-on n (firstTreatmentFamily n k Ts) (first-made n k Ts (column-length n levels d 6 (l .plots-most) (l .table) (omega (arith, l .treatment-columns))))
 
 -- ---- the relation
 
 -- a bit of the relation is set exactly when its member is finer than the other
-pub relation-compares : (n : ℕ) (buffer : List ℕ) (size : ℕ) → relation n buffer size .refusal ≡ 0 → BitsCompared n (membersOf n buffer size) (relation n buffer size .coarser)
+pub relation-compares : (n : ℕ) (buffer : List ℕ) (size : ℕ) → relation n buffer size .refusal ≡ 0
+    → BitsCompared n (membersOf n buffer size) (relation n buffer size .coarser)
 relation-compares n buffer size z i j = (
   λ e. let w = bit .0 e in
       (rw many (w .0), rw many (w .1), finer .1 (w .2 .finer, w .2 .not-back)),

@@ -48,7 +48,8 @@ module _ (a b : Bool) (c : Comparison) where
   inTurn = elim a [ true ↦ elim b [ true ↦ compared c | false ↦ comparisonRefused 15 ] | false ↦ comparisonRefused 6 ]
 
 -- the first of two conditions that is broken, by the tests of both
-turn-broken : (a b : Bool) (c : Comparison) {A B : Type 0} → a ≡ true ↔ A → b ≡ true ↔ B → FirstBroken (condition 6 A ∷ condition 15 B ∷ []) (inTurn a b c .refusal)
+turn-broken : (a b : Bool) (c : Comparison) {A B : Type 0} → a ≡ true ↔ A → b ≡ true ↔ B
+    → FirstBroken (condition 6 A ∷ condition 15 B ∷ []) (inTurn a b c .refusal)
 unfolding FirstBroken
 turn-broken true true c s t = inl (s .0 refl, inl (t .0 refl, refl))
 turn-broken true false c s t = inl (s .0 refl, inr (λ h. clash (t .1 h) refl, refl))
@@ -153,7 +154,9 @@ module _ (n : ℕ) (first : List ℕ) (firstSize i : ℕ) (second : List ℕ) (s
 
     -- and on the plots
     on : (b : List ℕ) (m : ℕ) → 7680 ≤ length b → Formed (membersOf n b m) → (F : Column) → F ∈ membersOf n b m → length F ≡ n
-    on b m room f = taken-on n b m record { plots-least = within .families .plots-least; plots-most = within .families .plots-most; room = room; formed = formed-test (membersOf n b m) .1 f }
+    on b m room f =
+        let l = within .families in
+        taken-on n b m record { plots-least = l .plots-least; plots-most = l .plots-most; room = room; formed = formed-test (membersOf n b m) .1 f }
 
     pub first-on : length one ≡ n
     first-on = on first firstSize (within .families .first-family) (formed .0) one first-member
