@@ -11,7 +11,7 @@ use Rattle.rules.specs.Factor.{Column, Finer, orthogonal}
 use Rattle.rules.specs.Family.{Family, _∈_, membersOf}
 use Rattle.rules.specs.Closing.{Closing, tooMany, family, plotFamily, firstTreatmentFamily}
 use Rattle.rules.specs.Design.{firstPair, firstCross, withinLimits, fullWithinLimits, plotDesign, fullDesign}
-use Rattle.rules.specs.Asking.{Verdict, Asked, firstNo, membersIn, asks6, plotColumns, treatmentColumns, plotMembers, firstMembers, plotAnswer, fullAnswer, plotDesignBy, fullDesignBy}
+use Rattle.rules.specs.Asking.{Verdict, Asked, firstNo, membersIn, asks6, plotColumns, treatmentColumns, plotMembers, firstMembers, plotQuestionsBy, fullQuestionsBy, plotAnswer, fullAnswer, plotDesignBy, fullDesignBy}
 use Rattle.rules.specs.Demand2.{Within}
 use Rattle.rules.specs.Lists.{bitAt}
 use Rattle.rules.specs.Relation.{memberAt, relation}
