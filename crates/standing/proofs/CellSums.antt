@@ -1,23 +1,24 @@
 -- Sums over the listed cells: each plot is in one of them, so they tell how many plots have each label.
 -- Assumes nothing.
 use mathlib.Core.Path.{_≡_, refl, sym, ap, ap₂, _∙_}
-use mathlib.Core.Bool.{Bool, true, false, _&&_, _||_, and-false}
-use mathlib.Core.List.{List}
+use mathlib.Core.Bool.{true, false}
+use mathlib.Core.List.{List, _∷_}
 use Prim.Native.Nat.{ℕ, zero, suc, _+_, _≤_, _<_}
-use native.Mathlib.Nat.{not-suc-le-zero}
+use native.Mathlib.Nat.{le-refl}
 use native.Mathlib.Numerals.{add-one}
 use native.Mathlib.Omega.{arith}
 use lib.Dec.{eqb}
 use lib.ListN.{length, set}
 use lib.Seq.{getD-set-same, getD-set-other}
-use borrow.Author.Tests.{eqb-true, eqb-false, eq-eqb}
-use Rattle.rules.specs.Factor.{Column, at, count}
-use Rattle.rules.proofs.Numbering.{by-cases}
+use borrow.Author.Tests.{eqb-true, eqb-false, eq-eqb, le-ltb}
+use Rattle.rules.specs.Factor.{Column, at, infimum}
+use Rattle.rules.proofs.Numbering.{by-cases, length-infimum}
 use Rattle.rules.proofs.Tests.{count-none, count-same}
-use Rattle.rules.proofs.Walks.{bool-false}
 use Rattle.factor.specs.Sizes.{labelled}
-use Rattle.standing.specs.Cells.{labelledBoth, CellSizes, Listed, cellSize, sumAt, labelSum}
-use Rattle.standing.proofs.CellTable.{and-both, both-and, stays, added, count-split}
+use Rattle.standing.specs.Joining.{spread}
+use Rattle.standing.specs.Cells.{Listed, LabelSizes, cellSize, sumAt, labelSum}
+use Rattle.standing.proofs.Joining.{spread-at}
+use Rattle.standing.proofs.CellTable.{entered, entered-here, entered-other, entered-all}
 
 -- ---- sums by label
 
@@ -54,89 +55,53 @@ sum-step t H i sums long byte are z hz =
 pub sum-next : (t : ℕ → ℕ) (H : Column) (i : ℕ) → sumAt t H (i + 1) (at H i) ≡ sumAt t H i (at H i) + t i
 sum-next t H i = rw add-one (sum-yes t H (at H i) i (eq-eqb (at H i) (at H i) refl))
 
--- ---- the plots of the first cells
+-- ---- the plots of the first cells: those whose number in the infimum is no larger
 
-module _ (F G X Y : Column) (listed : Listed F G X Y) (sizes : List ℕ) (counted : CellSizes F G X Y sizes) where
-  -- plot v is in cell i
-  abbrev here : ℕ → ℕ → Bool
-  here i v = eqb (at X i) (at F v) && eqb (at Y i) (at G v)
+module _ (F G : Column) (few : length F ≤ 240) (l : length F ≡ length G) (X Y : Column) (listed : Listed F G X Y) (sizes : List ℕ) (counted : LabelSizes (infimum F G) sizes) where
+  abbrev I : Column
+  I = infimum F G
 
-  -- it is in one of the first i
-  unfoldable among : ℕ → ℕ → Bool
-  among zero v = false
-  among (suc i) v = here i v || among i v
+  long : length I ≡ length F
+  long = length-infimum F G l
 
-  among-yes : (i v : ℕ) → here i v ≡ true → among (suc i) v ≡ true
-  unfolding among
-  among-yes i v e = rw e
+  -- a plot's number is that of its cell
+  number-is : (u : ℕ) (h : u < length F) → at I u ≡ suc (listed .stands .place u h .plot)
+  number-is u h = let p = listed .stands .place u h in listed .number (p .plot) u (p .less) h (sym (p .first)) (sym (p .second))
 
-  among-no : (i v : ℕ) → here i v ≡ false → among (suc i) v ≡ among i v
-  unfolding among
-  among-no i v e = rw e
+  -- the size of a cell
+  size-is : (i : ℕ) → i < length X → cellSize sizes i ≡ labelled (length I) I (suc i)
+  size-is i h = ap (at sizes) (add-one i) ∙ counted (suc i) (omega (arith, h, listed .few, few))
 
-  here-is : (i v : ℕ) → here i v ≡ true → (at X i ≡ at F v) × (at Y i ≡ at G v)
-  here-is i v e = let b = and-both _ _ e in (eqb-true _ _ (b .0), eqb-true _ _ (b .1))
+  -- H has for each cell the label that K has for its plots
+  module _ (H K : Column) (even : length H ≡ length X) (own : (u : ℕ) (h : u < length F) → at H (listed .stands .place u h .plot) ≡ at K u) where
+    -- the labels by number
+    abbrev t : List ℕ
+    t = 0 ∷ H
 
-  -- a plot of a later cell is not
-  not-among : (i k v : ℕ) → i ≤ k → k < length X → here k v ≡ true → among i v ≡ false
-  unfolding among
-  not-among zero k v h hk e = refl
-  not-among (suc i) k v h hk e =
-      among-no i v (bool-false _ (λ f. let a = here-is i v f in
-      let b = here-is k v e in
-      let q = listed .once i k (omega arith) hk (a .0 ∙ sym (b .0)) (a .1 ∙ sym (b .1)) in
-      omega (arith, q)))
-      ∙ not-among i k v (omega arith) hk e
+    next-label : (i z : ℕ) → entered t I (suc (suc i)) z ≡ entered t I (suc i + 1) z
+    next-label i z = ap (λ (x : ℕ). entered t I x z) (sym (add-one (suc i)))
 
-  -- one of an earlier cell is
-  among-at : (i j v : ℕ) → j < i → here j v ≡ true → among i v ≡ true
-  among-at zero j v h e = absurd (not-suc-le-zero h)
-  among-at (suc i) j v h e =
-      by-cases (here i v)
-      (λ f. among-yes i v f)
-      (λ f. by-cases (eqb j i)
-      (λ q. among-yes i v (ap (λ (k : ℕ). here k v) (sym (eqb-true j i q)) ∙ e))
-      (λ q. let ne : j ≡ i → ⊥ = eqb-false j i q in among-no i v f ∙ among-at i j v (omega (arith, ne)) e))
-
-  -- each plot is in a cell
-  among-all : (v : ℕ) → v < length F → among (length X) v ≡ true
-  among-all v h = let p = listed .stands .place v h in among-at (length X) (p .plot) v (p .less) (both-and _ _ (eq-eqb _ _ (p .first)) (eq-eqb _ _ (p .second)))
-
-  -- the plots of cell i
-  cell-count : (i : ℕ) → i < length X → count (length F) (here i) ≡ cellSize sizes i
-  unfolding labelledBoth
-  cell-count i h = sym (counted i h)
-
-  -- plots of cell i have in K the label that the cell has in H
-  module _ (K H : Column) (own : (i v : ℕ) → here i v ≡ true → at K v ≡ at H i) where
-    sums : (z i : ℕ) → i ≤ length X → sumAt (cellSize sizes) H i z ≡ count (length F) (λ v. eqb z (at K v) && among i v)
-    unfolding sumAt among
-    sums z zero h = sym (count-none (length F) _ (λ v hv. and-false (eqb z (at K v))))
+    sums : (z i : ℕ) → i ≤ length X → sumAt (cellSize sizes) H i z ≡ entered t I (suc i) z
+    unfolding sumAt entered
+    sums z zero h = sym (count-none (length I) _ (λ v hv. let k : v < length F = rw long at hv in rw (le-ltb (at I v) 1 (omega (arith, number-is v k)))))
     sums z (suc i) h =
         by-cases (eqb z (at H i))
-        (λ e. sum-yes (cellSize sizes) H z i e ∙ ap₂ _+_ (sums z i (omega arith)) (sym (cell-count i h))
-        ∙ sym (count-split (length F) (λ v. eqb z (at K v) && among i v) (here i) (λ v. eqb z (at K v) && among (suc i) v) (λ v hv. by-cases (here i v)
-        (λ f. added
-        (ap (λ (b : Bool). eqb z (at K v) && b) (not-among i i v (omega arith) h f) ∙ and-false (eqb z (at K v)))
-        f
-        (both-and _ _ (ap (eqb z) (own i v f) ∙ e) (among-yes i v f)))
-        (λ f. stays f (ap (λ (b : Bool). eqb z (at K v) && b) (among-no i v f))))))
-        (λ e. sum-no (cellSize sizes) H z i e ∙ sums z i (omega arith)
-        ∙ count-same (length F) _ _ (λ v hv. by-cases (here i v)
-        (λ f. let no : eqb z (at K v) ≡ false = ap (eqb z) (own i v f) ∙ e in ap (λ (b : Bool). b && among i v) no ∙ sym (ap (λ (b : Bool). b && among (suc i) v) no))
-        (λ f. ap (λ (b : Bool). eqb z (at K v) && b) (sym (among-no i v f)))))
+        (λ e. let q : z ≡ at H i = eqb-true z (at H i) e in
+        sum-yes (cellSize sizes) H z i e ∙ ap₂ _+_ (sums z i (omega arith) ∙ ap (entered t I (suc i)) q) (size-is i h)
+        ∙ sym (ap (entered t I (suc (suc i))) q ∙ next-label i (at H i) ∙ entered-here t I (suc i)))
+        (λ e. sum-no (cellSize sizes) H z i e ∙ sums z i (omega arith) ∙ sym (next-label i z ∙ entered-other t I (suc i) z (eqb-false z (at H i) e)))
 
     -- all cells
-    sums-all : (z : ℕ) → sumAt (cellSize sizes) H (length X) z ≡ labelled (length F) K z
+    sums-all : (z : ℕ) → labelSum sizes H z ≡ labelled (length F) K z
     unfolding labelled
-    sums-all z = sums z (length X) (omega arith) ∙ count-same (length F) _ _ (λ v hv. ap (λ (b : Bool). eqb z (at K v) && b) (among-all v hv) ∙ and-true (eqb z (at K v)))
-      where
-        and-true : (b : Bool) → b && true ≡ b
-        and-true true = refl
-        and-true false = refl
+    sums-all z =
+        ap (λ (k : ℕ). sumAt (cellSize sizes) H k z) even ∙ sums z (length X) (le-refl _)
+        ∙ entered-all t I (suc (length X)) (λ u h. let k : u < length F = rw long at h in omega (arith, number-is u k, listed .stands .place u k .less)) z
+        ∙ ap (λ (k : ℕ). labelled k (spread t I) z) long
+        ∙ count-same (length F) _ _ (λ v hv. ap (eqb z) (spread-at t I v (rw long hv) ∙ ap (at t) (number-is v hv) ∙ own v hv))
 
   pub sums-first : (z : ℕ) → labelSum sizes X z ≡ labelled (length F) F z
-  sums-first = sums-all F X (λ i v e. sym (here-is i v e .0))
+  sums-first = sums-all X F refl (λ u h. listed .stands .place u h .first)
 
   pub sums-second : (z : ℕ) → labelSum sizes Y z ≡ labelled (length F) G z
-  sums-second z = ap (λ (k : ℕ). sumAt (cellSize sizes) Y k z) (listed .even) ∙ sums-all G Y (λ i v e. sym (here-is i v e .1)) z
+  sums-second = sums-all Y G (listed .even) (λ u h. listed .stands .place u h .second)

@@ -1,23 +1,26 @@
 -- Laws of the cell of two labels, of sizes, and of orthogonality by cells.
 -- Assumes nothing.
 use mathlib.Core.Path.{_≡_, refl, sym, ap, ap₂, _∙_}
-use mathlib.Core.Bool.{Bool, true, false, _&&_, true≢false, and-false}
+use mathlib.Core.Bool.{Bool, true, false, _&&_, and-false}
 use mathlib.Core.List.{List}
 use Prim.Native.Nat.{ℕ, zero, suc, _+_, _*_, _≤_, _<_, zero-le}
 use native.Mathlib.Nat.{le-refl, mul-le-mul-left, mul-suc, mul-comm}
+use native.Mathlib.Numerals.{add-one}
 use native.Mathlib.Omega.{arith}
 use lib.Dec.{eqb, ltb}
 use lib.ListN.{length, set}
-use lib.Seq.{getD-set-same, getD-set-other}
+use lib.Seq.{getD-set-same, getD-set-other, take-all}
 use borrow.Author.Tests.{eqb-true, eqb-false, eq-eqb, ne-eqb, ltb-true, ltb-false, lt-ltb, le-ltb}
-use Rattle.rules.specs.Factor.{Column, at, every, count, classSize, overlap, infimum, supremum, orthogonal}
-use Rattle.rules.proofs.Numbering.{by-cases}
+use Rattle.rules.specs.Factor.{Column, at, every, count, classSize, infimum, supremum, orthogonal}
+use Rattle.rules.proofs.Lists.{getD-tabulate}
+use Rattle.rules.proofs.Numbering.{by-cases, length-infimum}
 use Rattle.rules.proofs.Tests.{every-at, every-all, count-yes, count-no, count-none, count-same, size-equivalent}
 use Rattle.rules.proofs.Walks.{count-le}
-use Rattle.rules.proofs.Orthogonality.{same-test, overlap-infimum, orthogonal-test-plots}
-use Rattle.factor.specs.Sizes.{labelled}
+use Rattle.rules.proofs.Orthogonality.{same-test, orthogonal-test-plots}
+use Rattle.factor.specs.Lent.{plotsOf}
+use Rattle.factor.specs.Sizes.{labelled, sizes}
 use Rattle.standing.specs.Joining.{Below, OneClass, EntriesJoin, spread}
-use Rattle.standing.specs.Cells.{labelledBoth, CellsInside, CellSizes, LabelSizes, EntrySizes, Stands, cellSize, evenCells}
+use Rattle.standing.specs.Cells.{CellsInside, LabelSizes, EntrySizes, Listed, cellSize, evenCells}
 use Rattle.standing.proofs.Joining.{joins-supremum, spread-at}
 
 -- ---- the cell of two labels
@@ -46,15 +49,12 @@ inside-below a w n F G l bf bg h u hu =
     let hg : at G u < w = bg u (rw l hu) in
     (hg, omega (arith, cell-below w a (at F u) (at G u) (bf u hu) hg, mul-comm a w))
 
--- ---- counting
+-- ---- sizes of labels
 
-pub and-both : (a b : Bool) → a && b ≡ true → (a ≡ true) × (b ≡ true)
-and-both true b e = (refl, e)
-and-both false b e = absurd (true≢false (sym e))
-
-pub both-and : (a b : Bool) → a ≡ true → b ≡ true → a && b ≡ true
-both-and true b d e = e
-both-and false b d e = d
+-- the table of the sizes of a column of at most 240 plots
+pub label-sizes : (F : Column) → length F ≤ 240 → (t : List ℕ) → t ≡ sizes (plotsOf F) → LabelSizes F t
+unfolding sizes
+label-sizes F h t e x hx = ap (λ (s : List ℕ). at s x) (e ∙ ap sizes (take-all 240 F h)) ∙ getD-tabulate (labelled (length F) F) 256 x 0 hx
 
 -- ---- sizes of entries
 
@@ -150,22 +150,29 @@ module _ (t : List ℕ) (F : Column) where
 
 -- ---- orthogonality by cells
 
-module _ (F G : Column) (l : length G ≡ length F) (bytesF : Below 256 F) (bytesG : Below 256 G) (X Y : Column) (listed : Stands F G X Y)
-    (t : List ℕ) (joins : EntriesJoin X Y t) (inI inK inF inG : List ℕ) (sizesI : CellSizes F G X Y inI) (sizesK : EntrySizes t F inK) (sizesF : LabelSizes F inF) (sizesG : LabelSizes G inG) where
+module _ (F G : Column) (few : length F ≤ 240) (l : length G ≡ length F) (bytesF : Below 256 F) (bytesG : Below 256 G) (X Y : Column) (listed : Listed F G X Y)
+    (t : List ℕ) (joins : EntriesJoin X Y t) (inI inK inF inG : List ℕ) (sizesI : LabelSizes (infimum F G) inI) (sizesK : EntrySizes t F inK) (sizesF : LabelSizes F inF) (sizesG : LabelSizes G inG) where
   abbrev evenAt : ℕ → Bool
   evenAt i = eqb (cellSize inI i * at inK (at t (at X i))) (at inF (at X i) * at inG (at Y i))
 
   abbrev evenPlot : ℕ → Bool
   evenPlot u = eqb (classSize (length F) (infimum F G) u * classSize (length F) (supremum F G) u) (classSize (length F) F u * classSize (length F) G u)
 
+  -- the size of a cell is that of the infimum's class of its plots
+  cell-size : (u i : ℕ) → u < length F → i < length X → at F u ≡ at X i → at G u ≡ at Y i → cellSize inI i ≡ classSize (length F) (infimum F G) u
+  unfolding labelled classSize
+  cell-size u i hu hi ex ey =
+      let e = listed .number i u hi hu ex ey in
+      ap (at inI) (add-one i ∙ sym e) ∙ sizesI (at (infimum F G) u) (omega (arith, e, hi, listed .few, few)) ∙ ap (λ (k : ℕ). classSize k (infimum F G) u) (length-infimum F G (sym l))
+
   -- a cell is tested as each of its plots
   same-even : (u i : ℕ) → u < length F → i < length X → at F u ≡ at X i → at G u ≡ at Y i → evenAt i ≡ evenPlot u
-  unfolding labelledBoth labelled classSize overlap
+  unfolding labelled classSize
   same-even u i hu hi ex ey =
       ap₂ eqb
       (ap₂ _*_
-      (sizesI i hi ∙ ap₂ (labelledBoth (length F) F G) (sym ex) (sym ey) ∙ overlap-infimum (length F) F G refl l u hu)
-      (ap (λ (x : ℕ). at inK (at t x)) (sym ex) ∙ sizesK u hu ∙ size-equivalent (joins-supremum F G l X Y t listed joins) u hu))
+      (cell-size u i hu hi ex ey)
+      (ap (λ (x : ℕ). at inK (at t x)) (sym ex) ∙ sizesK u hu ∙ size-equivalent (joins-supremum F G l X Y t (listed .stands) joins) u hu))
       (ap₂ _*_
       (ap (at inF) (sym ex) ∙ sizesF (at F u) (bytesF u hu))
       (ap (at inG) (sym ey) ∙ sizesG (at G u) (bytesG u (rw l hu)) ∙ ap (λ (k : ℕ). labelled k G (at G u)) l))
@@ -174,6 +181,6 @@ module _ (F G : Column) (l : length G ≡ length F) (bytesF : Below 256 F) (byte
   unfolding evenCells
   cells-orthogonal =
       same-test (every (length X) evenAt) (every (length F) evenPlot)
-      (λ e. every-all (length F) evenPlot (λ u hu. let p = listed .place u hu in sym (same-even u (p .plot) hu (p .less) (sym (p .first)) (sym (p .second))) ∙ every-at (length X) evenAt e (p .plot) (p .less)))
-      (λ e. every-all (length X) evenAt (λ i hi. let p = listed .plot i hi in same-even (p .plot) i (p .less) hi (p .first) (p .second) ∙ every-at (length F) evenPlot e (p .plot) (p .less)))
+      (λ e. every-all (length F) evenPlot (λ u hu. let p = listed .stands .place u hu in sym (same-even u (p .plot) hu (p .less) (sym (p .first)) (sym (p .second))) ∙ every-at (length X) evenAt e (p .plot) (p .less)))
+      (λ e. every-all (length X) evenAt (λ i hi. let p = listed .stands .plot i hi in same-even (p .plot) i (p .less) hi (p .first) (p .second) ∙ every-at (length F) evenPlot e (p .plot) (p .less)))
       ∙ sym (orthogonal-test-plots (length F) F G refl l)

@@ -3,24 +3,21 @@
 use mathlib.Core.Path.{_≡_, refl, sym, ap, ap₂, _∙_, subst}
 use mathlib.Core.List.{List, [], _∷_, _++_}
 use Prim.Native.Nat.{ℕ, suc, _+_, _-_, _≤_, _<_}
-use native.Mathlib.Nat.{not-suc-le-zero, le-refl, suc-inj}
+use native.Mathlib.Nat.{not-suc-le-zero, le-refl}
 use native.Mathlib.Numerals.{add-one}
 use native.Mathlib.Omega.{arith}
 use lib.Dec.{eqb}
 use lib.ListN.{length, take, set, replicate, length-set}
-use lib.Seq.{getD-set-same, getD-set-other, getD-take, length-take-le, take-suc, take-set-le, take-length, take-all}
+use lib.Seq.{getD-set-same, getD-set-other, getD-take, length-take-le, take-suc, take-set-le, take-length}
 use borrow.Author.Tests.{eqb-true, eqb-false, eq-eqb}
-use Rattle.rules.specs.Factor.{Column, at, same, addNew, labels, number, classes, classSize, overlap, infimum}
+use Rattle.rules.specs.Factor.{Column, at, same, addNew, labels, number, classes, infimum}
 use Rattle.rules.proofs.Numbering.{by-cases, eqb-self, add-has, has-all, numbering-at, number-take, length-infimum, infimum-same, number-infimum}
 use Rattle.rules.proofs.Walk.{Next, next}
 use Rattle.rules.proofs.Columns.{number-positive}
 use Rattle.rules.proofs.Sums.{Some, nowhere, somewhere, some}
-use Rattle.rules.proofs.Orthogonality.{overlap-infimum}
-use Rattle.factor.specs.Lent.{plotsOf}
-use Rattle.factor.specs.Sizes.{sizes}
 use Rattle.standing.specs.Joining.{Below, InOrder, Among, spread}
-use Rattle.standing.specs.Cells.{labelledBoth, Plot, Cover, Stands, Listed, CellSizes}
-use Rattle.factor.proofs.SizeTable.{count-some, sizes-at}
+use Rattle.standing.specs.Cells.{Plot, Cover, Stands, Listed}
+use Rattle.factor.proofs.SizeTable.{count-some}
 use Rattle.factor.proofs.Table.{classes-none}
 use Rattle.standing.proofs.Joining.{length-spread, spread-at}
 
@@ -203,13 +200,9 @@ module _ (F G X Y : Column) (m : ℕ) (l : length F ≡ length G) (few : length 
       let s = infimum-same F G l (p .plot) u (p .less) h .0 e in
       record { plot = i; less = hi; first = sym (p .first) ∙ s .0; second = sym (p .second) ∙ s .1 }
 
-  -- no two have the same labels
-  once : (i j : ℕ) → i < m → j < m → at X i ≡ at X j → at Y i ≡ at Y j → i ≡ j
-  once i j hi hj ex ey =
-      let p = cover .cell i hi in
-      let q = cover .cell j hj in
-      let e = infimum-same F G l (p .plot) (q .plot) (p .less) (q .less) .1 (p .first ∙ ex ∙ sym (q .first), p .second ∙ ey ∙ sym (q .second)) in
-      suc-inj (sym (p .number) ∙ e ∙ q .number)
+  -- plots with the labels of a listed cell have its number
+  number-at : (i u : ℕ) → i < m → u < length F → at F u ≡ at X i → at G u ≡ at Y i → at (infimum F G) u ≡ suc i
+  number-at i u hi hu ex ey = let p = cover .cell i hi in infimum-same F G l u (p .plot) hu (p .less) .1 (ex ∙ sym (p .first), ey ∙ sym (p .second)) ∙ p .number
 
   -- the listed labels, cut off after the last
   pub cover-listed : Listed F G (take m X) (take m Y)
@@ -223,25 +216,9 @@ module _ (F G X Y : Column) (m : ℕ) (l : length F ≡ length G) (few : length 
       place = λ u hu. let p = place u hu in
           record { plot = p .plot; less = rw long (p .less); first = getD-take m X (p .plot) 0 (p .less) ∙ p .first; second = getD-take m Y (p .plot) 0 (p .less) ∙ p .second };
     };
-    once = λ i j hi hj ex ey. let hi′ : i < m = rw long at hi in
-        let hj′ : j < m = rw long at hj in
-        once i j hi′ hj′ (sym (getD-take m X i 0 hi′) ∙ ex ∙ getD-take m X j 0 hj′) (sym (getD-take m Y i 0 hi′) ∙ ey ∙ getD-take m Y j 0 hj′);
+    number = λ i u hi hu ex ey. let k : i < m = rw long at hi in number-at i u k hu (ex ∙ getD-take m X i 0 k) (ey ∙ getD-take m Y i 0 k);
     order = λ t. ap (λ (l : Column). labels eqb [] (spread t l)) (sym (take-length F)) ∙ cover .order t;
   }
-
-  -- the sizes of the infimum's classes are those of the listed cells
-  pub cover-sizes : (t : List ℕ) → t ≡ sizes (plotsOf (infimum F G)) → CellSizes F G (take m X) (take m Y) t
-  unfolding labelledBoth overlap
-  cover-sizes t e i hi =
-      let I = infimum F G in
-      let k : i < m = rw long at hi in
-      let p = cover .cell i k in
-      let n : length I ≡ length F = length-infimum F G l in
-      ap (at t) (add-one i ∙ sym (p .number))
-      ∙ sizes-at I (e ∙ ap sizes (take-all 240 I (omega arith))) (p .plot) (omega (arith, p .number, k, cover .few, few))
-      ∙ ap (λ (v : ℕ). classSize v I (p .plot)) n
-      ∙ sym (overlap-infimum (length F) F G refl (sym l) (p .plot) (p .less))
-      ∙ ap₂ (labelledBoth (length F) F G) (p .first ∙ sym (getD-take m X i 0 k)) (p .second ∙ sym (getD-take m Y i 0 k))
 
 module _ (F G X Y : Column) (stands : Stands F G X Y) where
   -- they are in the same ranges

@@ -1,20 +1,15 @@
 -- Cells: a cell is what a class of F and a class of G have in common. It is known by the two labels.
 -- Assumes nothing.
 use mathlib.Core.Path.{_≡_}
-use mathlib.Core.Bool.{Bool, true, false, _&&_}
+use mathlib.Core.Bool.{Bool, true, false}
 use mathlib.Core.List.{List}
 use Prim.Native.Nat.{ℕ, zero, suc, _+_, _*_, _≤_, _<_}
 use lib.Dec.{eqb}
 use lib.ListN.{length, take, replicate}
 use Rattle.rules.specs.Limits.{mostPlots}
-use Rattle.rules.specs.Factor.{Column, at, every, count, classes, classSize, infimum}
+use Rattle.rules.specs.Factor.{Column, at, every, classes, classSize, infimum}
 use Rattle.factor.specs.Sizes.{labelled}
 use Rattle.standing.specs.Joining.{Below, InOrder, OneClass, spread}
-
--- how many of the first u plots have the labels x and y
-unfoldable pub labelledBoth : ℕ → Column → Column → ℕ → ℕ → ℕ
-unfolding count
-labelledBoth u F G x y = count u (λ v. eqb x (at F v) && eqb y (at G v))
 
 -- one of the first n plots has the labels x and y
 pub record Plot (n : ℕ) (F G : Column) (x y : ℕ) : Type 0 where
@@ -49,12 +44,12 @@ pub record Stands (F G X Y : Column) : Type 0 where
   pub plot : (i : ℕ) → i < length X → Plot (length F) F G (at X i) (at Y i)
   pub place : (u : ℕ) → u < length F → Plot (length X) X Y (at F u) (at G u)
 
--- X and Y are the labels of the cells that have a plot, once each, by first appearance
+-- X and Y are the labels of the cells that have a plot, by first appearance: the cell at place i is the class i + 1 of the infimum
 pub record Listed (F G X Y : Column) : Type 0 where
   pub few : length X ≤ length F
   pub even : length Y ≡ length X
   pub stands : Stands F G X Y
-  pub once : (i j : ℕ) → i < length X → j < length X → at X i ≡ at X j → at Y i ≡ at Y j → i ≡ j
+  pub number : (i u : ℕ) → i < length X → u < length F → at F u ≡ at X i → at G u ≡ at Y i → at (infimum F G) u ≡ suc i
   pub order : InOrder F X
 
 -- t has for each label how many plots have it
@@ -65,13 +60,9 @@ LabelSizes F t = (x : ℕ) → x < 256 → at t x ≡ labelled (length F) F x
 abbrev pub EntrySizes : List ℕ → Column → List ℕ → Type 0
 EntrySizes t F r = (u : ℕ) → u < length F → at r (at t (at F u)) ≡ classSize (length F) (spread t F) u
 
--- the size of the cell listed at place i
+-- the size of the cell listed at place i: that of the class i + 1 of the infimum
 abbrev pub cellSize : List ℕ → ℕ → ℕ
 cellSize sizes i = at sizes (i + 1)
-
--- it is how many plots have the i-th labels of X and Y
-abbrev pub CellSizes : Column → Column → Column → Column → List ℕ → Type 0
-CellSizes F G X Y sizes = (i : ℕ) → i < length X → cellSize sizes i ≡ labelledBoth (length F) F G (at X i) (at Y i)
 
 -- for each listed cell the sizes of the cell and of its entry make the product that those of its labels make
 unfoldable pub evenCells : List ℕ → List ℕ → List ℕ → List ℕ → List ℕ → Column → Column → Bool
@@ -104,11 +95,9 @@ Unlisted F G below X Y = (length F ≤ mostPlots) × (length G ≡ length F) × 
 abbrev pub labelSum : List ℕ → Column → ℕ → ℕ
 labelSum sizes H z = sumAt (cellSize sizes) H (length H) z
 
--- the listed cells, two tables of zeros, and sums that a byte holds
-abbrev pub Unsummed : List ℕ → Column → Column → List ℕ → List ℕ → Type 0
-Unsummed sizes X Y inF inG =
-    (length X ≤ mostPlots) × (length Y ≡ length X) × (inF ≡ replicate 256 0) × (inG ≡ replicate 256 0) × ((z : ℕ) → labelSum sizes X z ≤ mostPlots)
-    × ((z : ℕ) → labelSum sizes Y z ≤ mostPlots)
+-- the listed cells, with sums that a byte holds
+abbrev pub Unsummed : List ℕ → Column → Type 0
+Unsummed sizes H = (length H ≤ mostPlots) × ((z : ℕ) → labelSum sizes H z ≤ mostPlots)
 
 -- the table has at each label what the sizes of the cells that have it sum up to
 abbrev pub Summed : List ℕ → Column → List ℕ → Type 0
@@ -130,6 +119,6 @@ Uncovered w F G X Y = (length F ≤ mostPlots) × (length G ≡ length F) × (w 
 abbrev pub LabelsListed : ℕ → Column → Column → Column → Column → Type 0
 LabelsListed a F G X Y = (length F ≤ mostPlots) × (length G ≡ length F) × (a ≤ 256) × Below a F × Listed F G X Y
 
--- the same, the labels of G bytes, with the sizes of the cells
+-- the same, the labels of G bytes, with the sizes of the infimum's classes
 abbrev pub CellsListed : ℕ → Column → Column → List ℕ → Column → Column → Type 0
-CellsListed a F G sizes X Y = LabelsListed a F G X Y × Below 256 G × CellSizes F G X Y sizes
+CellsListed a F G sizes X Y = LabelsListed a F G X Y × Below 256 G × LabelSizes (infimum F G) sizes

@@ -5,25 +5,17 @@ ghost use Prim.Native.Nat.{_*_};
 ghost use lib.ListN.{replicate};
 ghost use Rattle.standing.specs.Cells.{EntrySizes, Unsummed, Summed, EntriesAsked, CellsJudged, evenCells};
 
-// How many plots have each label, by the sizes of the listed cells: that of the cell at place i is at i + 1.
-pub(crate) fn sum_cells(
-    sizes: &[u8; 256],
-    cell_f: &[u8],
-    cell_g: &[u8],
-    in_f: &mut [u8; 256],
-    in_g: &mut [u8; 256],
-)
-    requires { ⌜ Unsummed (now sizes) (now «cell_f») (now «cell_g») (now «in_f») (now «in_g») ⌝ }
-    ensures first { λ _. ⌜ Summed (now (sizes .entry)) (now («cell_f» .entry)) (now («in_f» .exit)) ⌝ }
-    ensures second { λ _. ⌜ Summed (now (sizes .entry)) (now («cell_g» .entry)) (now («in_g» .exit)) ⌝ }
+// How many plots have each label of a column: `labels` are those of the listed cells, and the size of the cell at place i is at i + 1.
+pub(crate) fn sum_cells(sizes: &[u8; 256], labels: &[u8]) -> [u8; 256]
+    requires { ⌜ Unsummed (now sizes) (now labels) ⌝ }
+    ensures { λ r. ⌜ Summed (now (sizes .entry)) (now (labels .entry)) r ⌝ }
 {
-    for i in 0..cell_f.len() {
-        let x = cell_f[i] as usize;
-        let y = cell_g[i] as usize;
-        let size = sizes[i + 1];
-        in_f[x] += size;
-        in_g[y] += size;
+    let mut sums = [0u8; 256];
+    for i in 0..labels.len() {
+        let x = labels[i] as usize;
+        sums[x] += sizes[i + 1];
     }
+    sums
 }
 
 // A table of one size.

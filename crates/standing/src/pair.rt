@@ -141,7 +141,8 @@ fn crossing_cells(f: &[u8], g: &[u8], a: usize, w: usize, above: &mut [u8; PLOTS
     crossing_listed(f, g, a, &sizes, &cell_f[..k], &cell_g[..k], above)
 }
 
-// The same by the labels `x` and `y` of the cells that have a plot, and the sizes of these: that of the cell at place i is at i + 1.
+// The same by the labels `x` and `y` of the cells that have a plot and the sizes of the infimum's classes: the cell at place i is the
+// class i + 1.
 fn crossing_listed(
     f: &[u8],
     g: &[u8],
@@ -158,9 +159,8 @@ fn crossing_listed(
 {
     let mut table = [0u8; 256];
     let one = join_labels(x, y, a, &mut table);
-    let mut in_f = [0u8; 256];
-    let mut in_g = [0u8; 256];
-    sum_cells(sizes, x, y, &mut in_f, &mut in_g);
+    let in_f = sum_cells(sizes, x);
+    let in_g = sum_cells(sizes, y);
     let in_k = entry_sizes(&table, f, &in_f, a, one);
     let level = even_cells(sizes, &table, &in_k, &in_f, &in_g, x, y);
     let k = number_joins(&table, f, x, one, above);

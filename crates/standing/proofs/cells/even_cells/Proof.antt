@@ -67,6 +67,13 @@ module _ (c : tie.After-shared-slice-known6 Inv-loop μ-loop) where
   abbrev even-here : ℕ → Bool
   even-here = even (now (start .args .sizes)) table (now (start .args .in-k)) (now (start .args .in-f)) (now (start .args .in-g)) X Y
 
+  -- its two products
+  abbrev outer : ℕ
+  outer = cellSize (now (start .args .sizes)) i * at (now (start .args .in-k)) (at table (at X i))
+
+  abbrev inner : ℕ
+  inner = at (now (start .args .in-f)) (at X i) * at (now (start .args .in-g)) (at Y i)
+
   byte-x : at X i < 256
   byte-x = omega (arith, c .before .before .shared-slice-known4 .given i)
 
@@ -108,7 +115,7 @@ unfolding evenCells
 returns c =
     let t = c .before in
     let k = t .before .before .before .before .before .before in
-    sym (every-fails (length (X k)) (even-here k) (i k) (omega arith) (ne-eqb _ _ (λ e. c .if1 .taken (t .before .before .before .product .ensures ∙ e ∙ sym (t .product2 .ensures)))))
+    sym (every-fails (length (X k)) (even-here k) (i k) (omega arith) (ne-eqb (outer k) (inner k) (λ e. omega (arith, c .if1 .taken, t .before .before .before .product .ensures, t .product2 .ensures, e))))
 
 add-i : tie.Need-add-i Inv-loop μ-loop
 add-i c = omega arith
@@ -120,7 +127,7 @@ loop-again : tie.Need-loop-again Inv-loop μ-loop
 loop-again c =
     let t = c .before in
     let k = t .before .before .before .before .before .before in
-    (omega arith, refl, every-more (i k) (even-here k) (head k .loop .inv .2) (eq-eqb _ _ (sym (t .before .before .before .product .ensures) ∙ c .if1 .left ∙ t .product2 .ensures)))
+    (omega arith, refl, every-more (i k) (even-here k) (head k .loop .inv .2) (eq-eqb (outer k) (inner k) (omega (arith, c .if1 .left, t .before .before .before .product .ensures, t .product2 .ensures))))
 
 returns-2 : tie.Need-returns-2 Inv-loop μ-loop
 unfolding evenCells

@@ -45,7 +45,7 @@ returns-2 c = search needs
 number-many-requires : tie.Need-number-many-requires
 number-many-requires c κs =
     let s = c .before .before .before .before .before .before .before in
-    (s .pre .0 .0, s .pre .0 .1, s .pre .0 .3, s .pre .0 .5, s .pre .1)
+    (s .pre .0 .0, s .pre .0 .1, omega (arith, s .pre .0 .2, s .pre .0 .3), s .pre .0 .5, s .pre .1)
 
 returns-3 : tie.Need-returns-3
 returns-3 c = search needs

@@ -87,16 +87,16 @@ module _ (c : tie.After-shared-slice-known2 Inv-loop μ-loop) where
   code-is = codes-at w f g (sym (start .pre .1)) u (omega arith)
 
 cast-i : tie.Need-cast-i Inv-loop μ-loop
-cast-i c = omega (arith, byte-f c)
+cast-i c = omega (arith, byte-f c, byte-g c)
 
 mul-i : tie.Need-mul-i Inv-loop μ-loop
 mul-i c = omega (arith, inside c, start c .pre .2)
 
 cast-i-2 : tie.Need-cast-i-2 Inv-loop μ-loop
-cast-i-2 c = omega (arith, byte-g c)
+cast-i-2 c = omega (arith, byte-f c, byte-g c)
 
 add-i : tie.Need-add-i Inv-loop μ-loop
-add-i c = omega (arith, inside c, start c .pre .2)
+add-i c = omega (arith, byte-f c, inside c, start c .pre .2)
 
 slice-read-if1 : tie.Need-slice-read-if1 Inv-loop μ-loop
 slice-read-if1 c = omega (arith, inside (c .before), room-is (c .before))

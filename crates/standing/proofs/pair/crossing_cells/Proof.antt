@@ -13,7 +13,8 @@ use Rattle.factor.specs.Lent.{plotsOf}
 use Rattle.factor.specs.Sizes.{sizes}
 use Rattle.factor.proofs.Lent.{take-overlay}
 use Rattle.standing.specs.Cells.{Cover}
-use Rattle.standing.proofs.Listing.{cover-none, cover-listed, cover-sizes}
+use Rattle.standing.proofs.CellTable.{label-sizes}
+use Rattle.standing.proofs.Listing.{cover-none, cover-listed}
 use borrow.Author.Needs.{needs}
 use Rattle.standing.proofs.pair.crossing_cells.Statement.{statement}
 use Rattle.standing.proofs.pair.crossing_cells.Tie as tie
@@ -69,10 +70,10 @@ module _ (c : tie.After-infimum-listed) where
   room = omega (arith, sym (length-take (length F) below) ∙ ap length whole ∙ long)
 
 array-share-prefix-below : tie.Need-array-share-prefix-below
-array-share-prefix-below c = room c
+array-share-prefix-below c = omega (arith, room c, cover c .few)
 
 slice-aggregate-label-sizes : tie.Need-slice-aggregate-label-sizes
-slice-aggregate-label-sizes c = let d = c .before in sym (ap length (whole d) ∙ long d)
+slice-aggregate-label-sizes c = let d = c .before in sym (length-take-le _ (below d) (omega (arith, room d, cover d .few)))
 
 label-sizes-requires : tie.Need-label-sizes-requires
 label-sizes-requires c κs = search needs
@@ -101,7 +102,7 @@ crossing-listed-requires c κs =
     let e = sized .label-sizes .ensures ∙ ap (λ (b : List ℕ). sizes (plotsOf b)) (whole d) in (
       (s .pre .0, s .pre .1, s .pre .2, s .pre .4, cover-listed (F d) (G d) (cell-f d) (cell-g d) (k d) (even d) (s .pre .0) (cover d)),
       λ u h. omega (arith, s .pre .3, s .pre .5 u h),
-      cover-sizes (F d) (G d) (cell-f d) (cell-g d) (k d) (even d) (s .pre .0) (cover d) (sized .label-sizes .result) e,
+      label-sizes (infimum (F d) (G d)) (omega (arith, long d, s .pre .0)) (sized .label-sizes .result) e,
     )
 
 returns : tie.Need-returns

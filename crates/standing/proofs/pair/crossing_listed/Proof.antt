@@ -1,6 +1,6 @@
 -- `crossing_listed` meets its contract: the listed cells stand for all plots.
 -- Assumes nothing.
-use mathlib.Core.Path.{_≡_, refl, sym, ap, _∙_}
+use mathlib.Core.Path.{_≡_, sym, ap, _∙_}
 use mathlib.Core.Bool.{true}
 use mathlib.Core.List.{List}
 use Prim.Native.Nat.{ℕ, _≤_, _<_}
@@ -66,10 +66,10 @@ module _ (c : tie.After-join-labels) where
   joined = joins-supremum F G even X Y table (listed .stands) (c .join-labels .ensures .1 .1)
 
   by-first : (z : ℕ) → labelSum sizes X z ≡ labelled (length F) F z
-  by-first = sums-first F G X Y listed sizes (start .pre .2)
+  by-first = sums-first F G few (sym even) X Y listed sizes (start .pre .2)
 
   by-second : (z : ℕ) → labelSum sizes Y z ≡ labelled (length F) G z
-  by-second = sums-second F G X Y listed sizes (start .pre .2)
+  by-second = sums-second F G few (sym even) X Y listed sizes (start .pre .2)
 
   -- where it is known that all labels have one entry
   one-class : c .join-labels .result ≡ true → (0 < length F) × OneClass table F
@@ -77,19 +77,23 @@ module _ (c : tie.After-join-labels) where
 
 sum-cells-requires : tie.Need-sum-cells-requires
 sum-cells-requires c κs =
-    let k = c .before .before in
-    (omega (arith, listed k .few, few k), listed k .even, refl, refl, λ z. omega (arith, by-first k z, labelled-le (length (F k)) (F k) z, few k), λ z. omega (arith, by-second k z, labelled-le (length (F k)) (G k) z, few k))
+    (omega (arith, listed c .few, few c), λ z. omega (arith, by-first c z, labelled-le (length (F c)) (F c) z, few c))
+
+sum-cells-requires-2 : tie.Need-sum-cells-requires-2
+sum-cells-requires-2 c κs =
+    let k = c .before in
+    (omega (arith, listed k .few, listed k .even, few k), λ z. omega (arith, by-second k z, labelled-le (length (F k)) (G k) z, few k))
 
 -- the sizes of the labels
-module _ (c : tie.After-sum-cells) where
+module _ (c : tie.After-sum-cells2) where
   abbrev k : tie.After-join-labels
-  k = c .before .before .before
+  k = c .before .before
 
-  sizes-f : LabelSizes (F k) (c .sum-cells .last .1 .1 .1 .0)
-  sizes-f z h = c .sum-cells .ensures .0 z h ∙ by-first k z
+  sizes-f : LabelSizes (F k) (c .before .sum-cells .result)
+  sizes-f z h = c .before .sum-cells .ensures z h ∙ by-first k z
 
-  sizes-g : LabelSizes (G k) (c .sum-cells .last .1 .1 .1 .1 .0)
-  sizes-g z h = c .sum-cells .ensures .1 z h ∙ by-second k z ∙ ap (λ (n : ℕ). labelled n (G k) z) (sym (even k))
+  sizes-g : LabelSizes (G k) (c .sum-cells2 .result)
+  sizes-g z h = c .sum-cells2 .ensures z h ∙ by-second k z ∙ ap (λ (n : ℕ). labelled n (G k) z) (sym (even k))
 
 slice-aggregate-entry-sizes : tie.Need-slice-aggregate-entry-sizes
 slice-aggregate-entry-sizes c = search needs
@@ -97,7 +101,7 @@ slice-aggregate-entry-sizes c = search needs
 entry-sizes-requires : tie.Need-entry-sizes-requires
 entry-sizes-requires c κs =
     let sum = c .before .before in
-    let k = sum .before .before .before in
+    let k = sum .before .before in
     (k .join-labels .ensures .1 .0, few k, start k .pre .0 .2, below k, sizes-f sum, λ e. one-class k e .1)
 
 slice-aggregate-even-cells : tie.Need-slice-aggregate-even-cells
@@ -105,7 +109,7 @@ slice-aggregate-even-cells c = search needs
 
 even-cells-requires : tie.Need-even-cells-requires
 even-cells-requires c κs =
-    let k = c .before .before .before .before .before .before .before .before .before .before in
+    let k = c .before .before .before .before .before .before .before .before .before in
     (k .join-labels .ensures .1 .0, omega (arith, listed k .few, few k), listed k .even)
 
 slice-aggregate-number-joins : tie.Need-slice-aggregate-number-joins
@@ -113,7 +117,7 @@ slice-aggregate-number-joins c = search needs
 
 number-joins-requires : tie.Need-number-joins-requires
 number-joins-requires c κs =
-    let k = c .before .before .before .before .before .before .before .before .before .before .before .before .before in
+    let k = c .before .before .before .before .before .before .before .before .before .before .before .before in
     (k .join-labels .ensures .1 .0, few k, omega (arith, listed k .few, few k), stands-among (F k) (G k) (X k) (Y k) (listed k .stands), listed k .order, one-class k)
 
 returns : tie.Need-returns
@@ -121,13 +125,13 @@ returns c =
     let judged = c .before .before .before in
     let sized = judged .before .before .before .before .before in
     let sum = sized .before .before .before in
-    let k = sum .before .before .before in
+    let k = sum .before .before in
     let s = start k in (
       c .number-joins .ensures .0 ∙ classes-spread (F k) (G k) (even k) (table k) (joined k),
       (
         judged .even-cells .ensures
-            ∙ cells-orthogonal (F k) (G k) (even k) (λ u h. omega (arith, s .pre .0 .2, below k u h)) (s .pre .1) (X k) (Y k) (listed k .stands)
-            (table k) (k .join-labels .ensures .1 .1) (sizes k) (sized .entry-sizes .result) (sum .sum-cells .last .1 .1 .1 .0) (sum .sum-cells .last .1 .1 .1 .1 .0)
+            ∙ cells-orthogonal (F k) (G k) (few k) (even k) (λ u h. omega (arith, s .pre .0 .2, below k u h)) (s .pre .1) (X k) (Y k) (listed k)
+            (table k) (k .join-labels .ensures .1 .1) (sizes k) (sized .entry-sizes .result) (sum .before .sum-cells .result) (sum .sum-cells2 .result)
             (s .pre .2) (sized .entry-sizes .ensures) (sizes-f sum) (sizes-g sum),
         c .number-joins .ensures .1 ∙ ap (overlay (now (s .args .above))) (number-spread (F k) (G k) (even k) (table k) (joined k)),
       ),
@@ -139,6 +143,7 @@ crossing-listed-spec =
     (tie.spec
     join-labels-requires
     sum-cells-requires
+    sum-cells-requires-2
     slice-aggregate-entry-sizes
     entry-sizes-requires
     slice-aggregate-even-cells
