@@ -34,6 +34,9 @@ FAMILY_BYTES = MEMBERS * PLOTS
 # The kind of a family, for `name`.
 PLOT, TREATMENT = 0, 1
 
+# How the first factor stands to the second, by `compare`: the first that fits. 0 after a refusal.
+EQUIVALENT, FINER, COARSER, ORTHOGONAL, NOT_ORTHOGONAL = 1, 2, 3, 4, 5
+
 LIBRARY_NAME = "librachdoum.so"
 LIBRARY_VARIABLE = "RACHDOUM_LIBRARY"
 
@@ -50,6 +53,7 @@ _SIGNATURES = {
     "relation": _SLICE + [c_size_t] * 2 + [POINTER(c_uint32)],
     "degrees": _SLICE + [c_size_t] * 2 + [POINTER(c_int64)],
     "strata": (_SLICE + [c_size_t]) * 2 + [c_size_t, POINTER(c_int64)],
+    "compare": (_SLICE + [c_size_t] * 2) * 2 + [c_size_t, POINTER(c_uint64)],
     "name": _SLICE + _TABLE + _SLICE + [c_size_t] * 2 + [c_uint32, c_size_t] + _OUT + [POINTER(c_uint64)],
     "skeleton": _SLICE + _OUT + [POINTER(c_uint64)],
     "convert": _SLICE + _OUT + [POINTER(c_uint64)],
@@ -188,6 +192,27 @@ def strata(
         plot_family, len(plot_family), plot_size, treatment_family, len(treatment_family), treatment_size, plots, answer
     )
     return number, tuple(answer)
+
+
+def compare(
+    first_family: bytes, first_size: int, first_place: int, second_family: bytes, second_size: int, second_place: int, plots: int
+) -> Tuple[int, int]:
+    """How the member at a place (from 1) of one family stands to one of another. Answers the number and one of `EQUIVALENT` to
+    `NOT_ORTHOGONAL`, 0 after a refusal.
+
+    >>> number, counts, levels = read_sheet(b"p:Hut\\tt:Gain\\n1\\t1\\n1\\t2\\n2\\t1\\n2\\t2\\n")
+    >>> plots, treatments = full_design(levels, *counts, 6)[2:]
+    >>> compare(plots, 3, 2, treatments, 2, 2, 4) == (0, ORTHOGONAL)
+    True
+    >>> [compare(plots, 3, place, treatments, 2, 2, 4) for place in (1, 2, 3, 4)]
+    [(0, 3), (0, 4), (0, 2), (6, 0)]
+    """
+    answer = (c_uint64 * 1)()
+    number = load().rachdoum_compare(
+        first_family, len(first_family), first_size, first_place, second_family, len(second_family), second_size, second_place, plots,
+        answer,
+    )
+    return number, answer[0]
 
 
 def name(
