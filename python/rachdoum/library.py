@@ -50,6 +50,7 @@ _SIGNATURES = {
     "relation": _SLICE + [c_size_t] * 2 + [POINTER(c_uint32)],
     "degrees": _SLICE + [c_size_t] * 2 + [POINTER(c_int64)],
     "strata": (_SLICE + [c_size_t]) * 2 + [c_size_t, POINTER(c_int64)],
+    "compare": (_SLICE + [c_size_t] * 2) * 2 + [c_size_t, POINTER(c_uint64)],
     "name": _SLICE + _TABLE + _SLICE + [c_size_t] * 2 + [c_uint32, c_size_t] + _OUT + [POINTER(c_uint64)],
     "skeleton": _SLICE + _OUT + [POINTER(c_uint64)],
     "convert": _SLICE + _OUT + [POINTER(c_uint64)],
@@ -188,6 +189,25 @@ def strata(
         plot_family, len(plot_family), plot_size, treatment_family, len(treatment_family), treatment_size, plots, answer
     )
     return number, tuple(answer)
+
+
+def compare(
+    first_family: bytes, first_size: int, first_place: int, second_family: bytes, second_size: int, second_place: int, plots: int
+) -> Tuple[int, int]:
+    """How two members stand, each at a place (from 1) of its family. Answers the number and how the first stands to the second.
+
+    That is 1 equivalent, 2 finer, 3 coarser, 4 orthogonal without either being finer, 5 not orthogonal; 0 after a refusal.
+
+    >>> family = (bytes([1, 1]).ljust(240, b"\\0") + bytes([1, 2])).ljust(7680, b"\\0")
+    >>> [compare(family, 2, first, family, 2, second, 2) for first, second in ((1, 1), (2, 1), (1, 2), (1, 3))]
+    [(0, 1), (0, 2), (0, 3), (6, 0)]
+    """
+    answer = (c_uint64 * 1)()
+    number = load().rachdoum_compare(
+        first_family, len(first_family), first_size, first_place, second_family, len(second_family), second_size, second_place,
+        plots, answer,
+    )
+    return number, answer[0]
 
 
 def name(
