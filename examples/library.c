@@ -1,5 +1,6 @@
-/* Prints the table of a sheet and, after an empty line, against what each treatment is tested. Exits with 1 after a refusal. A sheet that
- * is numbered within parents (`p:Section/Bench`) is converted first. In place of a sheet a formula may be given.
+/* Prints the table of a sheet and, after an empty line, against what each treatment is tested. After a refusal it exits with 1 and, where
+ * members are not orthogonal, says which. A sheet that is numbered within parents (`p:Section/Bench`) is converted first. In place of a sheet
+ * a formula may be given.
  *
  *     cc -Iinclude -o library examples/library.c target/staticlib/librachdoum.a
  *     ./library examples/huts.sheet
@@ -87,6 +88,33 @@ static void print_tests(void) {
   }
 }
 
+/* All members of a family, or of two, that are not orthogonal: the refusal has the places of the first pair only. */
+static void print_pairs(int first, int second) {
+  uint64_t stands;
+  size_t i, j;
+  for (i = 1; i <= sizes[first]; i++)
+    for (j = first == second ? i + 1 : 1; j <= sizes[second]; j++) {
+      rachdoum_compare(families[first], sizeof families[first], sizes[first], i, families[second], sizeof families[second], sizes[second],
+                       j, plots, &stands);
+      if (stands == RACHDOUM_NOT_ORTHOGONAL) {
+        print_name(first, i);
+        printf(" and ");
+        print_name(second, j);
+        printf(" are not orthogonal\n");
+      }
+    }
+}
+
+static void print_refusal(uint32_t refusal) {
+  printf("Question %" PRIu32 " fails (docs/REFUSALS.md).\n", refusal);
+  if (refusal == RACHDOUM_REFUSED_PLOTS_NOT_ORTHOGONAL)
+    print_pairs(PLOT, PLOT);
+  if (refusal == RACHDOUM_REFUSED_TREATMENTS_NOT_ORTHOGONAL)
+    print_pairs(TREATMENT, TREATMENT);
+  if (refusal == RACHDOUM_REFUSED_PLOT_AND_TREATMENT_NOT_ORTHOGONAL)
+    print_pairs(PLOT, TREATMENT);
+}
+
 /* Reads a file into the text. Answers whether it could. */
 static int read_text(const char *path) {
   FILE *file = fopen(path, "rb");
@@ -115,7 +143,7 @@ int main(int count, char **arguments) {
   }
   printf("\n");
   if (refusal != RACHDOUM_ACCEPTED) {
-    printf("Question %" PRIu32 " fails (docs/REFUSALS.md).\n", refusal);
+    print_refusal(refusal);
     return 1;
   }
   print_tests();

@@ -1,5 +1,6 @@
-//! Prints the table of a sheet and, after an empty line, against what each treatment is tested. Exits with 1 after a refusal. A sheet
-//! that is numbered within parents (`p:Section/Bench`) is converted first. In place of a sheet a formula may be given.
+//! Prints the table of a sheet and, after an empty line, against what each treatment is tested. After a refusal it exits with 1 and, where
+//! members are not orthogonal, says which. A sheet that is numbered within parents (`p:Section/Bench`) is converted first. In place of a
+//! sheet a formula may be given.
 //!
 //!     rustc -O -L target/staticlib -l static=rachdoum examples/library.rs
 //!     ./library examples/huts.sheet
@@ -18,6 +19,7 @@ mod rachdoum {
     pub const NAME: usize = 160;
     pub const TABLE: usize = 32768;
     pub const SHEET: usize = 32768;
+    pub const NOT_ORTHOGONAL: u64 = 5;
     pub type Level = u32;
 
     extern "C" {
@@ -30,6 +32,10 @@ mod rachdoum {
         pub fn rachdoum_strata(
             plot_family: *const u8, plot_family_len: usize, plot_size: usize, treatment_family: *const u8,
             treatment_family_len: usize, treatment_size: usize, plots: usize, answer: *mut i64,
+        ) -> u32;
+        pub fn rachdoum_compare(
+            first_family: *const u8, first_family_len: usize, first_size: usize, first_place: usize, second_family: *const u8,
+            second_family_len: usize, second_size: usize, second_place: usize, plots: usize, answer: *mut u64,
         ) -> u32;
         pub fn rachdoum_name(
             text: *const u8, text_len: usize, levels: *const Level, levels_len: usize, family: *const u8, family_len: usize,
@@ -93,28 +99,50 @@ impl Family<'_> {
         };
         String::from_utf8_lossy(&name[..length[0] as usize]).into_owned()
     }
+
+    /// How the member at a place stands to one of this or of another family.
+    fn stands(&self, place: usize, other: &Family, other_place: usize) -> u64 {
+        let mut answer = [0; 1];
+        unsafe {
+            rachdoum_compare(
+                self.members.as_ptr(), FAMILY, self.size, place, other.members.as_ptr(), FAMILY, other.size, other_place, self.plots,
+                answer.as_mut_ptr(),
+            )
+        };
+        answer[0]
+    }
 }
 
-/// Reads the sheet, makes both families and prints against what each treatment is tested. Err has the refusal.
-fn print_tests(text: &[u8]) -> Result<(), u32> {
-    let ok = |refusal| if refusal == 0 { Ok(()) } else { Err(refusal) };
-    let (mut levels, mut read, mut made) = ([0; LEVELS], [0; 3], [0; 4]);
-    ok(unsafe { rachdoum_read_sheet(text.as_ptr(), text.len(), levels.as_mut_ptr(), LEVELS, read.as_mut_ptr()) })?;
+/// Reads the sheet and makes both families: the refusal of the design, 0 for none, and the families. After some refusals one is written
+/// too. Err has the refusal of the sheet.
+fn design<'a>(text: &'a [u8], levels: &'a mut [Level]) -> Result<(u32, [Family<'a>; 2]), u32> {
+    let (mut read, mut made) = ([0; 3], [0; 4]);
+    let refusal = unsafe { rachdoum_read_sheet(text.as_ptr(), text.len(), levels.as_mut_ptr(), levels.len(), read.as_mut_ptr()) };
+    if refusal != 0 {
+        return Err(refusal);
+    }
     let [plots, plot_columns, treatment_columns] = read.map(|count| count as usize);
     let (mut first, mut second) = ([0; FAMILY], [0; FAMILY]);
-    ok(unsafe {
+    let refusal = unsafe {
         rachdoum_full_design(
-            levels.as_ptr(), LEVELS, plots, plot_columns, treatment_columns, INTERACTION, first.as_mut_ptr(), FAMILY,
+            levels.as_ptr(), levels.len(), plots, plot_columns, treatment_columns, INTERACTION, first.as_mut_ptr(), FAMILY,
             second.as_mut_ptr(), FAMILY, made.as_mut_ptr(),
         )
-    })?;
-    let of_plots = Family { text, levels: &levels, plots, kind: 0, members: first, size: made[2] as usize };
+    };
+    let of_plots = Family { text, levels, plots, kind: 0, members: first, size: made[2] as usize };
     let treatments = Family { kind: 1, members: second, size: made[3] as usize, ..of_plots };
-    let mut strata = [0; 2 * MEMBERS];
-    ok(unsafe {
-        rachdoum_strata(first.as_ptr(), FAMILY, of_plots.size, second.as_ptr(), FAMILY, treatments.size, plots, strata.as_mut_ptr())
-    })?;
-    let degrees = treatments.degrees();
+    Ok((refusal, [of_plots, treatments]))
+}
+
+/// Prints against what each treatment is tested.
+fn print_tests([of_plots, treatments]: &[Family; 2]) {
+    let (mut strata, degrees) = ([0; 2 * MEMBERS], treatments.degrees());
+    unsafe {
+        rachdoum_strata(
+            of_plots.members.as_ptr(), FAMILY, of_plots.size, treatments.members.as_ptr(), FAMILY, treatments.size, of_plots.plots,
+            strata.as_mut_ptr(),
+        )
+    };
     // The first member is U, the mean, which nobody tests.
     for place in 2..=treatments.size {
         let stratum = strata[place - 1] as usize;
@@ -124,7 +152,35 @@ fn print_tests(text: &[u8]) -> Result<(), u32> {
             residual => println!("{name} ({df} df) is tested in {} against {residual} df", of_plots.name(stratum)),
         }
     }
-    Ok(())
+}
+
+/// Prints all members of a family, or of two, that are not orthogonal: the refusal has the places of the first pair only.
+fn print_pairs(first: &Family, second: &Family) {
+    for i in 1..=first.size {
+        for j in if first.kind == second.kind { i + 1 } else { 1 }..=second.size {
+            if first.stands(i, second, j) == NOT_ORTHOGONAL {
+                println!("{} and {} are not orthogonal", first.name(i), second.name(j));
+            }
+        }
+    }
+}
+
+/// Prints what is said after the table. Answers whether the sheet is accepted.
+fn print_design(sheet: Result<Vec<u8>, u32>) -> bool {
+    let mut levels = [0; LEVELS];
+    let designed = sheet.as_ref().map_err(|refusal| *refusal).and_then(|sheet| design(sheet, &mut levels));
+    let refusal = designed.as_ref().map_or_else(|refusal| *refusal, |(refusal, _)| *refusal);
+    if refusal != 0 {
+        println!("Question {refusal} fails (docs/REFUSALS.md).");
+    }
+    match designed {
+        Ok((0, families)) => print_tests(&families),
+        Ok((10, [of_plots, _])) => print_pairs(&of_plots, &of_plots),
+        Ok((12, [_, treatments])) => print_pairs(&treatments, &treatments),
+        Ok((13, [of_plots, treatments])) => print_pairs(&of_plots, &treatments),
+        _ => (),
+    }
+    refusal == 0
 }
 
 /// The sheet of a formula or of a file. Err has what is wrong with the call; the other one, inside, has the refusal.
@@ -153,9 +209,5 @@ fn main() -> ExitCode {
         return ExitCode::from(2);
     }
     println!();
-    if let Err(refusal) = sheet.and_then(|sheet| print_tests(&sheet)) {
-        println!("Question {refusal} fails (docs/REFUSALS.md).");
-        return ExitCode::FAILURE;
-    }
-    ExitCode::SUCCESS
+    if print_design(sheet) { ExitCode::SUCCESS } else { ExitCode::FAILURE }
 }

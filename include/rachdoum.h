@@ -65,6 +65,15 @@ enum rachdoum_refusal {
   RACHDOUM_REFUSED_PARENT = 23 /* a parent is no plot column further left */
 };
 
+/* How one factor stands to another, by `rachdoum_compare`: the first that fits, each said of the first factor. 0 after a refusal. */
+enum rachdoum_comparison {
+  RACHDOUM_EQUIVALENT = 1, /* the same classes */
+  RACHDOUM_FINER = 2, /* plots that share its class always share one of the second factor */
+  RACHDOUM_COARSER = 3, /* the other way round */
+  RACHDOUM_ORTHOGONAL = 4, /* without either being finer */
+  RACHDOUM_NOT_ORTHOGONAL = 5
+};
+
 /* Reads a sheet into a level table: questions 1 to 5. Column c, plot u (from 0) is number 240 * c + u; plot columns take c = 0 to 5,
  * treatment columns 6 to 11. Answer: plots, plot columns, treatment columns. A refusal writes no level. */
 uint32_t rachdoum_read_sheet(const uint8_t *text, size_t text_len, rachdoum_level *levels, size_t levels_len, uint64_t answer[3]);
@@ -92,6 +101,15 @@ uint32_t rachdoum_degrees(const uint8_t *family, size_t family_len, size_t plots
  * its residual degrees of freedom. */
 uint32_t rachdoum_strata(const uint8_t *plot_family, size_t plot_family_len, size_t plot_size, const uint8_t *treatment_family,
                          size_t treatment_family_len, size_t treatment_size, size_t plots, int64_t answer[2 * RACHDOUM_MEMBERS]);
+
+/* How the member at a place (from 1) of one family stands to the member at a place of another family, or of the same: questions 6 and 15.
+ * 15 judges both families whole, whichever members are asked about; they need not be closed. Two members are orthogonal when for each class
+ * K of their supremum, and each class A of the first and B of the second inside K, the number of plots that A and B share times that of K is
+ * that of A times that of B. A design is refused by 10, 12 or 13 for two members that are not orthogonal, and the relation has a bit where
+ * the answer is finer. Answer: one of `enum rachdoum_comparison`. */
+uint32_t rachdoum_compare(const uint8_t *first_family, size_t first_family_len, size_t first_size, size_t first_place,
+                          const uint8_t *second_family, size_t second_family_len, size_t second_size, size_t second_place, size_t plots,
+                          uint64_t answer[1]);
 
 /* The name of the member at a place (from 1) of a family: questions 2, 3, 6, 7 and 15. `kind` is 0 for a plot family, any other number
  * for a treatment family; the sheet's first line gives the column names, the level table the columns. The name is the first of these that

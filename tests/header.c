@@ -1,6 +1,6 @@
 /* The header against the library: memory of the stated length is enough and one less is refused, names look at the columns that it says,
- * levels of 32 bits are taken whole, each refusal has the number that its name stands for, and threads with small stacks may call at once.
- * Called from the root of the repository. */
+ * levels of 32 bits are taken whole, each refusal and each way in which two members stand has the number that its name stands for, and
+ * threads with small stacks may call at once. Called from the root of the repository. */
 #include "../include/rachdoum.h"
 
 #include <pthread.h>
@@ -111,6 +111,61 @@ static void families(void) {
   answers("no stratum",
           rachdoum_strata(plot_family, RACHDOUM_FAMILY, 1, plot_family, RACHDOUM_FAMILY, RACHDOUM_MEMBERS, 32, strata),
           RACHDOUM_REFUSED_NO_STRATUM);
+}
+
+/* The length of a family's buffer, its size, and the place that is asked about. */
+struct asked {
+  size_t family_len, size, place;
+};
+
+/* A member of the plot family beside one of the treatment family. */
+static uint32_t compare(struct asked first, struct asked second, size_t plots) {
+  return rachdoum_compare(plot_family, first.family_len, first.size, first.place, treatment_family, second.family_len, second.size,
+                          second.place, plots, length);
+}
+
+static const struct asked good = {RACHDOUM_FAMILY, 4, 2};
+
+/* What is refused in the first family is in the second, and nothing is answered then. */
+static void refused(const char *what, size_t family_len, size_t size, size_t place, enum rachdoum_refusal wanted) {
+  struct asked other = {family_len, size, place};
+  answers(what, compare(other, good, PLOTS), wanted);
+  answers(what, length[0] != 0, RACHDOUM_ACCEPTED);
+  answers(what, compare(good, other, PLOTS), wanted);
+  answers(what, length[0] != 0, RACHDOUM_ACCEPTED);
+}
+
+static void stands(const char *what, size_t first, size_t second, enum rachdoum_comparison wanted) {
+  struct asked f = {RACHDOUM_FAMILY, 4, first}, g = {RACHDOUM_FAMILY, 4, second};
+  answers(what, compare(f, g, PLOTS), RACHDOUM_ACCEPTED);
+  answers(what, length[0] != (uint64_t)wanted, RACHDOUM_ACCEPTED);
+}
+
+static void comparisons(void) {
+  /* U, two halves, and the plots one by one; then U, the first of the halves, one plot apart, and the plots one by one. */
+  static const uint8_t first[4][PLOTS] = {{1, 1, 1, 1}, {1, 1, 2, 2}, {1, 2, 1, 2}, {1, 2, 3, 4}};
+  static const uint8_t second[4][PLOTS] = {{1, 1, 1, 1}, {1, 1, 1, 2}, {1, 1, 2, 2}, {1, 2, 3, 4}};
+  size_t i;
+  for (i = 0; i < 4; i++) {
+    memcpy(plot_family + RACHDOUM_PLOTS * i, first[i], PLOTS);
+    memcpy(treatment_family + RACHDOUM_PLOTS * i, second[i], PLOTS);
+  }
+  stands("equivalent members", 2, 3, RACHDOUM_EQUIVALENT);
+  stands("a finer member", 4, 3, RACHDOUM_FINER);
+  stands("a coarser member", 1, 2, RACHDOUM_COARSER);
+  stands("orthogonal members", 3, 3, RACHDOUM_ORTHOGONAL);
+  stands("members that are not orthogonal", 2, 2, RACHDOUM_NOT_ORTHOGONAL);
+  refused("a family to compare, one less", RACHDOUM_FAMILY - 1, 4, 2, RACHDOUM_REFUSED_CALL);
+  refused("place 0", RACHDOUM_FAMILY, 4, 0, RACHDOUM_REFUSED_CALL);
+  refused("a place behind the last", RACHDOUM_FAMILY, 4, 5, RACHDOUM_REFUSED_CALL);
+  refused("a place in no members", RACHDOUM_FAMILY, 0, 1, RACHDOUM_REFUSED_CALL);
+  refused("33 members and their last", RACHDOUM_FAMILY, 33, 33, RACHDOUM_REFUSED_FORM_OF_FAMILY);
+  refused("33 members and one behind", RACHDOUM_FAMILY, 33, 34, RACHDOUM_REFUSED_CALL);
+  refused("the largest size and place", RACHDOUM_FAMILY, SIZE_MAX, SIZE_MAX, RACHDOUM_REFUSED_FORM_OF_FAMILY);
+  answers("no plots to compare", compare(good, good, 0), RACHDOUM_REFUSED_CALL);
+  answers("too many plots to compare", compare(good, good, RACHDOUM_PLOTS + 1), RACHDOUM_REFUSED_CALL);
+  treatment_family[3 * RACHDOUM_PLOTS] = 2;
+  answers("a member that is none elsewhere", compare(good, good, PLOTS), RACHDOUM_REFUSED_FORM_OF_FAMILY);
 }
 
 static uint32_t read_lines(const char *lines) {
@@ -251,6 +306,7 @@ int main(void) {
   lengths();
   member_names();
   families();
+  comparisons();
   wide_levels();
   parents();
   formulas();

@@ -20,16 +20,19 @@ step() {
 }
 
 # tests_of TABLE: what the examples say after the table. A treatment is tested against the residual of its stratum, where there is one.
+# Two names in a refusal are those of the first members that are not orthogonal; a file beside the table (.pairs) has the others.
 tests_of() {
-  awk -F'\t' '
+  local pairs=${1%.table}.pairs
+  { [[ ! -e $pairs ]] || cat "$pairs"; awk -F'\t' '
     $1 == "refused" { print "Question " $2 " fails (docs/REFUSALS.md)." }
+    $1 == "refused" && $4 != "-" { print $3 " and " $4 " are not orthogonal" }
     $2 == "=residual" { residual[$1] = $3 }
     NR > 1 && $1 != "U" && $2 !~ /^=/ { stratum[++count] = $1; source[count] = $2 " (" $3 " df)" }
     END {
       for (i = 1; i <= count; i++)
         if (stratum[i] in residual) print source[i] " is tested in " stratum[i] " against " residual[stratum[i]] " df"
         else print source[i] " cannot be tested: no residual in " stratum[i]
-    }' "$1" | sort
+    }' "$1"; } | sort
 }
 
 # status_of TABLE: 1 for a refusal
@@ -62,6 +65,20 @@ if [[ $(tests_of "$work/sheets/untested.table" | head -n 1) != 'Filter (1 df) ca
   echo 'library: the test itself does not see what cannot be tested'
   bad=1
 fi
+
+# Three ways to pair six plots, no pair twice: no two of them are orthogonal. A cell of two pairs that meet has 1 plot of 6, and 1 × 6 is not
+# 2 × 2.
+tr ' ' '\t' >"$work/sheets/three-pairs.sheet" <<'END'
+p:Hut p:Week p:Pier
+1 1 1
+1 2 2
+2 1 3
+2 3 1
+3 2 3
+3 3 2
+END
+printf 'refused\t10\tHut\tWeek\n' >"$work/sheets/three-pairs.table"
+printf '%s and Pier are not orthogonal\n' Hut Week >"$work/sheets/three-pairs.pairs"
 
 # arguments_for FILE: what the examples are called with; a formula stands in the call itself
 arguments_for() {
@@ -100,9 +117,11 @@ tables() {
   [[ $count -gt 1 && $wrong -eq 0 ]] && echo "library: $1: $count sheets and formulas as expected" || bad=1
 }
 
-# same_constants: the examples that cannot include the header have its lengths and its type of a level
+# same_constants: the examples that cannot include the header have its lengths, its type of a level and its number of an answer
 same_constants() {
   local word value bits
+  value=$(sed -n 's/^  RACHDOUM_NOT_ORTHOGONAL = \([0-9]*\)$/\1/p' include/rachdoum.h)
+  grep -q "^    pub const NOT_ORTHOGONAL: u64 = $value;$" examples/library.rs && grep -q "^NOT_ORTHOGONAL = $value$" examples/library.py || return 1
   bits=$(sed -n 's/^typedef uint\([0-9]*\)_t rachdoum_level;$/\1/p' include/rachdoum.h)
   grep -q "^    pub type Level = u$bits;$" examples/library.rs && grep -q "^level = c_uint$bits$" examples/library.py || return 1
   for word in INTERACTION MEMBERS LEVELS FAMILY NAME TABLE SHEET; do

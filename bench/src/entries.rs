@@ -2,7 +2,7 @@
 //! A new entry is a function here and its line in the list. The one that takes formulas stands beside the list.
 
 use crate::sheets::{with_parents, Sheet};
-use reference::{Entries, Level, COLUMNS, FAMILY, FAST, INTERACTIONS, LEVELS, NAME, PLOTS, SHEET, TABLE};
+use reference::{Comparison, Entries, Level, COLUMNS, FAMILY, FAST, INTERACTIONS, LEVELS, NAME, PLOTS, SHEET, TABLE};
 use std::fmt::Debug;
 
 /// A call that can be made again and again, of either implementation; its answer and its memory are handed to `keep`.
@@ -24,6 +24,8 @@ pub static ALL: &[Entry] = &[
     Entry { title: "relation", call: relation },
     Entry { title: "degrees", call: degrees },
     Entry { title: "strata", call: strata },
+    Entry { title: "compare", call: compare },
+    Entry { title: "compare_all", call: compare_all },
     Entry { title: "name", call: |trial| name(trial, 0) },
     Entry { title: "name_treatment", call: |trial| name(trial, 1) },
     Entry { title: "name_all", call: name_all },
@@ -141,6 +143,28 @@ fn degrees(trial: &Trial) -> Call {
 fn strata(trial: &Trial) -> Call {
     let Trial { plots, families: [first, second], sizes: [a, b], .. } = trial.clone();
     Box::new(move |entries, keep| keep(&((entries.strata)(&first, a, &second, b, plots), &first, &second)))
+}
+
+/// A plot member and a treatment member of which neither is finer, so that all is asked of them: the finest such plot member, and the first
+/// one that goes with it. Where there are none, the members in the middle.
+fn compare(trial: &Trial) -> Call {
+    let Trial { plots, families: [first, second], sizes: [a, b], .. } = trial.clone();
+    let pairs = (1..=a).rev().flat_map(|i| (1..=b).map(move |j| (i, j)));
+    let neither = |&(i, j): &(usize, usize)| (FAST.compare)(&first, a, i, &second, b, j, plots).1[0] > Comparison::Coarser as u64;
+    let (i, j) = pairs.into_iter().find(neither).unwrap_or((a.div_ceil(2), b.div_ceil(2)));
+    Box::new(move |entries, keep| keep(&((entries.compare)(&first, a, i, &second, b, j, plots), &first, &second)))
+}
+
+/// Each plot member with each treatment member, one pair after the other.
+fn compare_all(trial: &Trial) -> Call {
+    let Trial { plots, families: [first, second], sizes: [a, b], .. } = trial.clone();
+    let mut answers = vec![(0, [0]); a * b];
+    Box::new(move |entries, keep| {
+        for (pair, answer) in answers.iter_mut().enumerate() {
+            *answer = (entries.compare)(&first, a, 1 + pair / b, &second, b, 1 + pair % b, plots);
+        }
+        keep(&(&answers, &first, &second));
+    })
 }
 
 /// The member in the middle of the plot family or of the treatment family.

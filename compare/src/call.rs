@@ -17,13 +17,14 @@ pub struct Call {
     pub k: usize,
     pub kind: usize,
     pub place: usize,
-    /// The sizes of the families that are handed over.
+    /// The sizes of the families that are handed over, and a place in each of two.
     pub sizes: [usize; 2],
+    pub places: [usize; 2],
     /// The lengths of what is lent for writing: level table, family, both families, name, table or sheet.
     pub lent: [usize; 2],
     pub text: Vec<u8>,
     pub levels: Vec<Level>,
-    /// Families that are read: the plot family and the treatment family, or one family at the first place.
+    /// Families that are read: the plot family and the treatment family, any two, or one family at the first place.
     pub families: [Vec<u8>; 2],
 }
 
@@ -41,6 +42,7 @@ impl Call {
             ("kind", from_mut(&mut self.kind)),
             ("place", from_mut(&mut self.place)),
             ("sizes", &mut self.sizes),
+            ("places", &mut self.places),
             ("lent", &mut self.lent),
         ]
     }

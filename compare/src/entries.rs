@@ -13,8 +13,8 @@ pub struct Entry {
     pub title: &'static str,
     /// The refusals that it can answer: a run has to see each.
     pub refusals: &'static [u32],
-    /// Where it prints a text that tells a refusal.
-    pub printed: Option<Printed>,
+    /// Where its answer tells something that a run has to see too.
+    pub told: Option<Told>,
     /// A call made at random.
     pub make: fn(&mut Random) -> Call,
     /// Runs a call on one implementation.
@@ -27,10 +27,13 @@ pub struct Entry {
     pub calls: u64,
 }
 
-/// The refusals that a printed text has to tell in a run, 0 for none, and what an outcome's text tells.
-pub struct Printed {
-    pub refusals: &'static [u32],
-    pub told: fn(&Outcome) -> u32,
+/// What an answer without a refusal tells, as a number: the refusal in a printed text, 0 for none, or how two factors stand.
+pub struct Told {
+    /// What it is called in the table of a run.
+    pub title: &'static str,
+    /// The numbers that a run has to see.
+    pub numbers: &'static [u32],
+    pub of: fn(&Outcome) -> u32,
 }
 
 /// A fault put into the library on purpose: what it is, and the entries with it in place.
@@ -80,6 +83,7 @@ entries! {
     number,
     convert,
     formula,
+    compare,
 }
 
 /// The entry of this name.

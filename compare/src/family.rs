@@ -10,7 +10,7 @@ use reference::{Level, PLOTS};
 use std::collections::BTreeMap;
 
 /// Numbered by first appearance.
-fn numbered<T: Ord>(labels: &[T]) -> Vec<u8> {
+pub fn numbered<T: Ord>(labels: &[T]) -> Vec<u8> {
     let mut seen = BTreeMap::new();
     let mut next = 0;
     labels.iter().map(|label| *seen.entry(label).or_insert_with(|| { next += 1; next })).collect()
@@ -73,7 +73,7 @@ pub fn of_columns(random: &mut Random, trial: &Trial, kind: usize) -> Vec<Vec<u8
 }
 
 /// By number of classes, then by the first plot where two differ; none twice.
-fn in_order(members: &mut Vec<Vec<u8>>) {
+pub fn in_order(members: &mut Vec<Vec<u8>>) {
     members.sort_by_key(|member| (member.iter().copied().max(), member.clone()));
     members.dedup();
 }

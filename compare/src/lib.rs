@@ -14,9 +14,11 @@ pub mod levels;
 pub mod memory;
 pub mod names;
 pub mod old_sheet;
+pub mod pairs;
 pub mod random;
 pub mod sheet;
 pub mod shrink;
+pub mod standing;
 pub mod trial;
 
 #[cfg(feature = "library")]

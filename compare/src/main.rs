@@ -3,7 +3,7 @@
 use compare::call::Call;
 use compare::case;
 use compare::check::{affordable, check, Checked};
-use compare::entries::{self, Entry, Fault, FAULTS, LIBRARY};
+use compare::entries::{self, Entry, Fault, Told, FAULTS, LIBRARY};
 use compare::shrink::shrink;
 use reference::{Entries, QUESTIONS};
 use std::path::{Path, PathBuf};
@@ -29,7 +29,7 @@ struct Asked {
     self_test: bool,
 }
 
-/// How often each refusal was seen, 0 for none.
+/// How often each refusal was seen, 0 for none, or each number that an answer tells.
 type Seen = [u64; QUESTIONS + 1];
 
 /// How often an entry was called, with the literal version too, and with which refusals.
@@ -38,14 +38,14 @@ struct Tally {
     calls: u64,
     literal: u64,
     refusals: Seen,
-    printed: Seen,
+    told: Seen,
     differences: u64,
 }
 
 impl Tally {
     fn new(entry: &'static Entry) -> Tally {
         let none = [0; QUESTIONS + 1];
-        Tally { entry, calls: 0, literal: 0, refusals: none, printed: none, differences: 0 }
+        Tally { entry, calls: 0, literal: 0, refusals: none, told: none, differences: 0 }
     }
 
     fn count(&mut self, checked: &Checked) {
@@ -53,8 +53,8 @@ impl Tally {
         self.literal += u64::from(checked.literal);
         self.differences += u64::from(checked.difference.is_some());
         self.refusals[(checked.outcome.refusal as usize).min(QUESTIONS)] += 1;
-        if let Some(printed) = self.entry.printed.as_ref().filter(|_| checked.outcome.refusal == 0) {
-            self.printed[((printed.told)(&checked.outcome) as usize).min(QUESTIONS)] += 1;
+        if let Some(told) = self.entry.told.as_ref().filter(|_| checked.outcome.refusal == 0) {
+            self.told[((told.of)(&checked.outcome) as usize).min(QUESTIONS)] += 1;
         }
     }
 }
@@ -180,8 +180,8 @@ fn print_table(tallies: &[Tally]) {
     row("refusal", "calls", "literal", &numbers.iter().map(usize::to_string).collect::<Vec<String>>());
     for tally in tallies {
         row(tally.entry.title, &tally.calls.to_string(), &tally.literal.to_string(), &cells(&tally.refusals));
-        if tally.entry.printed.is_some() {
-            row("  as printed", "", "", &cells(&tally.printed));
+        if let Some(told) = &tally.entry.told {
+            row(&format!("  {}", told.title), "", "", &cells(&tally.told));
         }
     }
     let sum = |field: fn(&Tally) -> u64| tallies.iter().map(field).sum::<u64>();
@@ -191,11 +191,11 @@ fn print_table(tallies: &[Tally]) {
 
 /// Whether a refusal has a column in the table: 0 for none has, and those that an entry can give or that were seen.
 fn has_column(tallies: &[Tally], number: usize) -> bool {
-    let given = |tally: &Tally| tally.entry.refusals.contains(&(number as u32)) || tally.refusals[number] + tally.printed[number] > 0;
+    let given = |tally: &Tally| tally.entry.refusals.contains(&(number as u32)) || tally.refusals[number] + tally.told[number] > 0;
     number == 0 || tallies.iter().any(given)
 }
 
-/// Whether each entry gave each refusal that it has, and each that its printed text can tell was printed.
+/// Whether each entry gave each refusal that it has, and its answers told all that they can tell.
 fn all_reached(tallies: &[Tally]) -> bool {
     let missing = |title: &str, numbers: &[u32], seen: &Seen| {
         let missing: Vec<u32> = numbers.iter().copied().filter(|&number| seen[number as usize] == 0).collect();
@@ -206,9 +206,9 @@ fn all_reached(tallies: &[Tally]) -> bool {
     };
     let reached = |tally: &Tally| {
         let entry = tally.entry;
-        let told = entry.printed.as_ref().map_or(&[][..], |printed| printed.refusals);
-        let answers = missing(entry.title, entry.refusals, &tally.refusals);
-        !missing(&format!("the text of {}", entry.title), told, &tally.printed) && !answers
+        let refused = missing(entry.title, entry.refusals, &tally.refusals);
+        let untold = |told: &Told| missing(&format!("{} {}", entry.title, told.title), told.numbers, &tally.told);
+        !entry.told.as_ref().is_some_and(untold) && !refused
     };
     let reached: Vec<bool> = tallies.iter().map(reached).collect();
     !reached.contains(&false)

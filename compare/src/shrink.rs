@@ -64,7 +64,7 @@ fn measure(call: &Call) -> usize {
 }
 
 /// Pieces of a whole, the large ones first.
-fn pieces(whole: usize) -> Vec<(usize, usize)> {
+pub fn pieces(whole: usize) -> Vec<(usize, usize)> {
     let mut found = Vec::new();
     let mut size = whole;
     while size > 0 {
@@ -75,7 +75,7 @@ fn pieces(whole: usize) -> Vec<(usize, usize)> {
 }
 
 /// A step as it is kept.
-fn step(run: impl Fn(&mut Call) -> Option<()> + 'static) -> Step {
+pub fn step(run: impl Fn(&mut Call) -> Option<()> + 'static) -> Step {
     Box::new(run)
 }
 
@@ -222,7 +222,7 @@ pub fn tables(call: &Call) -> Vec<Step> {
     found
 }
 
-fn drop_plots(call: &mut Call, from: usize, count: usize) -> Option<()> {
+pub fn drop_plots(call: &mut Call, from: usize, count: usize) -> Option<()> {
     if call.plots > PLOTS || from + count > call.plots {
         return None;
     }
@@ -312,6 +312,8 @@ fn drop_member(call: &mut Call, which: usize, i: usize) -> Option<()> {
     let end = family.len();
     family[end - PLOTS..].fill(0);
     call.sizes[which] -= 1;
+    // A place behind it stays that of the same member.
+    call.places[which] -= usize::from(call.places[which] > i + 1);
     Some(())
 }
 

@@ -140,17 +140,34 @@ fn as_levels(random: &mut Random, labels: &[usize]) -> Vec<Level> {
 
 /// Plot columns and treatment columns on the same plots, the plots in any order.
 pub fn trial(random: &mut Random) -> Trial {
+    let (radix, plots) = shape(random);
+    shaped(random, &radix, plots)
+}
+
+/// Two trials on the same plots that were made one by one.
+pub fn two_trials(random: &mut Random) -> [Trial; 2] {
+    let (radix, plots) = shape(random);
+    [0, 1].map(|_| shaped(random, &radix, plots))
+}
+
+/// The sizes of a factorial, and the number of plots: their product, now and then another one.
+fn shape(random: &mut Random) -> (Vec<usize>, usize) {
     let radix = factorial(random);
     let mut plots: usize = radix.iter().product();
     if random.once_in(12) {
         plots = 1 + random.below(plots + 3).min(PLOTS - 1);
     }
+    (radix, plots)
+}
+
+/// A trial of this shape.
+fn shaped(random: &mut Random, radix: &[usize], plots: usize) -> Trial {
     let mut order: Vec<usize> = (0..plots).collect();
     if random.once_in(2) {
         random.shuffle(&mut order);
     }
     let mut kind = || -> Vec<Vec<Level>> {
-        let found = labelled(random, plots, &radix);
+        let found = labelled(random, plots, radix);
         let moved = |column: &Vec<usize>| -> Vec<usize> { order.iter().map(|&u| column[u]).collect() };
         found.iter().map(|column| as_levels(random, &moved(column))).collect()
     };

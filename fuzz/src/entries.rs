@@ -27,6 +27,7 @@ entries! {
     strata,
     relation,
     degrees,
+    compare,
     name,
     number,
 }

@@ -36,6 +36,17 @@ pub const FORMULA: usize = 256;
 /// The last question's number: refusals are numbered from 1 to this.
 pub const QUESTIONS: usize = 23;
 
+/// How one factor stands to another, by the number that is answered. The first that fits is said, each of the first factor.
+#[derive(Clone, Copy, Debug, PartialEq, Eq)]
+pub enum Comparison {
+    Equivalent = 1,
+    Finer = 2,
+    Coarser = 3,
+    /// Without either being finer.
+    Orthogonal = 4,
+    NotOrthogonal = 5,
+}
+
 /// An entry that writes a sheet from a text into a buffer; refusal and the sheet's length.
 pub type Writer = fn(&[u8], &mut [u8]) -> (u32, [u64; 1]);
 
@@ -71,6 +82,9 @@ macro_rules! entries {
             convert: Writer,
             /// A formula, buffer for the sheet of its structure; refusal and the sheet's length (6, 17, 18).
             formula: Writer,
+            /// First family, its size, a place in it, second family, its size, a place in it, plots; refusal and how the first member
+            /// stands to the second, a [`Comparison`] (6, 15).
+            compare: fn(&[u8], usize, usize, &[u8], usize, usize, usize) -> (u32, [u64; 1]),
         }
     };
 }

@@ -19,7 +19,7 @@ fn setting(name: &str, default: u64) -> u64 {
 fn agree(entry: &'static Entry) {
     let (seed, first) = (setting("REFERENCE_SEED", 20_080_101), setting("REFERENCE_FIRST", 0));
     let count = setting("REFERENCE_CASES", entry.calls);
-    let (mut seen, mut printed, mut suprema) = (BTreeMap::new(), BTreeMap::new(), 0);
+    let (mut seen, mut told, mut suprema) = (BTreeMap::new(), BTreeMap::new(), 0);
     for index in first..first.saturating_add(count) {
         let call = entry.call(seed, index);
         let found = (entry.run)(&call, &FAST);
@@ -28,17 +28,17 @@ fn agree(entry: &'static Entry) {
             panic!("{}: {difference}; alone: {alone}", entry.title);
         }
         *seen.entry(found.refusal).or_insert(0) += 1;
-        if let Some(text) = entry.printed.as_ref().filter(|_| found.refusal == 0) {
-            *printed.entry((text.told)(&found)).or_insert(0) += 1;
+        if let Some(by) = entry.told.as_ref().filter(|_| found.refusal == 0) {
+            *told.entry((by.of)(&found)).or_insert(0) += 1;
         }
         suprema += u64::from(names(entry) && found.refusal == 0 && has_supremum(&found));
     }
     let with = if names(entry) { format!(", {suprema} with a supremum named") } else { String::new() };
-    println!("{}: seed {seed}, {count} cases, by refusal {seen:?}{}{with}", entry.title, more(&printed));
+    println!("{}: seed {seed}, {count} cases, by refusal {seen:?}{}{with}", entry.title, more(entry, &told));
     if count >= entry.calls {
         assert!(entry.refusals.iter().all(|number| seen.contains_key(number)), "{}: each refusal occurs: {seen:?}", entry.title);
-        let told = entry.printed.as_ref().map_or(&[][..], |text| text.refusals);
-        assert!(told.iter().all(|number| printed.contains_key(number)), "{}: each refusal is printed: {printed:?}", entry.title);
+        let numbers = entry.told.as_ref().map_or(&[][..], |by| by.numbers);
+        assert!(numbers.iter().all(|number| told.contains_key(number)), "{}: each number is told: {told:?}", entry.title);
         assert!(!names(entry) || suprema > count / 20, "{}: suprema are named often: {suprema}", entry.title);
     }
 }
@@ -53,9 +53,9 @@ fn has_supremum(found: &Outcome) -> bool {
     found.bytes[0][GUARD..GUARD + found.answer[0] as usize].windows(2).any(|pair| pair == b"S(")
 }
 
-/// What the printed tables tell.
-fn more(printed: &BTreeMap<u32, u64>) -> String {
-    if printed.is_empty() { String::new() } else { format!(", as printed {printed:?}") }
+/// What the answers tell.
+fn more(entry: &Entry, told: &BTreeMap<u32, u64>) -> String {
+    entry.told.as_ref().map_or(String::new(), |by| format!(", {} {told:?}", by.title))
 }
 
 /// The kept cases of the comparison: each is answered as it says, by both.

@@ -10,7 +10,7 @@ use reference::{Entries, SHEET};
 pub static ENTRY: Entry = Entry {
     title: "convert",
     refusals: &[2, 3, 4, 5, 6, 23],
-    printed: None,
+    told: None,
     make,
     run,
     plots: |_| 0,

@@ -10,7 +10,7 @@ use reference::{Entries, SHEET};
 pub static ENTRY: Entry = Entry {
     title: "formula",
     refusals: &[6, 17, 18],
-    printed: None,
+    told: None,
     make,
     run,
     plots: |_| 0,

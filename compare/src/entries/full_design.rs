@@ -10,7 +10,7 @@ use reference::{Entries, FAMILY};
 pub static ENTRY: Entry = Entry {
     title: "full_design",
     refusals: &[6, 7, 8, 9, 10, 11, 12, 13, 14],
-    printed: None,
+    told: None,
     make,
     run,
     plots: |call| call.plots,

@@ -13,7 +13,7 @@ use reference::{Entries, COLUMNS, FAMILY, LEVELS, NAME, PLOTS};
 pub static ENTRY: Entry = Entry {
     title: "name",
     refusals: &[2, 3, 6, 7, 15],
-    printed: None,
+    told: None,
     make,
     run,
     plots: |_| 0,

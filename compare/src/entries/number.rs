@@ -14,7 +14,7 @@ use reference::{Entries, Level, PLOTS};
 pub static ENTRY: Entry = Entry {
     title: "number",
     refusals: &[],
-    printed: None,
+    told: None,
     make,
     run,
     plots: |_| 0,

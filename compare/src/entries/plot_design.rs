@@ -10,7 +10,7 @@ use reference::{Entries, FAMILY};
 pub static ENTRY: Entry = Entry {
     title: "plot_design",
     refusals: &[6, 7, 8, 9, 10],
-    printed: None,
+    told: None,
     make,
     run,
     plots: |call| call.plots,

@@ -10,7 +10,7 @@ use reference::{Entries, LEVELS};
 pub static ENTRY: Entry = Entry {
     title: "read_sheet",
     refusals: &[1, 2, 3, 4, 5],
-    printed: None,
+    told: None,
     make,
     run,
     plots: |_| 0,

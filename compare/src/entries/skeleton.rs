@@ -1,6 +1,6 @@
 //! The printed table: text, buffer for the table; the printed text's length.
 
-use super::{Entry, Printed};
+use super::{Entry, Told};
 use crate::call::{Call, Outcome};
 use crate::memory::{inner, lent_bytes, GUARD};
 use crate::random::Random;
@@ -10,7 +10,7 @@ use reference::{Entries, TABLE};
 pub static ENTRY: Entry = Entry {
     title: "skeleton",
     refusals: &[6],
-    printed: Some(Printed { refusals: &[0, 2, 3, 4, 5, 8, 9, 10, 11, 12, 13, 14], told }),
+    told: Some(Told { title: "as printed", numbers: &[0, 2, 3, 4, 5, 8, 9, 10, 11, 12, 13, 14], of: told }),
     make,
     run,
     plots: |call| call.text.iter().filter(|&&byte| byte == 10).count(),

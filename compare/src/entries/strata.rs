@@ -12,7 +12,7 @@ use reference::{Entries, FAMILY};
 pub static ENTRY: Entry = Entry {
     title: "strata",
     refusals: &[6, 15, 16],
-    printed: None,
+    told: None,
     make,
     run,
     plots: |_| 0,
