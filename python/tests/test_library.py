@@ -75,6 +75,34 @@ class Entries(unittest.TestCase):
         number, answer = library.strata(plots, 3, treatments, 2, 4)
         self.assertEqual((number, answer[:3], answer[32:36]), (0, (1, 3, 0), (0, 1, 1, 0)))
 
+    def test_compare(self):
+        first, second = family([1] * 4, [1, 1, 2, 2], [1, 2, 1, 2], [1, 2, 3, 4]), family([1, 1, 1, 2], [1, 1, 2, 2], [1, 2, 2, 3])
+        # 1,1,2,2 beside 1,1,1,2 in one class of 4: 2 plots shared times 4 is not 2 times 3. Beside 1,2,1,2: 1 times 4 is 2 times 2.
+        # 1,2,1,2 beside 1,2,2,3 in one class of 4: 1 plot shared times 4 is not 2 times 1.
+        for i, j, case in ((2, 2, 1), (4, 1, 2), (4, 3, 2), (1, 1, 3), (1, 3, 3), (3, 2, 4), (2, 1, 5), (3, 3, 5)):
+            self.assertEqual(library.compare(first, 4, i, second, 3, j, 4), (0, case), (i, j))
+            other = {2: 3, 3: 2}.get(case, case)
+            self.assertEqual(library.compare(second, 3, j, first, 4, i, 4), (0, other), (j, i))
+
+    def test_compare_within_the_supremum(self):
+        # Two classes of 4 that no chain joins, in each 1 times 4 is 2 times 2, though 1 times 8 is not.
+        first, second = family([1, 1, 2, 2, 3, 3, 4, 4]), family([1, 2, 1, 2, 3, 4, 3, 4])
+        self.assertEqual(library.compare(first, 1, 1, second, 1, 1, 8), (0, 4))
+
+    def test_compare_refusals(self):
+        good = family([1, 1, 1, 1], [1, 1, 2, 2])
+        bad = family([1, 1, 2, 2], [1, 1, 2, 2])
+        for members, size, place, number in (
+            (good, 2, 0, 6), (good, 2, 3, 6), (good, 0, 1, 6), (good, 0, 0, 6), (good, 33, 33, 15), (good, 33, 34, 6), (good, 32, 1, 15),
+            (good[:-1], 2, 1, 6), (good + b"\0", 2, 1, 0), (bad, 2, 1, 15), (bad, 1, 1, 0), (bad, 2, 3, 6),
+        ):
+            with self.subTest(size=size, place=place):
+                self.assertEqual(library.compare(members, size, place, good, 2, 2, 4)[0], number)
+                self.assertEqual(library.compare(good, 2, 2, members, size, place, 4)[0], number)
+        self.assertEqual(library.compare(good, 2, 1, good, 2, 2, 0), (6, 0))
+        self.assertEqual(library.compare(good, 2, 1, good, 2, 2, 241), (6, 0))
+        self.assertEqual(library.compare(good, 2, 1, bad, 2, 2, 4), (15, 0))
+
     def test_name(self):
         _, _, levels = library.read_sheet(HUTS)
         plots = family([1] * 4, [1, 1, 2, 2], [1, 2, 3, 4])
