@@ -14,15 +14,18 @@ from .planning import Factor, Family, Nested, factors_of, prepare, raise_call
 from .refusals import meeting
 from .tables import Table, WrongCall, row_of, split_mark
 
-# What the library's numbers 1 to 5 stand for.
-ANSWERS = ("equivalent", "finer", "coarser", "orthogonal", "not orthogonal")
+# What is said of the first of two factors.
+ANSWERS = {
+    library.EQUIVALENT: "equivalent", library.FINER: "finer", library.COARSER: "coarser", library.ORTHOGONAL: "orthogonal",
+    library.NOT_ORTHOGONAL: "not orthogonal",
+}
 
 _SENTENCES = {
-    "equivalent": "{first} and {second} are equivalent: plots have the same {a} exactly when they have the same {b}.",
-    "finer": "{first} is finer than {second}: plots with the same {a} always have the same {b}, but not the other way round.",
-    "coarser": "{first} is coarser than {second}: plots with the same {b} always have the same {a}, but not the other way round.",
-    "orthogonal": "{first} and {second} are orthogonal, and neither is finer: they cross evenly.",
-    "not orthogonal": "{first} and {second} are not orthogonal: ",
+    library.EQUIVALENT: "{first} and {second} are equivalent: plots have the same {a} exactly when they have the same {b}.",
+    library.FINER: "{first} is finer than {second}: plots with the same {a} always have the same {b}, but not the other way round.",
+    library.COARSER: "{first} is coarser than {second}: plots with the same {b} always have the same {a}, but not the other way round.",
+    library.ORTHOGONAL: "{first} and {second} are orthogonal, and neither is finer: they cross evenly.",
+    library.NOT_ORTHOGONAL: "{first} and {second} are not orthogonal: {meeting}",
 }
 
 
@@ -71,8 +74,7 @@ def compare_in(table: Table, first: str, second: str, k: int) -> Comparison:
     buffers = [Family(size, (factor.classes,)).to_bytes() for factor in (one, other)]
     number, case = library.compare(buffers[0], 1, 1, buffers[1], 1, 1, size)
     raise_call(number)
-    answer = ANSWERS[case - 1]
-    return Comparison(one.name, other.name, answer, _sentence(table, one, other, answer))
+    return Comparison(one.name, other.name, ANSWERS[case], _sentence(table, one, other, case))
 
 
 def _tidy(name: str) -> str:
@@ -105,6 +107,6 @@ def _noun(factor: Factor) -> str:
     return plural(factor.name)[0] if factor.columns == (factor.name,) else f"class of {factor.name}"
 
 
-def _sentence(table: Table, one: Factor, other: Factor, answer: str) -> str:
-    text = _SENTENCES[answer].format(first=one.name, second=other.name, a=_noun(one), b=_noun(other))
-    return text + meeting(table, one, other) if answer == "not orthogonal" else text
+def _sentence(table: Table, one: Factor, other: Factor, case: int) -> str:
+    shown = meeting(table, one, other) if case == library.NOT_ORTHOGONAL else ""
+    return _SENTENCES[case].format(first=one.name, second=other.name, a=_noun(one), b=_noun(other), meeting=shown)

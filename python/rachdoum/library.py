@@ -34,6 +34,9 @@ FAMILY_BYTES = MEMBERS * PLOTS
 # The kind of a family, for `name`.
 PLOT, TREATMENT = 0, 1
 
+# How the first factor stands to the second, by `compare`: the first that fits. 0 after a refusal.
+EQUIVALENT, FINER, COARSER, ORTHOGONAL, NOT_ORTHOGONAL = 1, 2, 3, 4, 5
+
 LIBRARY_NAME = "librachdoum.so"
 LIBRARY_VARIABLE = "RACHDOUM_LIBRARY"
 
@@ -194,18 +197,20 @@ def strata(
 def compare(
     first_family: bytes, first_size: int, first_place: int, second_family: bytes, second_size: int, second_place: int, plots: int
 ) -> Tuple[int, int]:
-    """How two members stand, each at a place (from 1) of its family. Answers the number and how the first stands to the second.
+    """How the member at a place (from 1) of one family stands to one of another. Answers the number and one of `EQUIVALENT` to
+    `NOT_ORTHOGONAL`, 0 after a refusal.
 
-    That is 1 equivalent, 2 finer, 3 coarser, 4 orthogonal without either being finer, 5 not orthogonal; 0 after a refusal.
-
-    >>> family = (bytes([1, 1]).ljust(240, b"\\0") + bytes([1, 2])).ljust(7680, b"\\0")
-    >>> [compare(family, 2, first, family, 2, second, 2) for first, second in ((1, 1), (2, 1), (1, 2), (1, 3))]
-    [(0, 1), (0, 2), (0, 3), (6, 0)]
+    >>> number, counts, levels = read_sheet(b"p:Hut\\tt:Gain\\n1\\t1\\n1\\t2\\n2\\t1\\n2\\t2\\n")
+    >>> plots, treatments = full_design(levels, *counts, 6)[2:]
+    >>> compare(plots, 3, 2, treatments, 2, 2, 4) == (0, ORTHOGONAL)
+    True
+    >>> [compare(plots, 3, place, treatments, 2, 2, 4) for place in (1, 2, 3, 4)]
+    [(0, 3), (0, 4), (0, 2), (6, 0)]
     """
     answer = (c_uint64 * 1)()
     number = load().rachdoum_compare(
-        first_family, len(first_family), first_size, first_place, second_family, len(second_family), second_size, second_place,
-        plots, answer,
+        first_family, len(first_family), first_size, first_place, second_family, len(second_family), second_size, second_place, plots,
+        answer,
     )
     return number, answer[0]
 

@@ -76,32 +76,33 @@ class Entries(unittest.TestCase):
         self.assertEqual((number, answer[:3], answer[32:36]), (0, (1, 3, 0), (0, 1, 1, 0)))
 
     def test_compare(self):
-        first, second = family([1] * 4, [1, 1, 2, 2], [1, 2, 1, 2], [1, 2, 3, 4]), family([1, 1, 1, 2], [1, 1, 2, 2], [1, 2, 2, 3])
-        # 1,1,2,2 beside 1,1,1,2 in one class of 4: 2 plots shared times 4 is not 2 times 3. Beside 1,2,1,2: 1 times 4 is 2 times 2.
-        # 1,2,1,2 beside 1,2,2,3 in one class of 4: 1 plot shared times 4 is not 2 times 1.
-        for i, j, case in ((2, 2, 1), (4, 1, 2), (4, 3, 2), (1, 1, 3), (1, 3, 3), (3, 2, 4), (2, 1, 5), (3, 3, 5)):
-            self.assertEqual(library.compare(first, 4, i, second, 3, j, 4), (0, case), (i, j))
-            other = {2: 3, 3: 2}.get(case, case)
-            self.assertEqual(library.compare(second, 3, j, first, 4, i, 4), (0, other), (j, i))
-
-    def test_compare_within_the_supremum(self):
-        # Two classes of 4 that no chain joins, in each 1 times 4 is 2 times 2, though 1 times 8 is not.
-        first, second = family([1, 1, 2, 2, 3, 3, 4, 4]), family([1, 2, 1, 2, 3, 4, 3, 4])
-        self.assertEqual(library.compare(first, 1, 1, second, 1, 1, 8), (0, 4))
+        square = family([1, 1, 1, 1], [1, 1, 2, 2], [1, 2, 1, 2], [1, 2, 3, 4])
+        answers = [[library.compare(square, 4, i, square, 4, j, 4) for j in range(1, 5)] for i in range(1, 5)]
+        expected = [[1, 3, 3, 3], [2, 1, 4, 3], [2, 4, 1, 3], [2, 2, 2, 1]]
+        self.assertEqual(answers, [[(0, answer) for answer in row] for row in expected])
+        for first, second, answer in (
+            ("1122", "1122", library.EQUIVALENT), ("112233", "111122", library.FINER), ("111122", "112233", library.COARSER),
+            # Within each half 1 x 4 = 2 x 2; rows of 3 and 6 plots, columns of 3 and 6.
+            ("11223344", "12123434", library.ORTHOGONAL), ("111222222", "122112222", library.ORTHOGONAL),
+            # Classes of the supremum that do not meet; a plot moved.
+            ("112233", "121323", library.NOT_ORTHOGONAL), ("111222222", "122112221", library.NOT_ORTHOGONAL),
+        ):
+            one, other = family(map(int, first)), family(map(int, second))
+            self.assertEqual(library.compare(one, 1, 1, other, 1, 1, len(first)), (0, answer), (first, second))
 
     def test_compare_refusals(self):
         good = family([1, 1, 1, 1], [1, 1, 2, 2])
-        bad = family([1, 1, 2, 2], [1, 1, 2, 2])
-        for members, size, place, number in (
-            (good, 2, 0, 6), (good, 2, 3, 6), (good, 0, 1, 6), (good, 0, 0, 6), (good, 33, 33, 15), (good, 33, 34, 6), (good, 32, 1, 15),
-            (good[:-1], 2, 1, 6), (good + b"\0", 2, 1, 0), (bad, 2, 1, 15), (bad, 1, 1, 0), (bad, 2, 3, 6),
+        numbered, ordered = family([1, 1, 1, 1], [1, 1, 2, 2], [1, 1, 2, 4]), family([1, 2, 1, 2], [1, 1, 2, 2])
+        for other, number in (
+            ((good, 2, 0), 6), ((good, 2, 3), 6), ((good, 0, 0), 6), ((good, 0, 1), 6), ((good, 33, 33), 15), ((good, 33, 34), 6),
+            ((good[:-1], 2, 1), 6), ((good, 2**64 - 1, 2**64 - 1), 15), ((good, 2, 2**32 + 1), 6), ((numbered, 3, 1), 15),
+            ((ordered, 2, 1), 15), ((numbered, 2, 1), 0), ((numbered, 3, 4), 6), ((good + b"\7", 2, 1), 0),
         ):
-            with self.subTest(size=size, place=place):
-                self.assertEqual(library.compare(members, size, place, good, 2, 2, 4)[0], number)
-                self.assertEqual(library.compare(good, 2, 2, members, size, place, 4)[0], number)
-        self.assertEqual(library.compare(good, 2, 1, good, 2, 2, 0), (6, 0))
-        self.assertEqual(library.compare(good, 2, 1, good, 2, 2, 241), (6, 0))
-        self.assertEqual(library.compare(good, 2, 1, bad, 2, 2, 4), (15, 0))
+            for first, second in ((other, (good, 2, 1)), ((good, 2, 1), other)):
+                answer = library.compare(*first, *second, 4)
+                self.assertEqual((answer[0], answer[1] != 0), (number, number == 0), other[1:])
+        for plots in (0, 241, 2**32 + 4, 2**64 - 1):
+            self.assertEqual(library.compare(good, 2, 1, good, 2, 1, plots), (6, 0))
 
     def test_name(self):
         _, _, levels = library.read_sheet(HUTS)
@@ -207,6 +208,12 @@ class Header(unittest.TestCase):
         }
         for name, number in re.findall(r"#define RACHDOUM_(\w+) (\d+)", self.text):
             self.assertEqual((name, int(number)), (name, own[name]))
+
+    def test_how_factors_stand(self):
+        names = re.findall(r"  RACHDOUM_(\w+) = (\d+)", self.text.split("enum rachdoum_comparison {")[1].split("}")[0])
+        self.assertEqual([int(number) for _, number in names], [1, 2, 3, 4, 5])
+        for name, number in names:
+            self.assertEqual((name, int(number)), (name, getattr(library, name)))
 
     def test_width_of_a_level(self):
         bits = 8 * ctypes.sizeof(library.LEVEL)
