@@ -56,7 +56,7 @@ done
 grep -qxF "    $(cat "$work/out")" README.md || complain 'README does not show how two factors stand'
 [[ $(./plan compare examples/refused-13.sheet Hut Gain --tsv 2>&1) == $'compared\tHut\tGain\tnot orthogonal' ]] || complain 'compare in a refused sheet'
 ./plan compare examples/huts.sheet Filter Hat >"$work/out" 2>"$work/err"
-[[ $? -eq 2 && ! -s $work/out && -s $work/err ]] || complain 'a factor that there is not'
+[[ $? -eq 2 && ! -s $work/out && -s $work/err ]] || complain 'an unknown factor'
 ./plan "$work/missing" >"$work/out" 2>"$work/err"
 [[ $? -eq 2 && ! -s $work/out && -s $work/err ]] || complain 'a missing file'
 

@@ -38,7 +38,7 @@ COMPARISON = """\
 Says how two factors of a table stand, also where its design is refused: equivalent, the first finer or coarser than the second, orthogonal
 without either being finer, or not orthogonal. A factor is a column or a name that the table or a refusal has: U, E, I(Hut,Week), S(Hut,Week),
 #2. In a shell a name with brackets or # stands in quotation marks. Where #2 is a grouping of the plots and another of the treatments, p:#2 is
-the first and t:#2 the second. The exit status is 0 for every answer, 1 for a refusal, 2 for a wrong call, such as a name that there is not.
+the first and t:#2 the second. The exit status is 0 for every answer, 1 for a refusal, 2 for a wrong call, such as an unknown name.
 """
 
 EXAMPLES = """\

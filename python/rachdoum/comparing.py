@@ -95,7 +95,7 @@ def _find(table: Table, refused: int, known: List[Factor], given: str) -> Factor
 
 
 def _unknown(table: Table, refused: int, known: List[Factor], given: str) -> str:
-    """What is said of a name that there is not: the names that there are and, after a refusal, why there are no more."""
+    """What is said of an unknown name: the names that there are and, after a refusal, why there may be no more."""
     columns = [column.name for column in table.columns]
     others = list(dict.fromkeys(factor.name for factor in known if factor.name not in columns))
     text = f"there is no factor {given!r}: {table.source} has {row_of(columns)}, {row_of(others)}"
