@@ -19,7 +19,7 @@ pub struct Pair {
     pub places: [usize; 2],
 }
 
-/// A pair in order, now and then with more members in a family than there may be.
+/// A pair in order, now and then with as many members in a family as there may be, or more.
 pub fn pair(random: &mut Random) -> Pair {
     let (plots, mut families) = families(random);
     if random.once_in(4) {
@@ -29,8 +29,12 @@ pub fn pair(random: &mut Random) -> Pair {
         if random.once_in(3) {
             members.retain(|_| !random.once_in(4));
         }
+        if random.once_in(8) {
+            let classes = 2 + random.below(plots.min(5));
+            members.extend((0..MEMBERS + 8).map(|_| division(random, plots, classes)));
+        }
         in_order(members);
-        members.truncate(if random.once_in(10) { MEMBERS + 2 } else { MEMBERS });
+        members.truncate(if random.once_in(4) { MEMBERS + 2 } else { MEMBERS });
         if members.is_empty() {
             members.push(vec![1; plots]);
         }
@@ -60,11 +64,15 @@ fn families(random: &mut Random) -> (usize, [Members; 2]) {
         5 => in_blocks(random, ring),
         _ => {
             let plots = 1 + random.below(8);
-            let mut division = || numbered(&(0..plots).map(|_| random.below(plots)).collect::<Vec<usize>>());
-            let all: Members = (0..12).map(|_| division()).collect();
+            let all: Members = (0..12).map(|_| division(random, plots, plots)).collect();
             (plots, [all[..8].to_vec(), all[4..].to_vec()])
         }
     }
+}
+
+/// Any division of the plots into at most so many classes.
+fn division(random: &mut Random, plots: usize, classes: usize) -> Vec<u8> {
+    numbered(&(0..plots).map(|_| random.below(classes)).collect::<Vec<usize>>())
 }
 
 /// A row and a column for each plot.
