@@ -27,7 +27,8 @@ installed() {
   (
     cd "$work" && unset RACHDOUM_LIBRARY && export PYTHONPATH=$work/site &&
       site/bin/rachdoum plan --tsv huts.sheet | cmp - huts.table &&
-      site/bin/rachdoum formula 'Hut=4/Pier=3' | cmp - hut-pier.sheet
+      site/bin/rachdoum formula 'Hut=4/Pier=3' | cmp - hut-pier.sheet &&
+      [[ $(site/bin/rachdoum compare --tsv huts.sheet Filter Hut) == $'compared\tFilter\tHut\tcoarser' ]]
   )
 }
 

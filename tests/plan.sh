@@ -1,6 +1,6 @@
 #!/usr/bin/env bash
-# `./plan` as a user meets it: README shows the example's sheet and what is printed for it; the tables of all examples, the sheets of formulas
-# and the exit statuses.
+# `./plan` as a user meets it: README shows the example's sheet and what is printed for it; the tables of all examples, the sheets of formulas,
+# how two factors stand, and the exit statuses.
 set -u
 cd "$(dirname "$0")/.." || exit 1
 work=$(mktemp -d) || exit 1
@@ -51,6 +51,12 @@ for sheet in examples/*.formula examples/*.old; do
   [[ -e ${sheet%.*}.sheet ]] || continue
   ./plan "${given[@]}" 2>&1 | cmp -s - "${sheet%.*}.sheet" || complain "$sheet: not its sheet"
 done
+# how two factors stand, also in a refused sheet
+./plan compare examples/huts.sheet Filter Hut >"$work/out" 2>&1 || complain 'compare fails'
+grep -qxF "    $(cat "$work/out")" README.md || complain 'README does not show how two factors stand'
+[[ $(./plan compare examples/refused-13.sheet Hut Gain --tsv 2>&1) == $'compared\tHut\tGain\tnot orthogonal' ]] || complain 'compare in a refused sheet'
+./plan compare examples/huts.sheet Filter Hat >"$work/out" 2>"$work/err"
+[[ $? -eq 2 && ! -s $work/out && -s $work/err ]] || complain 'an unknown factor'
 ./plan "$work/missing" >"$work/out" 2>"$work/err"
 [[ $? -eq 2 && ! -s $work/out && -s $work/err ]] || complain 'a missing file'
 

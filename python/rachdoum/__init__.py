@@ -11,6 +11,7 @@
 The proved library decides everything; this package reads tables, asks it and presents what it answers. `rachdoum.library` has the
 entries themselves, byte for byte.
 """
+from .comparing import Comparison, compare
 from .library import LibraryMissing
 from .notes import Note, notes_on
 from .planning import (
@@ -40,7 +41,7 @@ from .tables import Table, WrongCall
 __version__ = "1.0.0"
 
 __all__ = [
-    "Family", "Levels", "LibraryMissing", "Member", "Note", "Plan", "Refusal", "Relation", "Source", "Stratum", "Table",
-    "WrongCall", "convert", "degrees", "formula", "full_design", "name", "notes_on", "plan", "plot_design", "read_file", "read_sheet",
-    "relation", "skeleton", "strata",
+    "Comparison", "Family", "Levels", "LibraryMissing", "Member", "Note", "Plan", "Refusal", "Relation", "Source", "Stratum", "Table",
+    "WrongCall", "compare", "convert", "degrees", "formula", "full_design", "name", "notes_on", "plan", "plot_design", "read_file",
+    "read_sheet", "relation", "skeleton", "strata",
 ]

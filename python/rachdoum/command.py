@@ -7,12 +7,13 @@ import sys
 from typing import Any, Dict, List, Optional
 
 from . import __version__, formulas, library
+from .comparing import compare_in
 from .nesting import Pair
 from .notes import Note, notes_on
 from .planning import Plan, convert, formula, formula_table, plan_of, prepare
 from .refusals import Refusal
 from .sheets import read_file
-from .show import aligned, as_dictionary, note_as_dictionary, refusal_as_dictionary
+from .show import aligned, as_dictionary, comparison_as_dictionary, note_as_dictionary, refusal_as_dictionary
 from .tables import Table, WrongCall, row_of, sheet
 
 TABLE_GIVEN, REFUSED, WRONG_CALL, INTERRUPTED = 0, 1, 2, 130
@@ -33,6 +34,13 @@ to which the treatments can be added. / puts what comes later inside what comes 
 brackets say what belongs together. In a shell the formula stands in quotation marks.
 """
 
+COMPARISON = """\
+Says how two factors of a table stand, also where its design is refused: equivalent, the first finer or coarser than the second, orthogonal
+without either being finer, or not orthogonal. A factor is a column or a name that the table or a refusal has: U, E, I(Hut,Week), S(Hut,Week),
+#2. In a shell a name with brackets or # stands in quotation marks. Where #2 is a grouping of the plots and another of the treatments, p:#2 is
+the first and t:#2 the second. The exit status is 0 for every answer, 1 for a refusal, 2 for a wrong call, such as an unknown name.
+"""
+
 EXAMPLES = """\
 A file has one line for each plot below a line that names the columns. p: marks how the plots lie (hut, pier, week),
 t: marks what is done to them (gain, cable). Levels may be numbers or texts. CSV with commas or semicolons and text with
@@ -49,6 +57,7 @@ examples:
   rachdoum convert old.sheet > new.sheet            with consecutive numbers in place of those that start again
   rachdoum plan --formula 'Hut=4/Pier=3'            four huts with three piers each: the strata, before there are treatments
   rachdoum formula 'Hut=4/Pier=3' > trial.sheet     the sheet of it, to which the treatments can be added
+  rachdoum compare trial.csv Pier Hut               how two factors stand: finer, coarser, orthogonal or not
 
 In the table, U is the mean of all plots and E is every plot by itself. I(Gain,Cable) is the combinations of two columns.
 S(Hut,Week) is the coarser grouping that two columns share: plots are together when a chain of plots joins them, each step
@@ -75,25 +84,40 @@ def parser() -> argparse.ArgumentParser:
     plan.add_argument(
         "--crossed", action="append", default=[], metavar="ONE,OTHER", help="the two do cross: no note about them"
     )
-    plan.add_argument(
-        "--k", type=int, default=library.INTERACTIONS, choices=range(1, library.INTERACTIONS + 1),
-        help="combine at most so many treatments (default: %(default)s)",
-    )
-    form_of_table = plan.add_mutually_exclusive_group()
-    form_of_table.add_argument("--tsv", action="store_true", help="the table separated by tabs, for programs")
-    form_of_table.add_argument("--json", action="store_true", help="everything as JSON, for programs")
+    _add_form(plan)
     plan.add_argument("--quiet", action="store_true", help="no notes")
-    sheet_of = commands.add_parser(
-        "convert", help="print the sheet of a file, with consecutive numbers in place of those that start again",
-        description=CONVERSION,
+    sheet_of = _add_file(
+        commands, "convert", "print the sheet of a file, with consecutive numbers in place of those that start again", CONVERSION
     )
-    sheet_of.add_argument("files", nargs=1, metavar="FILE", help="a table of plots; - for standard input")
-    sheet_of.set_defaults(formula=None)
     _add_columns(sheet_of)
     formula_of = commands.add_parser("formula", help="print the sheet of a block formula", description=SHEET_OF_FORMULA)
     formula_of.add_argument("formula", metavar="FORMULA", help="such as 'Hut=4/Pier=3'")
     formula_of.set_defaults(files=[])
+    two = _add_file(commands, "compare", "say how two factors stand", COMPARISON)
+    two.add_argument("first", metavar="FIRST", help="a column, or a name such as 'I(Hut,Week)'")
+    two.add_argument("second", metavar="SECOND", help="the factor that the first is compared with")
+    _add_columns(two)
+    _add_form(two)
     return top
+
+
+def _add_file(commands: Any, name: str, does: str, description: str) -> argparse.ArgumentParser:
+    """A command that takes one file."""
+    command: argparse.ArgumentParser = commands.add_parser(name, help=does, description=description)
+    command.add_argument("files", nargs=1, metavar="FILE", help="a table of plots; - for standard input")
+    command.set_defaults(formula=None)
+    return command
+
+
+def _add_form(command: argparse.ArgumentParser) -> None:
+    """The arguments that say how treatments are combined, and in what form the answer is printed."""
+    command.add_argument(
+        "--k", type=int, default=library.INTERACTIONS, choices=range(1, library.INTERACTIONS + 1),
+        help="combine at most so many treatments (default: %(default)s)",
+    )
+    form = command.add_mutually_exclusive_group()
+    form.add_argument("--tsv", action="store_true", help="the answer separated by tabs, for programs")
+    form.add_argument("--json", action="store_true", help="everything as JSON, for programs")
 
 
 def _add_columns(command: argparse.ArgumentParser) -> None:
@@ -187,6 +211,20 @@ def _convert_table(given: Table, options: argparse.Namespace, output: Output) ->
     return TABLE_GIVEN
 
 
+def _compare_factors(given: Table, options: argparse.Namespace, output: Output) -> int:
+    """Prints how two factors of one table stand and answers the exit status."""
+    try:
+        table = prepare(given, _names(options.plots), _names(options.treatments), options.nested)
+        found = compare_in(table, options.first, options.second, options.k)
+    except Refusal as refusal:
+        return _print_refusal(given.source, refusal, refusal.tsv(), options, output)
+    if options.json:
+        output.documents.append({"file": table.source, **comparison_as_dictionary(found)})
+    else:
+        output.table(found.tsv() if options.tsv else f"{found}\n")
+    return TABLE_GIVEN
+
+
 def _print_plan(plan: Plan, notes: List[Note], options: argparse.Namespace, output: Output) -> None:
     if options.json:
         document: Dict[str, Any] = {"file": plan.table.source, **as_dictionary(plan)}
@@ -226,9 +264,9 @@ def _print_note(note: Note, heading: str, output: Output) -> None:
 
 
 def _each_file(options: argparse.Namespace, output: Output) -> int:
-    """Plans or converts each file and answers the exit status."""
+    """Plans or converts each file, or compares two factors of it, and answers the exit status."""
     status = TABLE_GIVEN
-    work = _plan_table if options.command == "plan" else _convert_table
+    work = {"plan": _plan_table, "convert": _convert_table, "compare": _compare_factors}[options.command]
     for path in options.files:
         try:
             table = read_file(path)

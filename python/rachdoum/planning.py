@@ -10,9 +10,9 @@ from dataclasses import dataclass, field, replace
 from typing import Any, List, Sequence, Tuple, Union
 
 from . import formulas, library, nesting, refusals
-from .refusals import Refusal
+from .refusals import Factor, Refusal
 from .sheets import read_bytes, read_table
-from .tables import Sheet, Table, choose, converted, nest, sheet, slashes
+from .tables import OWN_NAMES, PLOT, TREATMENT, Sheet, Table, choose, converted, nest, sheet, slashes
 
 Nested = Union[str, Sequence[Any]]
 MEAN = "U"
@@ -214,7 +214,7 @@ def plan_of(table: Table, k: int, strict: bool = False) -> Plan:
     number, answer = library.strata(
         first.to_bytes(), len(first.members), second.to_bytes(), len(second.members), first.plots
     )
-    _raise_call(number)
+    raise_call(number)
     places, residuals = answer[: library.MEMBERS], answer[library.MEMBERS :]
     plot_members, treatment_members = _members(first), _members(second)
     made = []
@@ -260,11 +260,12 @@ def _names(made: Sheet, levels: Any, family: bytes, plots: int, size: int, kind:
     """The library's names of all members."""
     answers = [library.name(made.text, levels, family, plots, size, kind, place) for place in range(1, size + 1)]
     for number, _ in answers:
-        _raise_call(number)
+        raise_call(number)
     return [name.decode("ascii") for _, name in answers]
 
 
-def _raise_call(number: int, k: int = library.INTERACTIONS) -> None:
+def raise_call(number: int, k: int = library.INTERACTIONS) -> None:
+    """A call that the library refuses is a `Refusal`."""
     if number:
         raise Refusal(number, *refusals.of_call(number, k), source="the call")
 
@@ -278,7 +279,7 @@ def _design(table: Table, k: int, strict: bool = False) -> Tuple[Family, Family]
     made, counts, levels = _read(table, strict)
     number, answer, first, second = library.full_design(levels, *counts, k)
     if number in (6, 7):
-        _raise_call(number, k)
+        raise_call(number, k)
     plots, sizes = counts[0], answer[2:4]
     if number == 0:
         return (
@@ -287,19 +288,39 @@ def _design(table: Table, k: int, strict: bool = False) -> Tuple[Family, Family]
         )
     kinds = {9: [0], 10: [0, 0], 12: [1, 1], 13: [0, 1]}.get(number, [])
     at_fault = [
-        _at_fault(made, levels, (first, second)[kind], plots, sizes[kind], kind, place)
+        _factor(made, levels, (first, second)[kind], plots, sizes[kind], kind, place)
         for kind, place in zip(kinds, answer[:2])
     ]
     raise refusals.of_design(table, number, answer[:2], sizes, at_fault, k, accepts)
 
 
-def _at_fault(
-    made: Sheet, levels: Any, family: bytes, plots: int, size: int, kind: int, place: int
-) -> refusals.Member:
+def _factor(made: Sheet, levels: Any, family: bytes, plots: int, size: int, kind: int, place: int) -> Factor:
+    """The member at a place of a family."""
     number, name = library.name(made.text, levels, family, plots, size, kind, place)
-    _raise_call(number)
+    raise_call(number)
     text = name.decode("ascii")
-    return refusals.Member(made.show(text), tuple(made.columns(text)), _cut(family, plots, size)[place - 1])
+    classes = _cut(family, plots, size)[place - 1]
+    return Factor(made.show(text), TREATMENT if kind == library.TREATMENT else PLOT, tuple(made.columns(text)), classes)
+
+
+def factors_of(table: Table, k: int) -> Tuple[int, List[Factor]]:
+    """The number of the design's refusal, 0 for none, and what has a name: the columns, U and E, then the members that are written.
+
+    The sheet has labels by first appearance, so a column is numbered as members are.
+    """
+    made, counts, levels = _read(table, False)
+    number, answer, *families = library.full_design(levels, *counts, k)
+    if number in (6, 7):
+        raise_call(number, k)
+    plots = counts[0]
+    found: List[Factor] = []
+    for kind, columns in zip((PLOT, TREATMENT), _columns(levels, counts)):
+        found += [Factor(c.name, kind, (c.name,), labels) for c, labels in zip(table.of_kind(kind), columns)]
+    for name, classes in zip(OWN_NAMES, ((1,) * plots, tuple(range(1, plots + 1)))):
+        found.append(Factor(name, PLOT, (), classes))
+    for side, (family, size) in enumerate(zip(families, answer[2:4])):
+        found += [_factor(made, levels, family, plots, size, side, place) for place in range(1, size + 1)]
+    return number, found
 
 
 # Each entry of the library
@@ -312,12 +333,14 @@ def read_sheet(table: Any, *, plots: Any = None, treatments: Any = None, nested:
     Levels(plots=2, plot_columns=((1, 2),), treatment_columns=((1, 1),))
     """
     _, counts, levels = _read(prepare(table, plots, treatments, nested), False)
+    return Levels(counts[0], *_columns(levels, counts))
 
-    def columns(start: int, count: int) -> Tuple[Tuple[int, ...], ...]:
-        places = [library.PLOTS * (start + c) for c in range(count)]
-        return tuple(tuple(levels[place : place + counts[0]]) for place in places)
 
-    return Levels(counts[0], columns(0, counts[1]), columns(library.COLUMNS, counts[2]))
+def _columns(levels: Any, counts: Tuple[int, ...]) -> List[Tuple[Tuple[int, ...], ...]]:
+    """The labels of the plot columns and of the treatment columns in a level table."""
+    plots = counts[0]
+    places = [[library.PLOTS * (start + c) for c in range(count)] for start, count in zip((0, library.COLUMNS), counts[1:])]
+    return [tuple(tuple(levels[place : place + plots]) for place in of_kind) for of_kind in places]
 
 
 def plot_design(table: Any, *, plots: Any = None, treatments: Any = None, nested: Nested = ()) -> Family:
@@ -330,7 +353,7 @@ def plot_design(table: Any, *, plots: Any = None, treatments: Any = None, nested
     made, counts, levels = _read(ready, False)
     number, answer, family = library.plot_design(levels, counts[0], counts[1])
     if number:
-        at_fault = [_at_fault(made, levels, family, counts[0], answer[2], library.PLOT, p) for p in answer[:2] if p]
+        at_fault = [_factor(made, levels, family, counts[0], answer[2], library.PLOT, p) for p in answer[:2] if p]
         raise refusals.of_design(ready, number, answer[:2], (answer[2], 0), at_fault, library.INTERACTIONS, accepts)
     return _family(made, levels, family, counts[0], answer[2], library.PLOT)
 
@@ -354,7 +377,7 @@ def relation(family: Family) -> Relation:
     Relation(coarser=((), (1,), (1, 2)), above=((), (1,), (2,)))
     """
     number, answer = library.relation(family.to_bytes(), family.plots, len(family.members))
-    _raise_call(number)
+    raise_call(number)
 
     def places(words: Sequence[int]) -> Tuple[Tuple[int, ...], ...]:
         return tuple(tuple(j + 1 for j in range(library.MEMBERS) if word >> j & 1) for word in words)
@@ -370,7 +393,7 @@ def degrees(family: Family) -> Tuple[int, ...]:
     (1, 1, 2)
     """
     number, answer = library.degrees(family.to_bytes(), family.plots, len(family.members))
-    _raise_call(number)
+    raise_call(number)
     return answer[: len(family.members)]
 
 
@@ -384,7 +407,7 @@ def strata(plot_family: Family, treatment_family: Family) -> Tuple[Tuple[int, ..
         plot_family.to_bytes(), len(plot_family.members), treatment_family.to_bytes(), len(treatment_family.members),
         plot_family.plots,
     )
-    _raise_call(number)
+    raise_call(number)
     return answer[: len(treatment_family.members)], answer[library.MEMBERS :][: len(plot_family.members)]
 
 
@@ -401,7 +424,7 @@ def name(
     made, _, levels = _read(prepare(table, plots, treatments, nested), False)
     kind = library.TREATMENT if treatment else library.PLOT
     number, text = library.name(made.text, levels, family.to_bytes(), family.plots, len(family.members), kind, place)
-    _raise_call(number)
+    raise_call(number)
     return made.show(text.decode("ascii"))
 
 

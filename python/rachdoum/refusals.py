@@ -45,10 +45,11 @@ class Refusal(Exception):
         return f"refused\t{self.number}\t{first}\t{second}\n"
 
 
-class Member(NamedTuple):
-    """A member at fault: its name as it is shown, the user's columns in it, and the class of each plot."""
+class Factor(NamedTuple):
+    """A column or a member of a family: its name as it is shown, its kind, the user's columns in it, and the class of each plot."""
 
     name: str
+    kind: str
     columns: Tuple[str, ...]
     classes: Tuple[int, ...]
 
@@ -229,7 +230,7 @@ def _count(number: int, thing: str) -> str:
 
 
 def of_design(
-    table: Table, number: int, places: Tuple[int, ...], sizes: Tuple[int, ...], members: Sequence[Member], k: int,
+    table: Table, number: int, places: Tuple[int, ...], sizes: Tuple[int, ...], members: Sequence[Factor], k: int,
     accepts: Accepts,
 ) -> Refusal:
     """The refusal of a design, with the classes that show it."""
@@ -238,7 +239,8 @@ def of_design(
     elif number == 9:
         what, remedy = _sizes(table, members[0])
     elif number in (10, 12, 13):
-        what, remedy = _meeting(table, number, *members)
+        what = meeting(table, *members)
+        remedy = _EVEN[number].format(a=members[0].name, b=members[1].name)
     else:
         what, remedy = of_call(number, k)
     renumbered = _renumbering(table, k, accepts) if number in (8, 9, 10, 13, 14) else ""
@@ -309,7 +311,7 @@ def _final_family(table: Table, sizes: Tuple[int, ...], k: int, accepts: Accepts
     return what, "leave out a plot column, or a treatment that has almost as many levels as there are plots."
 
 
-def _sizes(table: Table, member: Member) -> Tuple[str, str]:
+def _sizes(table: Table, member: Factor) -> Tuple[str, str]:
     sizes = Counter(member.classes)
     most, least = max(sizes, key=lambda c: sizes[c]), min(sizes, key=lambda c: sizes[c])
     what = f"{_class(table, member, most)} has {_count(sizes[most], 'plot')}, {_class(table, member, least)} has {sizes[least]}."
@@ -317,7 +319,7 @@ def _sizes(table: Table, member: Member) -> Tuple[str, str]:
     return what, f"give all {several} the same number of plots: add plots to the small ones, or take some out of the large ones."
 
 
-def _class(table: Table, member: Member, number: int) -> str:
+def _class(table: Table, member: Factor, number: int) -> str:
     """A class in the user's words: `Hut 1`, `Hut 1 with Week 2`, or its lines."""
     rows = [row for row, c in enumerate(member.classes) if c == number]
     if member.columns:
@@ -327,16 +329,16 @@ def _class(table: Table, member: Member, number: int) -> str:
     return f"the class of {member.name} with {table.spot(*rows[:MOST_LINES])}{more}"
 
 
-def _meeting(table: Table, number: int, first: Member, second: Member) -> Tuple[str, str]:
+def meeting(table: Table, first: Factor, second: Factor) -> str:
+    """The classes that show that two members are not orthogonal."""
     found = uneven(first.classes, second.classes)
     if found is None:
-        return f"{first.name} and {second.name} do not cross evenly.", _EVEN[number].format(a=first.name, b=second.name)
-    what = (
+        return f"{first.name} and {second.name} do not cross evenly."
+    return (
         f"{_class(table, first, found.one)} has {found.often} of the {_count(found.often_of, 'plot')} with "
         f"{_class(table, second, found.most)}, but {found.seldom} of the {found.seldom_of} with "
         f"{_class(table, second, found.least)}."
     )
-    return what, _EVEN[number].format(a=first.name, b=second.name)
 
 
 _EVEN: Dict[int, str] = {

@@ -3,6 +3,7 @@ from __future__ import annotations
 
 from typing import Any, Dict, List, Sequence, Tuple
 
+from .comparing import Comparison
 from .notes import Note
 from .planning import Member, Plan, Stratum
 from .refusals import Refusal
@@ -79,6 +80,16 @@ def note_as_dictionary(note: Note) -> Dict[str, Any]:
     """A note as JSON has it, with the strata of the other reading where the note carries it."""
     other = [_stratum(stratum) for stratum in note.other.strata] if note.other else None
     return {"text": note.text, "option": note.option, "strata": other}
+
+
+def comparison_as_dictionary(comparison: Comparison) -> Dict[str, Any]:
+    """How two factors stand, as JSON has it."""
+    return {
+        "first": comparison.first,
+        "second": comparison.second,
+        "compared": comparison.answer,
+        "text": comparison.text,
+    }
 
 
 def refusal_as_dictionary(refusal: Refusal) -> Dict[str, Any]:

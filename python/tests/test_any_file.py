@@ -114,6 +114,11 @@ class AnyFile(unittest.TestCase):
         columns = [options for options in OPTIONS if set(options[::2]) <= {"--plots", "--treatments", "--nested"}]
         self.no_traceback("convert", FILES // 4, columns)
 
+    def test_no_traceback_of_compare(self):
+        names = ["Hut", "Gain", "Plot1", "Plot2", "Treat1", "U", "E", "I(Plot1,Plot2)", "#3", "p:#4", "t:Gain", "", "\udc80", ","]
+        taken = [options for options in OPTIONS if not {"--crossed", "--quiet"} & set(options)]
+        self.no_traceback("compare", FILES // 4, [[a, b] + options for options in taken for a in names for b in names[:7]])
+
     def test_no_traceback_of_formulas(self):
         chance, pieces = random.Random(SEED), [piece.decode("utf-8", "surrogateescape") for piece in PIECES]
         pieces += ["=", "/", "*", "(", ")", "Hut", "Pier", "2", "240", "Hut=2", "Pier=3", "(Row=3*Column=3)", " "] * 3

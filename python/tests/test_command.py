@@ -5,6 +5,7 @@ import io
 import json
 import os
 import resource
+import shlex
 import subprocess
 import sys
 import tempfile
@@ -372,6 +373,80 @@ all      total   12
         self.assertEqual((refused["number"], refused["what"]), (17, "`Pier` has no count."))
 
 
+class Comparisons(unittest.TestCase):
+    """How two factors stand: each answer in words and for programs. Why it is the answer, test_planning.py says."""
+
+    TRIAL = b"p:Hut,p:Pier,p:Week,t:Sensor,t:Gain\n1,1,1,a,1\n1,1,2,a,1\n1,2,1,b,1\n1,2,2,b,2\n2,3,1,c,1\n2,3,2,c,2\n2,4,1,d,2\n2,4,2,d,2\n"
+    SENTENCES = {
+        ("Pier", "Sensor", "equivalent"):
+            "Pier and Sensor are equivalent: plots have the same pier exactly when they have the same sensor.",
+        ("Pier", "Hut", "finer"):
+            "Pier is finer than Hut: plots with the same pier always have the same hut, but not the other way round.",
+        ("Hut", "Pier", "coarser"):
+            "Hut is coarser than Pier: plots with the same pier always have the same hut, but not the other way round.",
+        ("Hut", "Week", "orthogonal"):
+            "Hut and Week are orthogonal, and neither is finer: they cross evenly.",
+        ("Hut", "Gain", "not orthogonal"):
+            "Hut and Gain are not orthogonal: Hut 1 has 3 of the 4 plots with Gain 1, but 1 of the 4 with Gain 2.",
+    }
+
+    def test_each_answer(self):
+        self.assertEqual(run("plan", "--tsv", "-", data=self.TRIAL)[:2], (1, b"refused\t12\tGain\tSensor\n"))
+        for (first, second, answer), text in self.SENTENCES.items():
+            with self.subTest(answer):
+                self.assertEqual(run("compare", "-", first, second, data=self.TRIAL), (0, f"{text}\n".encode(), ""))
+                line = f"compared\t{first}\t{second}\t{answer}\n".encode()
+                self.assertEqual(run("compare", "--tsv", "-", first, second, data=self.TRIAL), (0, line, ""))
+                status, out, err = run("compare", "-", first, second, "--json", data=self.TRIAL)
+                expected = {"file": "standard input", "first": first, "second": second, "compared": answer, "text": text}
+                self.assertEqual((status, json.loads(out), err), (0, expected, ""))
+
+    def test_names_of_refusals(self):
+        """Two names that a refusal has for members that are not orthogonal."""
+        for path in sorted(glob.glob(os.path.join(EXAMPLES, "refused-1[023].sheet"))):
+            first, second = bytes_of(path[: -len("sheet")] + "table").decode("ascii").split()[2:]
+            expected = f"compared\t{first}\t{second}\tnot orthogonal\n".encode()
+            self.assertEqual(run("compare", "--tsv", path, first, second), (0, expected, ""))
+
+    def test_names_of_the_table(self):
+        """Each source against its stratum, which is finer than it or equivalent."""
+        path = os.path.join(EXAMPLES, "example-4-extension.sheet")
+        lines = [line.split("\t") for line in bytes_of(path[: -len("sheet")] + "table").decode("ascii").splitlines()[1:]]
+        pairs = [line[:2] for line in lines if not line[1].startswith("=")]
+        self.assertEqual(len(pairs), 8)
+        for stratum, source in pairs:
+            answer = "equivalent" if stratum == source == "U" else "finer"
+            expected = f"compared\t{stratum}\t{source}\t{answer}\n".encode()
+            self.assertEqual(run("compare", "--tsv", path, stratum, source), (0, expected, ""))
+
+    def test_no_family(self):
+        path = os.path.join(EXAMPLES, "refused-08.sheet")
+        self.assertEqual(run("compare", "--tsv", path, "Hut", "Week"), (0, b"compared\tHut\tWeek\torthogonal\n", ""))
+        message = f"rachdoum: there is no factor 'I(Hut,Week)': {path} has Site, Hut, Pier, Month, Week, Shift, U, E; "
+        message += "its design is refused (8), so some combinations may have no name\n"
+        self.assertEqual(run("compare", path, "I(Hut,Week)", "Hut"), (2, b"", message))
+
+    def test_options(self):
+        for options, answer in (([], "orthogonal"), (["--nested", "Pier/Hut"], "finer")):
+            expected = f"compared\tPier\tHut\t{answer}\n".encode()
+            self.assertEqual(run("compare", "-", "Pier", "Hut", *KINDS, "--tsv", *options, data=LATIN), (0, expected, ""))
+        old = os.path.join(EXAMPLES, "sections.old")
+        self.assertEqual(run("compare", "--tsv", old, "Plant", "E")[1], b"compared\tPlant\tE\tequivalent\n")
+        six = bytes_of(os.path.join(EXAMPLES, "refused-11.sheet"))
+        names = six.split(b"\n")[0].decode("ascii").replace("t:", "").split("\t")
+        both = f"I({names[0]},{names[1]})"
+        self.assertEqual(run("compare", "-", both, names[0], data=six)[0], 2)
+        self.assertEqual(run("compare", "-", both, names[0], "--k", "2", "--tsv", data=six)[1], f"compared\t{both}\t{names[0]}\tfiner\n".encode())
+
+    def test_refusals(self):
+        for data, number in ((b"", 2), (b"Hut\n1\n", 3), (b"p:Hut\n0\n", 4), (b"p:Hut\n", 5), (Parents.RIGHT, 23)):
+            status, out, err = run("compare", "-", "Hut", "Pier", data=data)
+            self.assertEqual((status, out), (1, b""))
+            self.assertTrue(err.startswith(f"rachdoum: standard input: refused ({number}): "), err)
+            self.assertEqual(run("compare", "-", "Hut", "Pier", "--tsv", data=data)[:2], (1, f"refused\t{number}\t-\t-\n".encode()))
+            self.assertEqual(json.loads(run("compare", "-", "Hut", "Pier", "--json", data=data)[1])["refused"]["number"], number)
+
+
 class Documents(unittest.TestCase):
     """What the documents show is what the command prints."""
 
@@ -417,6 +492,19 @@ class Documents(unittest.TestCase):
         for name in names:
             self.assertIn(self.document("examples", name), blocks, name)
 
+    def test_comparisons(self):
+        lines = [line for line in self.document("docs", "EXAMPLES.md").splitlines()]
+        calls = [place for place, line in enumerate(lines) if line.startswith("./plan compare ")]
+        answers = set()
+        for place in calls:
+            words = [word.replace("examples/", EXAMPLES + "/") for word in shlex.split(lines[place])[1:]]
+            self.assertEqual(run(*words), (0, f"{lines[place + 1]}\n".encode(), ""))
+            answers.add(run(*words, "--tsv")[1].split(b"\t")[3])
+        self.assertEqual(len(answers), 5)
+        readme = self.document("README.md")
+        shown = run("compare", os.path.join(EXAMPLES, "huts.sheet"), "Filter", "Hut")[1].decode()
+        self.assertIn(f"    ./plan compare examples/huts.sheet Filter Hut\n    {shown}", readme)
+
     def test_python_in_documents(self):
         for path, expected in ((("README.md",), "1 df of E"), (("docs", "COMMAND.md"), "2 df of E")):
             code = self.document(*path).split("```python\n")[1].split("```")[0]
@@ -445,6 +533,12 @@ class WrongCalls(unittest.TestCase):
         self.refuses("convert", "-", "--tsv", message="unrecognized arguments: --tsv")
         self.refuses("convert", "/nowhere", message="rachdoum: /nowhere: No such file or directory")
         self.refuses("plan", "-", "--k", "7", message="argument --k: invalid choice: 7")
+        self.refuses("compare", "-", "Hut", message="required: SECOND")
+        self.refuses("compare", "-", "Hut", "Pier", "Gain", message="unrecognized arguments: Gain")
+        self.refuses("compare", "-", "Hut", "Pier", "--tsv", "--json", message="not allowed with argument")
+        self.refuses("compare", "/nowhere", "Hut", "Pier", message="rachdoum: /nowhere: No such file or directory")
+        self.refuses("compare", "-", *KINDS, "Hut", "Hat", message="there is no factor 'Hat': standard input has Hut, Pier, Gain, U, E\n")
+        self.refuses("compare", "-", *KINDS, "\x1b[31m", "Hut", message="there is no factor '\\x1b[31m': standard input has Hut")
         self.refuses("plan", "-", "--tsv", "--json", message="not allowed with argument")
         self.refuses("plan", "/nowhere", message="rachdoum: /nowhere: No such file or directory")
         self.refuses("plan", EXAMPLES, message="Is a directory")

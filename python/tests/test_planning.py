@@ -236,5 +236,111 @@ class Entries(unittest.TestCase):
         self.assertEqual((levels.plots, levels.plot_columns, levels.treatment_columns), (2, ((1, 2),), ((1, 1),)))
 
 
+class Comparisons(unittest.TestCase):
+    """How two factors stand. The answers follow from the definition, with the numbers of plots in the comments."""
+
+    TRIAL = {
+        "p:Hut": [1, 1, 1, 1, 2, 2, 2, 2], "p:Pier": [1, 1, 2, 2, 3, 3, 4, 4], "p:Week": [1, 2, 1, 2, 1, 2, 1, 2],
+        "t:Sensor": ["a", "a", "b", "b", "c", "c", "d", "d"], "t:Gain": [1, 1, 1, 2, 1, 2, 2, 2],
+    }
+    # Aa with Cc tells b0 and b2 of the plot's number apart, Bb b1 and b2: they share b2. Xx with Yy and Bb share b1.
+    HASH = {
+        "p:Aa": [1, 2, 1, 2, 2, 1, 2, 1], "p:Bb": [1, 1, 2, 2, 3, 3, 4, 4], "p:Cc": [1, 2] * 4,
+        "t:Xx": [1, 2, 2, 1] * 2, "t:Yy": [1, 2] * 4,
+    }
+
+    def answers(self, table, expected, **options):
+        for first, second, answer in expected:
+            with self.subTest(f"{first} {second}"):
+                found = rachdoum.compare(table, first, second, **options)
+                self.assertEqual((found.answer, found.first, found.second), (answer, first, second))
+
+    def test_columns_of_a_refused_design(self):
+        with self.assertRaises(Refusal) as caught:
+            rachdoum.plan(self.TRIAL)
+        self.assertEqual(caught.exception.number, 12)
+        self.answers(self.TRIAL, [
+            ("Pier", "Sensor", "equivalent"), ("Sensor", "Pier", "equivalent"), ("Gain", "Gain", "equivalent"),
+            ("Pier", "Hut", "finer"), ("E", "Gain", "finer"), ("Gain", "U", "finer"), ("Sensor", "Hut", "finer"),
+            ("Hut", "Pier", "coarser"), ("U", "E", "coarser"), ("Hut", "Sensor", "coarser"),
+            # 2 x 8 = 4 x 4; 1 x 8 = 2 x 4
+            ("Hut", "Week", "orthogonal"), ("Week", "Pier", "orthogonal"), ("Sensor", "Week", "orthogonal"),
+            # 3 x 8 and 4 x 4; 2 x 8 and 2 x 4; 3 x 8 and 4 x 4
+            ("Hut", "Gain", "not orthogonal"), ("Gain", "Pier", "not orthogonal"), ("Week", "Gain", "not orthogonal"),
+        ])
+
+    def test_members_of_a_refused_design(self):
+        # 12 leaves the plot family and the first treatment family.
+        self.answers(self.TRIAL, [
+            ("I(Hut,Week)", "Hut", "finer"), ("Week", "I(Hut,Week)", "coarser"), ("I(Hut,Week)", "Pier", "orthogonal"),
+            ("I(Sensor,Gain)", "Gain", "finer"), ("I(Hut,Week)", "Gain", "not orthogonal"),
+        ])
+
+    def test_what_columns_share(self):
+        table = {"p:Pier": [1, 1, 2, 2, 3, 3, 4, 4], "t:Sensor": [1, 2, 1, 2, 3, 4, 3, 4]}
+        self.answers(table, [
+            ("Pier", "S(Pier,Sensor)", "finer"), ("S(Pier,Sensor)", "E", "coarser"), ("Pier", "Sensor", "orthogonal"),
+        ])
+        table = {"p:Hut": [1, 1, 1, 1, 2, 2, 2, 2], "t:Gain": [1, 1, 2, 2, 3, 3, 4, 4], "t:Cable": [1, 2, 1, 2, 3, 4, 3, 4]}
+        self.answers(table, [("S(Hut)", "Hut", "equivalent"), ("S(Hut)", "Gain", "coarser")])
+
+    def test_places(self):
+        self.answers(self.HASH, [
+            ("p:#2", "t:#2", "orthogonal"), ("p:#2", "p:#2", "equivalent"), ("p:#2", "Bb", "coarser"), ("I(Xx,Yy)", "t:#2", "finer"),
+        ])
+        with self.assertRaisesRegex(rachdoum.WrongCall, "'#2' is a grouping of the plots and another of the treatments: write p:#2 or t:#2"):
+            rachdoum.compare(self.HASH, "#2", "Bb")
+        text = rachdoum.compare(self.HASH, "t:#2", "Bb").text
+        self.assertTrue(text.startswith("t:#2 is coarser than Bb: plots with the same level of Bb always have the same class of t:#2,"), text)
+        table = {"p:Aa": [1, 1, 1, 2, 2, 2], "p:Bb": [1, 2, 2, 3, 3, 1], "p:Cc": [1, 2, 2, 2, 1, 1]}
+        self.answers(table, [("#3", "Bb", "coarser"), ("#3", "p:#3", "equivalent"), ("Aa", "#3", "not orthogonal")])
+
+    def test_marks_and_blanks(self):
+        found = rachdoum.compare(self.TRIAL, " p:Pier ", "I(Hut, Week)")
+        self.assertEqual((found.first, found.second, found.answer), ("Pier", "I(Hut,Week)", "orthogonal"))
+        with self.assertRaisesRegex(rachdoum.WrongCall, "there is no factor 't:Pier'"):
+            rachdoum.compare(self.TRIAL, "t:Pier", "Hut")
+
+    def test_names_as_the_user_has_them(self):
+        table = {"Gain setting": [1, 2, 1, 2], "A": ["x", "x", "y", "y"], "Größe": [1, 2, 3, 4]}
+        options = {"plots": ["A"], "treatments": ["Gain setting", "Größe"]}
+        self.answers(table, [("Größe", "E", "equivalent"), ("A", "Gain setting", "orthogonal"), ("A", "Größe", "coarser")], **options)
+        self.assertEqual(
+            rachdoum.compare(table, "A", "Größe", **options).text,
+            "A is coarser than Größe: plots with the same level of Größe always have the same level of A, but not the other way round.",
+        )
+
+    def test_nested_columns(self):
+        piers = {"p:Hut": [1, 1, 2, 2], "p:Pier": [1, 2, 1, 2]}
+        self.answers(piers, [("Pier", "Hut", "orthogonal")])
+        self.answers(piers, [("Pier", "Hut", "finer"), ("Pier", "E", "equivalent")], nested="Pier/Hut")
+        self.answers({"p:Hut": [1, 1, 2, 2], "p:Pier/Hut": [1, 2, 1, 2]}, [("Pier", "Hut", "finer")])
+
+    def test_one_plot(self):
+        self.answers({"p:Hut": [1]}, [("Hut", "U", "equivalent"), ("U", "E", "equivalent")])
+
+    def test_few_combinations(self):
+        columns = {f"t:{name}": [plot >> i & 1 for plot in range(64)] for i, name in enumerate(("Aa", "Bb", "Cc", "Dd", "Ee", "Ff"))}
+        labelled = {name: [level + 1 for level in column] for name, column in columns.items()}
+        self.answers(labelled, [("Aa", "Bb", "orthogonal"), ("Aa", "E", "coarser")])
+        with self.assertRaisesRegex(rachdoum.WrongCall, r"there is no factor 'I\(Aa,Bb\)': .*; its design is refused \(11\)"):
+            rachdoum.compare(labelled, "I(Aa,Bb)", "Aa")
+        self.answers(labelled, [("I(Aa,Bb)", "Aa", "finer")], k=2)
+
+    def test_unknown_names(self):
+        for names in (("Cable", "Hut"), ("I(Hut,Gain)", "Hut"), ("#9", "Hut")):
+            message = f"there is no factor {names[0]!r}: the table has Hut, Filter, Gain, U, E, I(Filter,Gain)"
+            for first, second in (names, names[::-1]):
+                with self.assertRaises(rachdoum.WrongCall) as caught:
+                    rachdoum.compare(HUTS, first, second)
+                self.assertEqual(str(caught.exception), message)
+
+    def test_refusals_of_the_table(self):
+        for table, number in (({}, 2), ({"Hut": [1]}, 3), ({"p:Hut": [0]}, 4), ({"p:Hut": []}, 5), ({"p:Pier/Hut": [1]}, 23)):
+            with self.assertRaises(Refusal) as caught:
+                rachdoum.compare(table, "Hut", "Hat")
+            self.assertEqual(caught.exception.number, number)
+
+
 if __name__ == "__main__":
     unittest.main()

@@ -171,6 +171,59 @@ def orthogonal(first, second):
     return True
 
 
+def stands(first, second):
+    """How the first of two columns stands to the second, by the rules' own words."""
+    plots = range(len(first))
+    below, above = (
+        all(two[a] == two[b] for a in plots for b in plots if one[a] == one[b]) for one, two in ((first, second), (second, first))
+    )
+    if below or above:
+        return "equivalent" if below and above else "finer" if below else "coarser"
+    return "orthogonal" if orthogonal(first, second) else "not orthogonal"
+
+
+class RandomComparisons(unittest.TestCase):
+    """Two factors stand as the rules say: columns, whatever becomes of the design, members of a family as its relation has it, and
+    the two names of a refusal."""
+
+    def compared(self, text, first, second):
+        status, out, err = run("compare", "--tsv", "-", first, second, data=text)
+        self.assertEqual((status, err), (0, ""))
+        heading, *names, answer = out.decode("ascii").rstrip("\n").split("\t")
+        self.assertEqual((heading, names), ("compared", [first, second]))
+        return answer
+
+    def check(self, chance, seed):
+        titles, rows = design(seed)
+        text, columns = sheet_bytes(titles, rows), list(zip(*rows))
+        if len(rows) <= 36:
+            a, b = (chance.randrange(len(titles)) for _ in range(2))
+            answer = self.compared(text, titles[a][2:], titles[b][2:])
+            self.assertEqual(answer, stands(columns[a], columns[b]))
+            self.seen[answer] = self.seen.get(answer, 0) + 1
+        printed = direct(text).decode("ascii")
+        if printed.startswith(("refused\t10", "refused\t12", "refused\t13")):
+            names = printed.split()[2:]
+            marks = {"10": "pp", "12": "tt", "13": "pt"}[printed.split()[1]]
+            names = [f"{mark}:{name}" if name.startswith("#") else name for mark, name in zip(marks, names)]
+            self.assertEqual(self.compared(text, *names), "not orthogonal")
+        elif not printed.startswith("refused"):
+            whole = json.loads(run("plan", "-", "--json", "--quiet", data=text)[1])
+            first, second = (chance.choice(whole["plot_family"]) for _ in range(2))
+            expected = "equivalent" if first == second else "finer" if second["name"] in first["coarser"] else ""
+            expected = expected or ("coarser" if first["name"] in second["coarser"] else "orthogonal")
+            names = [f"p:{f['name']}" if f["name"].startswith("#") else f["name"] for f in (first, second)]
+            self.assertEqual(self.compared(text, *names), expected)
+
+    def test_designs(self):
+        chance, self.seen = random.Random(SEED), {}
+        for seed in range(SEED, SEED + max(DESIGNS // 4, 200)):
+            with self.subTest(seed=seed):
+                self.check(chance, seed)
+        self.assertEqual(len(self.seen), 5)
+        self.assertGreaterEqual(min(self.seen.values()), 3, self.seen)
+
+
 class Evenness(unittest.TestCase):
     def test_an_uneven_meeting_is_found_exactly_where_there_is_one(self):
         chance, seen = random.Random(SEED), {True: 0, False: 0}

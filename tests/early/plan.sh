@@ -111,7 +111,7 @@ verdict 'standard input'
 run ./plan --tsv --formula=Hut=4/Pier=3
 ended 0 'plan --tsv --formula=Hut=4/Pier=3 42' 0
 verdict 'a formula'
-for command in formula convert; do
+for command in formula convert compare; do
   run ./plan $command 'a b'
   ended 0 "$command a b 42" 0
   verdict "the subcommand $command"
