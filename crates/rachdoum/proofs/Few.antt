@@ -1,11 +1,11 @@
 -- Sizes and places in the answers are at most 32, residuals far from the ends of 64 bits.
 -- Assumes nothing.
-use mathlib.Core.Path.{_≡_, refl, sym, ap, _∙_, subst}
+use mathlib.Core.Path.{_≡_, ap, subst}
 use mathlib.Core.Bool.{Bool, true, false, not, _&&_}
 use mathlib.Core.List.{List, [], _∷_, map}
-use Prim.Native.Nat.{ℕ, zero, suc, _+_, _≤_, _<_}
+use Prim.Native.Nat.{ℕ, zero, suc, _+_, _≤_}
 use native.Mathlib.Omega.{arith}
-use lib.Dec.{eqb, ltb, leb}
+use lib.Dec.{ltb, leb}
 use lib.IntN.{ℤ, pos}
 use lib.ListN.{length, getD, List·getD-eq-default}
 use mir.Syntax.{w64}
@@ -20,7 +20,7 @@ use Rattle.rules.specs.Degrees.{degrees}
 use Rattle.rules.specs.Strata.{StrataAnswer, stratum, isStratum, residuals, strata, strataRefused, question15, question16, allHaveStratum}
 use Rattle.rules.proofs.Sheet.{and-left, and-right}
 use Rattle.rules.proofs.Numbering.{by-cases}
-use Rattle.rules.proofs.WellFormed.{Accepted, accepted}
+use Rattle.rules.proofs.WellFormed.{accepted}
 use Rattle.rules.proofs.Places.{at-places, length-places}
 use Rattle.rules.proofs.Lists.{length-tabulate, getD-tabulate}
 use Rattle.strata.specs.Lent.{Formed}

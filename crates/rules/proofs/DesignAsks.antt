@@ -10,7 +10,7 @@ use Rattle.rules.specs.Factor.{Column, uniform, orthogonal}
 use Rattle.rules.specs.Family.{Family}
 use Rattle.rules.specs.Closing.{Closing, tooMany, family, plotFamily, firstTreatmentFamily, finalTreatmentFamily}
 use Rattle.rules.specs.Design.{Answer, Places, none, refused, firstFailing, firstPair, firstCross, question7, question8, question9, question10, question11, question12, question13, question14, withTreatments, fullQuestion7, allNonzero, withinLimits, fullWithinLimits, plotDesign, fullDesign}
-use Rattle.rules.specs.Asking.{Verdict, nothingRefused, fail, Asked, asked, firstNo, withoutPlaces, atPlaces, atBoth, membersIn, asks6, asks7, asks8, asks9, asks10, asks11, asks12, asks13, asks14, plotColumns, treatmentColumns, plotMembers, firstMembers, plotQuestions, fullQuestions, answered, plotAnswer, fullAnswer, plotDesignBy, fullDesignBy}
+use Rattle.rules.specs.Asking.{Verdict, nothingRefused, fail, Asked, asked, firstNo, withoutPlaces, atPlaces, atBoth, membersIn, asks6, asks7, asks8, asks9, asks10, asks11, asks12, asks13, asks14, plotColumns, treatmentColumns, plotMembers, firstMembers, answered, plotAnswer, fullAnswer, plotDesignBy, fullDesignBy}
 use Rattle.rules.proofs.Numbering.{by-cases}
 use Rattle.rules.proofs.FirstNo.{plain-pass, places-pass, first-pass, first-fail}
 

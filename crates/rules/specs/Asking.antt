@@ -131,9 +131,6 @@ firstMembers n k Ts = membersIn (firstTreatmentFamily n k Ts)
 abbrev pub plotQuestionsBy : (Column → Column → Bool) → Bool → ℕ → List Column → List Asked
 plotQuestionsBy test within n Fs = asks6 within ∷ asks7 Fs ∷ asks8 (plotFamily n Fs) ∷ asks9 n (plotMembers n Fs) ∷ asks10By test (plotMembers n Fs) ∷ []
 
-abbrev pub plotQuestions : Bool → ℕ → List Column → List Asked
-plotQuestions within n Fs = plotQuestionsBy (orthogonal n) within n Fs
-
 -- "the full design 6 to 14"
 abbrev pub fullQuestionsBy : (Column → Column → Bool) → Bool → ℕ → ℕ → List Column → List Column → List Asked
 fullQuestionsBy test within n k Fs Ts =

@@ -1,6 +1,6 @@
 -- `rachdoum::rachdoum_compare` meets its contract: each case of the answer has the rules' numbers.
 -- Assumes nothing.
-use mathlib.Core.Path.{_≡_, sym, ap, _∙_}
+use mathlib.Core.Path.{sym, ap, _∙_}
 use mathlib.Core.List.{[], _∷_}
 use Prim.Native.Nat.{ℕ}
 use Rattle.rules.specs.Comparison.{ComparisonAnswer}
