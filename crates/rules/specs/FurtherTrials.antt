@@ -1,13 +1,15 @@
 -- More small trials that are proved about the rules, in one list as those of Trials. Each outcome was worked out by hand.
 -- The claim stands at the end of the file. Assumes nothing.
 use mathlib.Core.Path.{_≡_, refl}
+use mathlib.Core.Bool.{Bool, true, false, not, _&&_}
 use mathlib.Core.List.{List, [], _∷_, _++_, map}
 use Prim.Native.Nat.{ℕ, _-_}
 use lib.IntN.{ℤ, pos, negsuc}
 use lib.ListN.{length, replicate}
-use Rattle.rules.specs.Limits.{mostColumns, tableCells, familyBytes, nameBytes}
+use Rattle.rules.specs.Limits.{mostColumns, mostInteraction, tableCells, familyBytes, nameBytes}
 use Rattle.rules.specs.Factor.{Column}
-use Rattle.rules.specs.Family.{Family, written}
+use Rattle.rules.specs.Family.{Family, alike, written}
+use Rattle.rules.specs.Asking.{Verdict, firstNo, plotQuestionsBy, fullQuestionsBy}
 use Rattle.rules.specs.Relation.{RelationAnswer, relation}
 use Rattle.rules.specs.Comparison.{Comparison, isEquivalent, isFiner, isCoarser, isOrthogonal, notOrthogonal, comparison, ComparisonAnswer, comparing}
 use Rattle.rules.specs.Degrees.{DegreesAnswer, degreesOfFreedom}
@@ -25,6 +27,9 @@ pub data FurtherTrial : Type 0 where
   subtracts : ℕ → Family → ℕ → DegreesAnswer → FurtherTrial
   -- plots, two factors; how the first stands to the second, and the second to the first
   stand : ℕ → Column → Column → Comparison → Comparison → FurtherTrial
+  -- plots, plot and treatment columns, a test that two factors have to pass; the first "no" of the plot design, and of the full design
+  plotsBy : ℕ → List Column → (Column → Column → Bool) → Verdict → FurtherTrial
+  treatsBy : ℕ → List Column → List Column → (Column → Column → Bool) → Verdict → FurtherTrial
   -- plots, of each family the bytes of its buffer, the members in it, the size and the place asked about; the answer
   compares : ℕ → ℕ → Family → ℕ → ℕ → ℕ → Family → ℕ → ℕ → ComparisonAnswer → FurtherTrial
   -- plots, the members in both buffers; the answer
@@ -84,6 +89,10 @@ fourAndTwo = 1 ∷ 1 ∷ 1 ∷ 1 ∷ 2 ∷ 2 ∷ []
 
 abbrev inProportion : Column
 inProportion = 1 ∷ 1 ∷ 2 ∷ 2 ∷ 1 ∷ 2 ∷ []
+
+-- a refusal with its places
+abbrev refusedAt : ℕ → ℕ → ℕ → Verdict
+refusedAt q i j = record { refusal = q; places = record { first = i; second = j } }
 
 -- a member of each of two whole families in buffers that are long enough
 abbrev comparesMembers : ℕ → Family → ℕ → Family → ℕ → ComparisonAnswer → FurtherTrial
@@ -284,7 +293,7 @@ fullTable =
 -- ---- the trials
 
 unfoldable pub furtherTrials : List FurtherTrial
-unfolding filled filledSigned
+unfolding filled filledSigned alike
 furtherTrials =
     -- plot 1,1,1,1,2,2,2,2, treatments 1,1,2,2,1,1,2,2 and 1,2,1,2,1,2,1,2: both and their infimum stand in the stratum E, whose residual is 6 − 3
     plans (treats 8 (fours ∷ []) (twos ∷ alternate ∷ []) (1 ∷ 2 ∷ 2 ∷ 4 ∷ []) (1 ∷ 3 ∷ 3 ∷ 3 ∷ []) (pos 0 ∷ pos 1 ∷ pos 3 ∷ []))
@@ -314,6 +323,11 @@ furtherTrials =
     ∷ stand 8 pairsOfEight crossedInHalves isOrthogonal isOrthogonal
     -- one plot: U is E
     ∷ stand 1 (1 ∷ []) (1 ∷ []) isEquivalent isEquivalent
+    -- the designs by other tests of two factors: 10 where none passes; 12 where none passes with `turns` second; 13 where only `halves` and `turns` do not pass
+    ∷ plotsBy 4 (halves ∷ turns ∷ []) (λ F G. false) (refusedAt 10 1 2)
+    ∷ treatsBy 4 (halves ∷ []) (turns ∷ []) (λ F G. false) (refusedAt 10 1 2)
+    ∷ treatsBy 4 (halves ∷ []) (turns ∷ []) (λ F G. not (alike G turns)) (refusedAt 12 1 2)
+    ∷ treatsBy 4 (halves ∷ []) (turns ∷ []) (λ F G. not (alike F halves && alike G turns)) (refusedAt 13 2 2)
     -- members of two families, one of each case
     ∷ comparesMembers 4 square 3 (one ∷ turns ∷ []) 2 (record { refusal = 0; case = 1 })
     ∷ comparesMembers 4 square 4 (one ∷ turns ∷ []) 2 (record { refusal = 0; case = 2 })
@@ -462,11 +476,13 @@ unfolding written
 inTable cells Fs Ts = written (written (replicate cells 0) 0 Fs) mostColumns Ts
 
 unfoldable pub seen : FurtherTrial → FurtherTrial
-unfolding observed inBuffer inTable relation degreesOfFreedom comparison comparing strata naming readingTo tableText skeletonTable signed
+unfolding observed inBuffer inTable relation degreesOfFreedom comparison firstNo comparing strata naming readingTo tableText skeletonTable signed
 seen (plans t) = plans (observed t)
 seen (relates n S m a) = relates n S m (relation n (inBuffer familyBytes S) m)
 seen (subtracts n S m a) = subtracts n S m (degreesOfFreedom n (inBuffer familyBytes S) m)
 seen (stand n F G c d) = stand n F G (comparison n F G) (comparison n G F)
+seen (plotsBy n Fs test v) = plotsBy n Fs test (firstNo (plotQuestionsBy test true n Fs))
+seen (treatsBy n Fs Ts test v) = treatsBy n Fs Ts test (firstNo (fullQuestionsBy test true n mostInteraction Fs Ts))
 seen (compares n bytes S size i room R many j a) = compares n bytes S size i room R many j (comparing n (inBuffer bytes S) size i (inBuffer room R) many j)
 seen (allots n P R a) = allots n P R (strata n (inBuffer familyBytes P) (length P) (inBuffer familyBytes R) (length R))
 seen (namesMember kind text n Fs Ts S i a) = namesMember kind text n Fs Ts S i (naming kind text (inTable tableCells Fs Ts) (inBuffer familyBytes S) n (length S) i nameBytes)
