@@ -90,3 +90,6 @@ pub mod Grammar
 pub mod Numbered
 pub mod Formula
 pub mod FormulaTrials
+pub mod Trials
+pub mod FurtherTrials
+pub mod Sample

@@ -1,6 +1,6 @@
 -- More small trials that are proved about the rules, in one list as those of Trials. Each outcome was worked out by hand.
--- The claim stands at the end of the file. Assumes nothing.
-use Rattle.std.specs.Prelude.{◌≡◌, refl, Bool, true, false, not, ◌&&◌, List, [], ◌∷◌, ◌++◌, map, ℕ, ◌-◌, ℤ, pos, negsuc, length, replicate}
+-- The claim stands in proofs/FurtherTrials. Assumes nothing.
+use Rattle.std.specs.Prelude.{Bool, true, false, not, ◌&&◌, List, [], ◌∷◌, ◌++◌, map, ℕ, ◌-◌, ℤ, pos, negsuc, length, replicate}
 use Rattle.rules.specs.Limits.{most_columns, most_interaction, table_cells, family_bytes, name_bytes}
 use Rattle.rules.specs.Factor.{Column}
 use Rattle.rules.specs.Family.{Family, alike, written}
@@ -486,8 +486,3 @@ seen (writes z w) = writes z (signed z)
 seen (reads text cells o) = reads text cells (reading text (replicate cells 0))
 seen (prints text out) = prints text (table_text text)
 seen (prints_into text room a) = prints_into text room (skeleton_table text room)
-
--- each trial has the outcome stated
-pub further_trials_hold : map seen further_trials ≡ further_trials
-unfolding seen further_trials
-further_trials_hold = refl

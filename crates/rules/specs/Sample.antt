@@ -1,7 +1,6 @@
 -- The sample sheet and its whole output.
 -- Assumes nothing.
-use Rattle.std.specs.Prelude.{◌≡◌, refl, List, [], ◌∷◌, ℕ}
-use Rattle.rules.specs.Table.{table_text}
+use Rattle.std.specs.Prelude.{List, [], ◌∷◌, ℕ}
 
 -- the sheet (→ is a tab)
 abbrev pub sample_sheet : List ℕ
@@ -36,8 +35,3 @@ sample_table =
     69 ∷ 9 ∷ 61 ∷ 116 ∷ 111 ∷ 116 ∷ 97 ∷ 108 ∷ 9 ∷ 50 ∷ 10 ∷
     -- =all→=total→4
     61 ∷ 97 ∷ 108 ∷ 108 ∷ 9 ∷ 61 ∷ 116 ∷ 111 ∷ 116 ∷ 97 ∷ 108 ∷ 9 ∷ 52 ∷ 10 ∷ []
-
--- the program prints that
-pub sample_table_lem : table_text sample_sheet ≡ sample_table
-unfolding table_text
-sample_table_lem = refl

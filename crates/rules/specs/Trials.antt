@@ -1,6 +1,6 @@
 -- The small trials with known outcome that are proved about the rules: one list. Places are from 1, and k is 6.
--- The claim stands at the end of the file. Assumes nothing.
-use Rattle.std.specs.Prelude.{◌≡◌, refl, List, [], ◌∷◌, ◌++◌, map, ℕ, zero, suc, ◌-◌, ℤ, pos, length, get_or, replicate}
+-- The claim stands in proofs/Trials. Assumes nothing.
+use Rattle.std.specs.Prelude.{List, [], ◌∷◌, ◌++◌, map, ℕ, zero, suc, ◌-◌, ℤ, pos, length, get_or, replicate}
 use Rattle.rules.specs.Limits.{most_plots, most_columns, most_interaction, family_bytes}
 use Rattle.rules.specs.Factor.{Column, classes, orthogonal}
 use Rattle.rules.specs.Design.{Answer, Places, first_pair, plot_design, full_design}
@@ -123,8 +123,3 @@ observed (accepts n Fs cs ds) = plot_outcome n Fs (plot_trial n Fs)
 observed (names n Fs ns i name) = names n Fs ns i (bytes_of ns ns (name_of n Fs Fs i (get_or (plot_trial n Fs).plot (i - 1) [])))
 observed (treats n Fs Ts cs ss ds) = full_outcome n Fs Ts (full_trial n Fs Ts)
 observed (pair_fails n Fs i j) = pair_outcome n Fs (first_pair (orthogonal n) 1 (plot_trial n Fs).plot)
-
--- each trial has the outcome stated
-pub trials_hold : map observed trials ≡ trials
-unfolding observed trials
-trials_hold = refl
