@@ -4,11 +4,11 @@ use native.Mathlib.Nat.{zero-add, not-suc-le-zero, le_of_suc-le-suc, add-zero}
 use mathlib.Core.Path.{◌≡◌, refl, sym, ap, ap₂, ◌∙◌, subst}
 use mathlib.Core.List.Memᴰ
 use mathlib.Core.List.{List, [], ◌∷◌, ◌++◌, append_assoc}
-use Prim.Native.Nat.{ℕ, suc, ◌+◌, ◌*◌, ◌-◌, ◌≤◌, zero, ◌<◌}
+use Prim.Native.Nat.{ℕ, suc, ◌+◌, ◌*◌, ◌≤◌, zero, ◌<◌}
 use native.Mathlib.Omega.{arith}
 use lib.ListN.{length, take, drop, length-append, length-drop, get_or}
 use lib.Seq.{take_at, drop_at, take-take, length-take-le, take-add}
-use Rattle.rules.specs.Factor.{Column, at}
+use Rattle.rules.specs.Factor.{Column}
 use Rattle.rules.specs.Family.{Family, ◌∈◌, columns_from, written, members_of}
 
 part_of_take : {A : Type 0} (k n : ℕ) (l : List A) → k ≤ length l → take n (drop k l) ≡ drop k (take (k + n) l)

@@ -4,14 +4,14 @@ use mathlib.Core.Path.{◌≡◌, refl, sym, ap, ◌∙◌}
 use mathlib.Core.Logic.{◌↔◌}
 use mathlib.Core.List.{List, [], ◌∷◌}
 use Prim.Native.Nat.{ℕ, zero, suc, ◌+◌, ◌≤◌, ◌<◌}
-use native.Mathlib.Nat.{not-suc-le-zero, le_of_suc-le-suc, le_antisymm, lt_irrefl, add-zero}
+use native.Mathlib.Nat.{not-suc-le-zero, le_of_suc-le-suc, lt_irrefl, add-zero}
 use native.Mathlib.Omega.{arith}
 use lib.Dec.{eqb}
 use lib.ListN.{length, replicate, get_or-replicate}
 use borrow.Author.Tests.{eqb-true, eqb-false}
 use Rattle.rules.specs.Factor.{Column, at, same, Finer, Equivalent, add_new, labels, number, classes, infimum, universal, up_from, equality}
-use Rattle.rules.proofs.Numbering.{by_cases, length_number, number_infimum}
-use Rattle.rules.proofs.Supremum.{number_equivalent, equivalent_sym}
+use Rattle.rules.proofs.Numbering.{by_cases, number_infimum}
+use Rattle.rules.proofs.Supremum.{equivalent_sym}
 use Rattle.rules.proofs.Classes.{classes_le, classes_lt}
 pub use Rattle.rules.proofs.Columns.{classes_equivalent, classes_number}
 use Rattle.rules.proofs.Extremes.{number_universal, length_universal, add_up_lem, number_equality, length_up, length_equality}

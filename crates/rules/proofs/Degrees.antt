@@ -12,7 +12,7 @@ use lib.IntN.{ℤ, pos, ◌+ℤ◌, ◌-ℤ◌}
 use lib.ListN.{length, get_or, length-append}
 use lib.Seq.{append_snoc}
 use borrow.Author.Tests.{eqb-true, eqb-false}
-use Rattle.rules.specs.Factor.{Column, at, same, classes, every, finer, coarser}
+use Rattle.rules.specs.Factor.{Column, same, classes, every, finer, coarser}
 use Rattle.rules.specs.Family.{Family, ◌∈◌, Ascending}
 use Rattle.rules.specs.Degrees.{coarser_sum, remainder, remainders_after, remainders, class_number, degrees}
 use Rattle.rules.proofs.Numbering.{by_cases}

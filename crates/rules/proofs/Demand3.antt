@@ -14,7 +14,7 @@ use borrow.Author.Tests.{ne_eqb, le-leb}
 use Rattle.rules.specs.Factor.{Column, Equivalent, number, infimum, supremum, universal, equality, uniform, orthogonal}
 use Rattle.rules.specs.Family.{Family, ◌∈◌, before, Ascending, empty, cons, AtMost, Lists, columns_from}
 use Rattle.rules.specs.Closing.{InPlotFamily, by_column, by_universal, by_equality, by_infimum, by_supremum, both, plot_generators, Closing, family, plot_family}
-use Rattle.rules.specs.Design.{first_failing, first_pair, none, question8, nonzero, all_nonzero, within_limits, question7, plot_design, returned}
+use Rattle.rules.specs.Design.{first_failing, first_pair, question8, nonzero, all_nonzero, within_limits, question7, plot_design, returned}
 use Rattle.rules.specs.Structure.{Contains, Inside, Inequivalent, no_member, unlike, OrthogonalBlockStructure, Lent, Demand3}
 use Rattle.rules.proofs.Numbering.{length_number, number_number, number_unique, length_infimum, number_infimum}
 use Rattle.rules.proofs.Supremum.{length_supremum, number_supremum, equivalent_sym, equivalent_trans, equivalent_refl, number_equivalent, supremum_equivalent, infimum_equivalent}

@@ -9,7 +9,7 @@ use native.Mathlib.Omega.{arith}
 use lib.Dec.{eqb}
 use borrow.Author.Tests.{eq-eqb, ne_eqb, eqb-false, not-true}
 use Rattle.rules.specs.Design.{Places, none}
-use Rattle.rules.specs.Asking.{Verdict, nothing_refused, Reply, pass, fail, Asked, first_no, without_places, at_places}
+use Rattle.rules.specs.Asking.{Verdict, Reply, pass, fail, Asked, first_no, without_places, at_places}
 use Rattle.rules.specs.Demand2.{Condition, FirstBroken, AllHold, WithPlaces}
 use Rattle.rules.proofs.Sheet.{and_left, and_right}
 

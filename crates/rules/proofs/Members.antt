@@ -5,13 +5,13 @@ use mathlib.Core.Logic.{◌⊎◌, inl, inr}
 use mathlib.Core.Bool.{Bool, true, false, true≢false}
 use mathlib.Core.List.Memᴰ
 use mathlib.Core.List.{List, [], ◌∷◌, ◌++◌}
-use Prim.Native.Nat.{ℕ, suc, ◌≤◌, ◌<◌, zero, ◌+◌, ◌-◌}
+use Prim.Native.Nat.{ℕ, suc, ◌≤◌, ◌<◌, zero}
 use native.Mathlib.Nat.{le_refl, le_of_lt, lt_irrefl, lt_trans, le_of_eq, not-suc-le-zero, le_of_suc-le-suc}
 use native.Mathlib.Omega.{arith}
 use lib.Dec.{eqb, ltb}
 use lib.ListN.{length, take, drop}
 use borrow.Author.Tests.{eqb-true, eq-eqb, ne_eqb, eqb-false, ltb-true, ltb-false, lt-ltb}
-use Rattle.rules.specs.Factor.{Column, classes, at}
+use Rattle.rules.specs.Factor.{Column, classes}
 use Rattle.rules.specs.Family.{Family, alike, smaller, before, insert, insert_all, ◌∈◌, Ascending, empty, cons, ordered}
 use Rattle.rules.proofs.Numbering.{by_cases, eqb_self}
 

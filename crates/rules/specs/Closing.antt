@@ -1,6 +1,6 @@
 -- From columns to families (003, Algorithm 1): the plot family, the first and the final treatment family.
 -- Assumes nothing.
-use Rattle.std.specs.Prelude.{◌≡◌, true, false, ℕ, zero, suc, ◌+◌, ◌≤◌, eqb, leb, length}
+use Rattle.std.specs.Prelude.{◌≡◌, true, false, ℕ, zero, suc, ◌≤◌, eqb, leb, length}
 use mathlib.Core.List.{List, [], ◌∷◌, ◌++◌, map}
 use Rattle.rules.specs.Limits.{most_members}
 use Rattle.rules.specs.Factor.{Column, number, infimum, supremum, universal, equality}

@@ -1,6 +1,6 @@
 -- More small trials that are proved about the rules, in one list as those of Trials. Each outcome was worked out by hand.
 -- The claim stands in proofs/FurtherTrials. Assumes nothing.
-use Rattle.std.specs.Prelude.{Bool, true, false, not, ◌&&◌, List, [], ◌∷◌, ◌++◌, map, ℕ, ◌-◌, ℤ, pos, negsuc, length, replicate}
+use Rattle.std.specs.Prelude.{Bool, true, false, not, ◌&&◌, List, [], ◌∷◌, ◌++◌, ℕ, ◌-◌, ℤ, pos, negsuc, length, replicate}
 use Rattle.rules.specs.Limits.{most_columns, most_interaction, table_cells, family_bytes, name_bytes}
 use Rattle.rules.specs.Factor.{Column}
 use Rattle.rules.specs.Family.{Family, alike, written}

@@ -1,6 +1,6 @@
 -- The skeleton table: what the program prints for a sheet, as a list of lines of three or four fields, then as bytes.
 -- Assumes nothing.
-use Rattle.std.specs.Prelude.{Bool, true, false, not, ◌&&◌, List, [], ◌∷◌, ◌++◌, map, ℕ, zero, suc, ◌+◌, eqb, ltb, leb, ℤ, pos, negsuc, length, drop, replicate}
+use Rattle.std.specs.Prelude.{Bool, true, false, not, ◌&&◌, List, [], ◌∷◌, ◌++◌, map, ℕ, zero, suc, eqb, ltb, leb, ℤ, pos, negsuc, length, drop, replicate}
 use Rattle.rules.specs.Limits.{most_interaction, table_cells, family_bytes}
 use Rattle.rules.specs.Family.{Family}
 use Rattle.rules.specs.Design.{Answer, full_design}
