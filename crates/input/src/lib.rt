@@ -1,23 +1,27 @@
 // Standard input, read whole.
-ghost use Rattle.std.specs.Prelude.{◌+◌, ◌≤◌, length};
+#![tactic(auto)]
 
-use libc::STDIN_FILENO;
+ghost use Rattle.std.specs.Prelude.{ℕ, ◌<◌, ◌≤◌, length, take, IfOk, OnErr};
+ghost use Rattle.std.specs.Io.KnownBytes.{Consumes, IsAtEnd};
 
-// Reads until the input ends or `input` is full; answers how many bytes came, or more than there is room for where a read failed.
-pub fn read_input(input: &mut [u8]) -> usize
-    ensures { result ≤ length input.old + 1 }
+use std::io;
+use std::io::Read;
+
+// Reads until the input ends or `input` is full; answers how many bytes came, or the error of a read that failed. What was read stands at the
+// start of `input`, after an error too.
+pub fn read_input<R: Read>(reader: &mut R, input: &mut [u8]) -> io::Result<usize>
+    ensures inside { IfOk result (λ n. n ≤ length input.old) }
+    ensures bytes { IfOk result (λ n. Consumes (R.remaining reader.old) (R.remaining reader.new) (take n input.new)) }
+    ensures whole { IfOk result (λ n. n < length input.old → IsAtEnd (R.remaining reader.new)) }
+    ensures failed { OnErr result ((n : ℕ) × (n ≤ length input.old) × Consumes (R.remaining reader.old) (R.remaining reader.new) (take n input.new)) }
 {
     let mut done = 0;
     while done < input.len() {
-        let got = libc::read(STDIN_FILENO, &mut input[done..]);
-        if got < 0 {
-            return input.len() + 1;
-        }
-        let more = io::count(got, &input[done..]);
+        let more = reader.read(&mut input[done..])?;
         if more == 0 {
-            return done;
+            return Ok(done);
         }
         done += more;
     }
-    done
+    Ok(done)
 }
