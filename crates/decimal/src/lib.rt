@@ -1,5 +1,7 @@
 // Text written into a lent buffer from a place on. Each function writes as much as there is room for and answers the
 // place after what it wrote, so that one call continues where another stopped.
+#![tactic(auto)]
+
 ghost use Rattle.std.specs.Prelude.{◌≡◌, [], ◌∷◌, ◌-◌, ◌≤◌, min, nat_abs, length, drop};
 ghost use Rattle.rules.specs.Lists.{decimal_of};
 ghost use Rattle.rules.specs.Table.{signed};
