@@ -1,5 +1,7 @@
 // Factors as columns, one label a plot. An input column is a slice, an output column an array; at most 240 plots are treated.
 
+#![tactic(auto)]
+
 mod extremes;
 mod labels;
 mod nesting;
