@@ -1,18 +1,17 @@
 use mathlib.Core.Path.{◌≡◌, refl, sym, ap, ◌∙◌}
-use mathlib.Core.Logic.{⊎_elim}
 use mathlib.Core.List.{List}
-use Prim.Native.Nat.{ℕ, ◌-◌, ◌<◌}
+use Prim.Native.Nat.{ℕ, ◌<◌}
 use native.Mathlib.Omega.{arith}
 use lib.ListN.{length, length-set}
 use Rattle.rules.specs.Factor.{Column, at}
 use Rattle.factor.proofs.Agreeing.{Agrees, agrees_none, agrees_new, agrees_old, agrees_not, agrees_all}
 use Rattle.factor.proofs.nesting.agrees.Goals as goal
-use Rattle.factor.proofs.nesting.agrees.Goals.{At-loop-u, In-loop-u}
+use Rattle.factor.proofs.nesting.agrees.Goals.{In-loop-u, else-z-y, then-z-y+else-z-ne0}
 
 -- what is known in a turn
 module _ (c : In-loop-u) where
-  abbrev head : At-loop-u
-  head = c.before
+  abbrev head : In-loop-u
+  head = c
 
   abbrev f : Column
   f = head.args.f.now
@@ -67,15 +66,15 @@ bounds-table-x-then-z-y c = byte_f (goal.at.bounds-table-x-then-z-y c).In-loop-u
 pub loop-u-preserved : goal.loop-u-preserved
 loop-u-preserved c =
     let k = (goal.at.loop-u-preserved c).In-loop-u in
-    ⊎_elim
-    (λ w. (
-      omega arith,
-      refl,
-      ap length w.2 ∙ simp length-set (head k).loop-u.invariant.2,
-      rw w.2 (agrees_new (f k) (g k) (u k) (table k) (agrees k) (omega (arith, byte_f k)) w.1.left),
-    ))
-    (λ w. (omega arith, refl, ap length w.1 ∙ (head k).loop-u.invariant.2, rw w.1 (agrees_old (f k) (g k) (u k) (table k) (agrees k) w.0.left)))
-    c.if-z-y.branch
+    elim c.if-z-y.branch [
+      | then-z-y+else-z-ne0 w ↦ (
+        omega arith,
+        refl,
+        ap length w.table-is ∙ simp length-set (head k).loop-u.invariant.2,
+        rw w.table-is (agrees_new (f k) (g k) (u k) (table k) (agrees k) (omega (arith, byte_f k)) w.if-z-ne0.false),
+      )
+      | else-z-y w ↦ (omega arith, refl, ap length w.table-is ∙ (head k).loop-u.invariant.2, rw w.table-is (agrees_old (f k) (g k) (u k) (table k) (agrees k) w.if-z-y.false))
+    ]
 
 pub returns : goal.returns
 returns c =

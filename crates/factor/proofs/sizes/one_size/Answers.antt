@@ -1,7 +1,6 @@
 use mathlib.Core.Path.{◌≡◌, sym, ◌∙◌}
-use mathlib.Core.Logic.{⊎_elim}
 use mathlib.Core.Bool.{false}
-use Prim.Native.Nat.{◌-◌, ◌≤◌}
+use Prim.Native.Nat.{◌≤◌}
 use native.Mathlib.Omega.{arith}
 use borrow.Author.Count.{below_none, below_more}
 use lib.Dec.{eqb, ltb}
@@ -11,6 +10,7 @@ use Rattle.rules.specs.Factor.{uniform}
 use Rattle.rules.proofs.Numbering.{by_cases}
 use Rattle.factor.proofs.SizeTable.{one_size_yes, one_size_no}
 use Rattle.factor.proofs.sizes.one_size.Goals as goal
+use Rattle.factor.proofs.sizes.one_size.Goals.{else-most-size, else-size-eq0, else-size-least, then-most-size, then-size-eq0, then-size-least}
 
 pub overflow_cast-first : goal.overflow_cast-first
 overflow_cast-first c = omega (arith, c.type_inv.f 0)
@@ -34,21 +34,18 @@ loop-x-preserved c =
     let most = c.if-most-size.most in
     let least = c.if-size-least.least in
     let other : (size ≡ first → ⊥) → uniform (length f) f ≡ false =
-    λ ne. ⊎_elim
-    (λ w. absurd (ne w.1))
-    (λ w. one_size_no f p.sizes-table.ensures (λ u. (b.type_inv.f u).fits) (omega arith) x (omega arith) w.0.left (λ e. ne (w.1 ∙ e)))
-    j.if-size-eq0.branch in
-    let here : (get_or table x 0 ≡ 0 → ⊥) → size ≡ get_or table x 0 = λ nz. ⊎_elim (λ w. absurd (nz w.0.taken)) (λ w. w.1) j.if-size-eq0.branch in
-    let more : b.loop-x.most ≤ most = ⊎_elim (λ w. omega arith) (λ w. omega arith) c.if-most-size.branch in
-    let above : size ≤ most = ⊎_elim (λ w. omega arith) (λ w. omega arith) c.if-most-size.branch in
-    let less : least ≤ b.loop-x.least = ⊎_elim (λ w. omega arith) (λ w. omega arith) c.if-size-least.branch in
-    let below : least ≤ size = ⊎_elim (λ w. omega arith) (λ w. omega arith) c.if-size-least.branch in (
+    λ ne. elim j.if-size-eq0.branch [ then-size-eq0 w ↦ absurd (ne w.size-is) | else-size-eq0 w ↦ one_size_no f p.sizes-table.ensures (λ u. (b.type_inv.f u).fits) (omega arith) x (omega arith) w.if-size-eq0.false (λ e. ne (w.size-is ∙ e)) ] in
+    let here : (get_or table x 0 ≡ 0 → ⊥) → size ≡ get_or table x 0 = λ nz. elim j.if-size-eq0.branch [ then-size-eq0 w ↦ absurd (nz w.if-size-eq0.true) | else-size-eq0 w ↦ w.size-is ] in
+    let more : b.loop-x.most ≤ most = elim c.if-most-size.branch [ then-most-size w ↦ omega arith | else-most-size w ↦ omega arith ] in
+    let above : size ≤ most = elim c.if-most-size.branch [ then-most-size w ↦ omega arith | else-most-size w ↦ omega arith ] in
+    let less : least ≤ b.loop-x.least = elim c.if-size-least.branch [ then-size-least w ↦ omega arith | else-size-least w ↦ omega arith ] in
+    let below : least ≤ size = elim c.if-size-least.branch [ then-size-least w ↦ omega arith | else-size-least w ↦ omega arith ] in (
       omega arith,
       omega arith,
       omega arith,
       below_more _ _ (λ y h nz. let k = b.loop-x.invariant.3 y h nz in (omega (arith, k.0), omega (arith, k.1))) (λ nz. (omega (arith, here nz), omega (arith, here nz))),
-      ⊎_elim (λ w h. other (λ e. omega arith)) (λ w h. b.loop-x.invariant.4 (omega arith)) c.if-size-least.branch,
-      ⊎_elim (λ w h. other (λ e. omega arith)) (λ w h. b.loop-x.invariant.5 (omega arith)) c.if-most-size.branch,
+      elim c.if-size-least.branch [ then-size-least w ↦ λ h. other (λ e. omega arith) | else-size-least w ↦ λ h. b.loop-x.invariant.4 (omega arith) ],
+      elim c.if-most-size.branch [ then-most-size w ↦ λ h. other (λ e. omega arith) | else-most-size w ↦ λ h. b.loop-x.invariant.5 (omega arith) ],
     )
 
 pub returns : goal.returns
