@@ -1,11 +1,13 @@
 // Reads an old sheet, numbered within a parent, on standard input and prints the sheet that it is converted to, or the line of its refusal.
+#![tactic(auto)]
+
 ghost use Rattle.std.specs.Prelude.{length};
 ghost use Rattle.rules.specs.Parents.{conversion};
 ghost use Rattle.decimal.specs.Writing.{Wrote};
 ghost use Rattle.writer.specs.Answers.{answer_text};
 
 use input::read_input;
-use libc::STDOUT_FILENO;
+use std::io;
 
 // One byte more than a sheet may have, so that a longer one is refused.
 const INPUT: usize = limits::TEXT + 1;
@@ -18,16 +20,16 @@ fn print(old: &[u8], out: &mut [u8]) -> usize
     table::put_answer(answer, out)
 }
 
-fn main() {
+fn main(rt: HostRuntime) -> io::Result<()> {
     let mut input = [0u8; INPUT];
-    let got = read_input(&mut input);
-    if INPUT < got {
-        os::fail(b"convert: standard input");
-        return;
-    }
+    let got = match read_input(&mut rt.stdin(), &mut input) {
+        Ok(got) => got,
+        Err(error) => return eprintln!(rt; "convert: standard input: {error}"),
+    };
     let mut out = [0u8; limits::TEXT];
     let size = print(&input[..got], &mut out);
-    if !io::write_all(STDOUT_FILENO, &out[..size]) {
-        os::fail(b"convert: standard output");
+    match rt.write_all(&out[..size]) {
+        Ok(()) => Ok(()),
+        Err(error) => eprintln!(rt; "convert: standard output: {error}"),
     }
 }

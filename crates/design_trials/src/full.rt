@@ -5,20 +5,21 @@ ghost use Rattle.std.specs.Prelude.{◌≤◌, ◌<◌};
 use crate::plots::put;
 use crate::show::{print, print_classes, print_next};
 use design::FullDesign;
-use libc::STDOUT_FILENO;
 use limits::{FAMILY, LEVELS, Level, PLOTS};
+use std::io;
 
 // As many classes: no level comes again.
 const NEW: usize = 256;
 
 // Prints what a full design answers, and what it leaves.
 fn show(
+    rt: &impl Print,
     levels: &[Level; LEVELS],
     plots: usize,
     plot_columns: usize,
     treatment_columns: usize,
     k: usize,
-) {
+) -> io::Result<()> {
     let mut plot_family = [0u8; FAMILY];
     let mut treatment_family = [0u8; FAMILY];
     let answer = design::full_design(
@@ -34,27 +35,27 @@ fn show(
     let mut treatment = 0;
     match answer {
         FullDesign::Accepted(s) => {
-            print(0);
-            print_next(0);
-            print_next(0);
+            print(rt, 0)?;
+            print_next(rt, 0)?;
+            print_next(rt, 0)?;
             plot = s.plot;
             treatment = s.treatment;
         }
         FullDesign::Refused(r) => {
-            print(r.number as usize);
-            print_next(r.first);
-            print_next(r.second);
+            print(rt, r.number as usize)?;
+            print_next(rt, r.first)?;
+            print_next(rt, r.second)?;
             plot = r.plot;
             treatment = r.treatment;
         }
     }
-    print_next(plot);
-    print_next(treatment);
-    io::write_all(STDOUT_FILENO, b" |");
-    print_classes(&plot_family, plots, plot);
-    io::write_all(STDOUT_FILENO, b" |");
-    print_classes(&treatment_family, plots, treatment);
-    io::write_all(STDOUT_FILENO, b"\n");
+    print_next(rt, plot)?;
+    print_next(rt, treatment)?;
+    rt.write_all(b" |")?;
+    print_classes(rt, &plot_family, plots, plot)?;
+    rt.write_all(b" |")?;
+    print_classes(rt, &treatment_family, plots, treatment)?;
+    rt.write_all(b"\n")
 }
 
 // Writes a level of each plot of column `c`: it is the same for `run` plots, then the next, and of `classes` levels the first comes again.
@@ -68,18 +69,18 @@ fn fill(levels: &mut [Level; LEVELS], c: usize, plots: usize, run: usize, classe
 }
 
 // Eight plots in pairs, the treatments crossed with the pairs in each half.
-pub(crate) fn halves() {
+pub(crate) fn halves(rt: &impl Print) -> io::Result<()> {
     let mut levels: [Level; LEVELS] = [0; LEVELS];
     fill(&mut levels, 0, 8, 2, NEW);
     put(&mut levels, 6, b"12123434");
-    show(&levels, 8, 1, 1, 6);
-    show(&levels, 8, 1, 1, 0);
-    show(&levels, 8, 1, 1, 7);
-    show(&levels, 8, 1, 2, 6);
+    show(rt, &levels, 8, 1, 1, 6)?;
+    show(rt, &levels, 8, 1, 1, 0)?;
+    show(rt, &levels, 8, 1, 1, 7)?;
+    show(rt, &levels, 8, 1, 2, 6)
 }
 
 // Six two-level treatments fully crossed, with no plot column.
-pub(crate) fn crossed() {
+pub(crate) fn crossed(rt: &impl Print) -> io::Result<()> {
     let mut levels: [Level; LEVELS] = [0; LEVELS];
     fill(&mut levels, 6, 64, 1, 2);
     fill(&mut levels, 7, 64, 2, 2);
@@ -87,38 +88,38 @@ pub(crate) fn crossed() {
     fill(&mut levels, 9, 64, 8, 2);
     fill(&mut levels, 10, 64, 16, 2);
     fill(&mut levels, 11, 64, 32, 2);
-    show(&levels, 64, 0, 6, 6);
-    show(&levels, 64, 0, 6, 1);
-    show(&levels, 64, 0, 0, 6);
+    show(rt, &levels, 64, 0, 6, 6)?;
+    show(rt, &levels, 64, 0, 6, 1)?;
+    show(rt, &levels, 64, 0, 0, 6)
 }
 
 // Thirty trees in six blocks of five: three sprays on two whole blocks each, five prunings in each block.
-pub(crate) fn trees() {
+pub(crate) fn trees(rt: &impl Print) -> io::Result<()> {
     let mut levels: [Level; LEVELS] = [0; LEVELS];
     fill(&mut levels, 0, 30, 5, NEW);
     fill(&mut levels, 6, 30, 5, 3);
     fill(&mut levels, 7, 30, 1, 5);
-    show(&levels, 30, 1, 2, 6);
+    show(rt, &levels, 30, 1, 2, 6)
 }
 
 // Twenty subjects read two descriptions each; age and gender vary between subjects.
-pub(crate) fn subjects() {
+pub(crate) fn subjects(rt: &impl Print) -> io::Result<()> {
     let mut levels: [Level; LEVELS] = [0; LEVELS];
     fill(&mut levels, 0, 40, 2, NEW);
     fill(&mut levels, 6, 40, 2, 2);
     fill(&mut levels, 7, 40, 4, 2);
     fill(&mut levels, 8, 40, 1, 2);
-    show(&levels, 40, 1, 3, 6);
+    show(rt, &levels, 40, 1, 3, 6)
 }
 
 // Five benches of four sections with two plants each: doses on sections, varieties on plants.
-pub(crate) fn benches() {
+pub(crate) fn benches(rt: &impl Print) -> io::Result<()> {
     let mut levels: [Level; LEVELS] = [0; LEVELS];
     fill(&mut levels, 0, 40, 8, NEW);
     fill(&mut levels, 1, 40, 2, NEW);
     fill(&mut levels, 6, 40, 2, 4);
     fill(&mut levels, 7, 40, 1, 2);
-    show(&levels, 40, 2, 2, 6);
+    show(rt, &levels, 40, 2, 2, 6)
 }
 
 // A 5 × 5 Latin square of rootstocks, row by row, whose columns are divided into four sub-columns.
@@ -135,18 +136,18 @@ fn latin(levels: &mut [Level; LEVELS]) {
 }
 
 // The square with four soil treatments on the sub-columns.
-pub(crate) fn square() {
+pub(crate) fn square(rt: &impl Print) -> io::Result<()> {
     let mut levels: [Level; LEVELS] = [0; LEVELS];
     latin(&mut levels);
     fill(&mut levels, 7, 100, 1, 4);
-    show(&levels, 100, 4, 2, 6);
+    show(rt, &levels, 100, 4, 2, 6)
 }
 
 // The same with soil as fumigation and composting.
-pub(crate) fn extended_square() {
+pub(crate) fn extended_square(rt: &impl Print) -> io::Result<()> {
     let mut levels: [Level; LEVELS] = [0; LEVELS];
     latin(&mut levels);
     fill(&mut levels, 7, 100, 1, 2);
     fill(&mut levels, 8, 100, 2, 2);
-    show(&levels, 100, 4, 3, 6);
+    show(rt, &levels, 100, 4, 3, 6)
 }

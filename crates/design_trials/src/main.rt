@@ -1,19 +1,22 @@
 // Designs with known outcome: plot designs, then full ones.
+#![tactic(auto)]
 
 mod full;
 mod plots;
 mod show;
 
-fn main() {
-    plots::marked();
-    plots::crossed();
-    plots::odd();
-    plots::large();
-    full::halves();
-    full::crossed();
-    full::trees();
-    full::subjects();
-    full::benches();
-    full::square();
-    full::extended_square();
+use std::io;
+
+fn main(rt: HostRuntime) -> io::Result<()> {
+    plots::marked(&rt)?;
+    plots::crossed(&rt)?;
+    plots::odd(&rt)?;
+    plots::large(&rt)?;
+    full::halves(&rt)?;
+    full::crossed(&rt)?;
+    full::trees(&rt)?;
+    full::subjects(&rt)?;
+    full::benches(&rt)?;
+    full::square(&rt)?;
+    full::extended_square(&rt)
 }

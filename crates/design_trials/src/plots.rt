@@ -3,42 +3,42 @@
 
 use crate::show::{print, print_classes, print_next};
 use design::PlotDesign;
-use libc::STDOUT_FILENO;
 use limits::{FAMILY, LEVELS, Level, PLOTS};
+use std::io;
 
 // Prints what a plot design answers, and what it leaves in a buffer of the right length.
-fn show_slice(levels: &[Level], plots: usize, columns: usize) {
+fn show_slice(rt: &impl Print, levels: &[Level], plots: usize, columns: usize) -> io::Result<()> {
     let mut family = [0u8; FAMILY];
     let answer = design::plot_design(levels, plots, columns, &mut family);
     let mut size = 0;
     match answer {
         PlotDesign::Accepted(s) => {
-            print(0);
-            print_next(0);
-            print_next(0);
+            print(rt, 0)?;
+            print_next(rt, 0)?;
+            print_next(rt, 0)?;
             size = s;
         }
         PlotDesign::Refused(r) => {
-            print(r.number as usize);
-            print_next(r.first);
-            print_next(r.second);
+            print(rt, r.number as usize)?;
+            print_next(rt, r.first)?;
+            print_next(rt, r.second)?;
             size = r.size;
         }
     }
-    print_next(size);
-    print_classes(&family, plots, size);
-    io::write_all(STDOUT_FILENO, b"\n");
+    print_next(rt, size)?;
+    print_classes(rt, &family, plots, size)?;
+    rt.write_all(b"\n")
 }
 
 // The same of a level table of the right length.
-fn show(levels: &[Level; LEVELS], plots: usize, columns: usize) {
-    show_slice(levels, plots, columns);
+fn show(rt: &impl Print, levels: &[Level; LEVELS], plots: usize, columns: usize) -> io::Result<()> {
+    show_slice(rt, levels, plots, columns)
 }
 
 // The same of a level table that is one number short.
-fn show_short() {
+fn show_short(rt: &impl Print) -> io::Result<()> {
     let levels: [Level; LEVELS - 1] = [1; LEVELS - 1];
-    show_slice(&levels, 64, 1);
+    show_slice(rt, &levels, 64, 1)
 }
 
 fn level(x: u8) -> Level {
@@ -69,59 +69,59 @@ fn cross(levels: &mut [Level; LEVELS]) {
 }
 
 // The marked trials.
-pub(crate) fn marked() {
+pub(crate) fn marked(rt: &impl Print) -> io::Result<()> {
     let mut levels: [Level; LEVELS] = [0; LEVELS];
-    show(&levels, 1, 0);
-    show(&levels, 2, 0);
+    show(rt, &levels, 1, 0)?;
+    show(rt, &levels, 2, 0)?;
     put(&mut levels, 0, b"112");
-    show(&levels, 3, 1);
+    show(rt, &levels, 3, 1)?;
     put(&mut levels, 0, b"1122");
     put(&mut levels, 1, b"1212");
     put(&mut levels, 2, b"1221");
-    show(&levels, 4, 3);
+    show(rt, &levels, 4, 3)?;
     put(&mut levels, 0, b"112233");
     put(&mut levels, 1, b"121323");
-    show(&levels, 6, 2);
+    show(rt, &levels, 6, 2)?;
     put(&mut levels, 0, b"111222");
     put(&mut levels, 1, b"112122");
-    show(&levels, 6, 2);
+    show(rt, &levels, 6, 2)?;
     put(&mut levels, 0, b"11223344");
     put(&mut levels, 1, b"12123434");
-    show(&levels, 8, 2);
+    show(rt, &levels, 8, 2)
 }
 
 // Two-level columns fully crossed: five on 32 plots, six on 64.
-pub(crate) fn crossed() {
+pub(crate) fn crossed(rt: &impl Print) -> io::Result<()> {
     let mut levels: [Level; LEVELS] = [0; LEVELS];
     cross(&mut levels);
-    show(&levels, 32, 5);
-    show(&levels, 64, 6);
+    show(rt, &levels, 32, 5)?;
+    show(rt, &levels, 64, 6)
 }
 
 // Counts and slices out of range, zeros in used and unused cells, equivalent columns, columns equal to U and E, large levels.
-pub(crate) fn odd() {
+pub(crate) fn odd(rt: &impl Print) -> io::Result<()> {
     let mut levels: [Level; LEVELS] = [0; LEVELS];
     cross(&mut levels);
-    show(&levels, 0, 1);
-    show(&levels, 241, 1);
-    show(&levels, 64, 7);
-    show(&levels, 18446744073709551615, 18446744073709551615);
-    show_short();
-    show(&levels, 65, 1);
+    show(rt, &levels, 0, 1)?;
+    show(rt, &levels, 241, 1)?;
+    show(rt, &levels, 64, 7)?;
+    show(rt, &levels, 18446744073709551615, 18446744073709551615)?;
+    show_short(rt)?;
+    show(rt, &levels, 65, 1)?;
     put(&mut levels, 0, b"1122");
     put(&mut levels, 1, b"2211");
     put(&mut levels, 2, b"5555");
     put(&mut levels, 3, b"4321");
-    show(&levels, 4, 4);
+    show(rt, &levels, 4, 4)
 }
 
 // The largest level, and that of its lower 16 bits.
-pub(crate) fn large() {
+pub(crate) fn large(rt: &impl Print) -> io::Result<()> {
     let mut levels: [Level; LEVELS] = [0; LEVELS];
     levels[0] = 4294967295;
     levels[1] = 4294967295;
     levels[2] = 65535;
     levels[3] = 65535;
-    show(&levels, 4, 1);
-    show(&levels, 1, 1);
+    show(rt, &levels, 4, 1)?;
+    show(rt, &levels, 1, 1)
 }

@@ -1,18 +1,18 @@
 // What is printed of a design: numbers, and the numbers of classes of the members that it leaves.
 
-use libc::STDOUT_FILENO;
+use std::io;
 
 fn wide(n: usize) -> u64 {
     n as u64
 }
 
-pub(crate) fn print(n: usize) {
-    io::print_decimal(STDOUT_FILENO, wide(n));
+pub(crate) fn print(rt: &impl Print, n: usize) -> io::Result<()> {
+    rt.print(wide(n))
 }
 
-pub(crate) fn print_next(n: usize) {
-    io::write_all(STDOUT_FILENO, b" ");
-    print(n);
+pub(crate) fn print_next(rt: &impl Print, n: usize) -> io::Result<()> {
+    rt.write_all(b" ")?;
+    print(rt, n)
 }
 
 fn number(x: u8) -> usize {
@@ -20,8 +20,17 @@ fn number(x: u8) -> usize {
 }
 
 // Prints the number of classes of each member written: its largest number.
-pub(crate) fn print_classes(family: &[u8], plots: usize, size: usize) {
+pub(crate) fn print_classes(
+    rt: &impl Print,
+    family: &[u8],
+    plots: usize,
+    size: usize,
+) -> io::Result<()> {
     for i in 0..size {
-        print_next(number(factor::largest(families::member(family, i, plots))));
+        print_next(
+            rt,
+            number(factor::largest(families::member(family, i, plots))),
+        )?;
     }
+    Ok(())
 }

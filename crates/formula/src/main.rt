@@ -1,11 +1,13 @@
 // Reads a block formula on standard input and prints its sheet, or the line of its refusal. One byte 10 at the end of the input is no part of the
 // formula.
+#![tactic(auto)]
+
 ghost use Rattle.std.specs.Prelude.{◌≡◌, ◌≤◌, length, take};
 ghost use Rattle.decimal.specs.Writing.{Wrote};
 ghost use Rattle.formula.specs.Input.{without_end, formula_text};
 
 use input::read_input;
-use libc::STDOUT_FILENO;
+use std::io;
 
 // A formula that is one byte too long, and the byte 10 after it.
 const INPUT: usize = limits::FORMULA + 2;
@@ -34,16 +36,16 @@ fn print(input: &[u8], out: &mut [u8]) -> usize
     table::put_answer(answer, out)
 }
 
-fn main() {
+fn main(rt: HostRuntime) -> io::Result<()> {
     let mut input = [0u8; INPUT];
-    let got = read_input(&mut input);
-    if INPUT < got {
-        os::fail(b"formula: standard input");
-        return;
-    }
+    let got = match read_input(&mut rt.stdin(), &mut input) {
+        Ok(got) => got,
+        Err(error) => return eprintln!(rt; "formula: standard input: {error}"),
+    };
     let mut out = [0u8; limits::TEXT];
     let size = print(&input[..got], &mut out);
-    if !io::write_all(STDOUT_FILENO, &out[..size]) {
-        os::fail(b"formula: standard output");
+    match rt.write_all(&out[..size]) {
+        Ok(()) => Ok(()),
+        Err(error) => eprintln!(rt; "formula: standard output: {error}"),
     }
 }

@@ -1,27 +1,30 @@
 // Names members of small families, and runs into each refusal.
-use libc::STDOUT_FILENO;
+#![tactic(auto)]
+
 use limits::Level;
 use naming::{Kind, Named};
+use std::io;
 
 mod tables;
 
-fn main() {
-    one_plot();
-    merged();
-    two_columns();
-    three_columns();
-    hidden_column();
-    both_kinds();
-    suprema();
-    equivalents();
-    coarsest();
-    infimum_first();
-    refusals();
-    sizes();
+fn main(rt: HostRuntime) -> io::Result<()> {
+    one_plot(&rt)?;
+    merged(&rt)?;
+    two_columns(&rt)?;
+    three_columns(&rt)?;
+    hidden_column(&rt)?;
+    both_kinds(&rt)?;
+    suprema(&rt)?;
+    equivalents(&rt)?;
+    coarsest(&rt)?;
+    infimum_first(&rt)?;
+    refusals(&rt)?;
+    sizes(&rt)
 }
 
 // Names the members at places 1 to `size` of a family.
 fn trial(
+    rt: &impl Print,
     title: &[u8],
     text: &[u8],
     plots: usize,
@@ -29,19 +32,21 @@ fn trial(
     size: usize,
     digits: &[u8],
     kind: Kind,
-) {
+) -> io::Result<()> {
     let mut table: [Level; 2880] = [1; 2880];
     let mut family = [1u8; 7680];
     tables::levels(&mut table, plots, levels);
     tables::members(&mut family, plots, digits);
-    io::write_all(STDOUT_FILENO, title);
+    rt.write_all(title)?;
     for i in 0..size {
-        member(text, &table, &family, plots, size, kind, i + 1);
+        member(rt, text, &table, &family, plots, size, kind, i + 1)?;
     }
+    Ok(())
 }
 
 // Names the member at one place.
 fn member(
+    rt: &impl Print,
     text: &[u8],
     table: &[Level; 2880],
     family: &[u8; 7680],
@@ -49,39 +54,40 @@ fn member(
     size: usize,
     kind: Kind,
     place: usize,
-) {
+) -> io::Result<()> {
     let mut name = [46u8; 161];
     let answer = naming::member_name(text, table, family, plots, size, kind, place, &mut name);
-    show(answer, &name);
+    show(rt, answer, &name)
 }
 
 // One answer: the name and the byte past it, or the refusal and the first byte of the buffer.
-fn show(answer: Named, name: &[u8]) {
+fn show(rt: &impl Print, answer: Named, name: &[u8]) -> io::Result<()> {
     match answer {
         Named::Written(m) => {
             if m < name.len() {
                 let end = m + 1;
-                io::write_all(STDOUT_FILENO, &name[0..end]);
+                rt.write_all(&name[0..end])?;
             }
         }
         Named::Refused(q) => {
-            io::write_all(STDOUT_FILENO, b"refused ");
-            io::print_decimal(STDOUT_FILENO, q as u64);
+            rt.write_all(b"refused ")?;
+            rt.print(q as u64)?;
             if 1 < name.len() {
-                io::write_all(STDOUT_FILENO, &name[0..1]);
+                rt.write_all(&name[0..1])?;
             }
         }
     }
-    io::write_all(STDOUT_FILENO, b"\n");
+    rt.write_all(b"\n")
 }
 
-fn one_plot() {
-    trial(b"one plot\n", b"p:Aa\n", 1, b"7", 1, b"1", Kind::Plot);
+fn one_plot(rt: &impl Print) -> io::Result<()> {
+    trial(rt, b"one plot\n", b"p:Aa\n", 1, b"7", 1, b"1", Kind::Plot)
 }
 
 // Two equivalent columns: the lower one names the member.
-fn merged() {
+fn merged(rt: &impl Print) -> io::Result<()> {
     trial(
+        rt,
         b"two equivalent columns\n",
         b"p:Ax\tp:Bx\n",
         4,
@@ -89,12 +95,13 @@ fn merged() {
         3,
         b"111111221234",
         Kind::Plot,
-    );
+    )
 }
 
 // The second member is the supremum of the two columns.
-fn two_columns() {
+fn two_columns(rt: &impl Print) -> io::Result<()> {
     trial(
+        rt,
         b"two columns of eight plots\n",
         b"p:Blk\tp:Plt\n",
         8,
@@ -102,12 +109,13 @@ fn two_columns() {
         5,
         b"1111111111112222112233441212343412345678",
         Kind::Plot,
-    );
+    )
 }
 
 // Every two of the columns have the same infimum: all three are listed.
-fn three_columns() {
+fn three_columns(rt: &impl Print) -> io::Result<()> {
     trial(
+        rt,
         b"three columns of eight plots\n",
         b"p:Aa\tp:Bb\tp:Cc\n",
         8,
@@ -115,12 +123,13 @@ fn three_columns() {
         6,
         b"111111111111222211221122112222111122334412345678",
         Kind::Plot,
-    );
+    )
 }
 
 // The first column is coarser than the second, which is listed.
-fn hidden_column() {
+fn hidden_column(rt: &impl Print) -> io::Result<()> {
     trial(
+        rt,
         b"a column that a finer one hides\n",
         b"p:Aa\tp:Bb\tp:Cc\n",
         12,
@@ -128,14 +137,15 @@ fn hidden_column() {
         5,
         b"111111111111111111222222112112112112111222333444112334556778",
         Kind::Plot,
-    );
+    )
 }
 
 // Each kind by its own columns, a plot column and two treatment columns. Columns 1 to 5 of the table are not used.
-fn both_kinds() {
+fn both_kinds(rt: &impl Print) -> io::Result<()> {
     let digits = b"1111222200000000000000000000000000000000000000001122112211112222";
     let family = b"1111111111112222112211221122334412345678";
     trial(
+        rt,
         b"plot names\n",
         b"t:Trt\tp:Hut\tt:Sex\n",
         8,
@@ -143,8 +153,9 @@ fn both_kinds() {
         5,
         family,
         Kind::Plot,
-    );
+    )?;
     trial(
+        rt,
         b"treatment names\n",
         b"t:Trt\tp:Hut\tt:Sex\n",
         8,
@@ -152,14 +163,15 @@ fn both_kinds() {
         5,
         family,
         Kind::Treatment,
-    );
+    )
 }
 
 // A plot and a treatment column: a treatment member looks at both, a plot member at the first.
-fn suprema() {
+fn suprema(rt: &impl Print) -> io::Result<()> {
     let digits = b"11223344000000000000000000000000000000000000000012123434";
     let family = b"11111111111122221122334412345678";
     trial(
+        rt,
         b"treatment members, by both kinds\n",
         b"p:Hut\tt:Gain\n",
         8,
@@ -167,8 +179,9 @@ fn suprema() {
         4,
         family,
         Kind::Treatment,
-    );
+    )?;
     trial(
+        rt,
         b"plot members, by plot columns\n",
         b"p:Hut\tt:Gain\n",
         8,
@@ -176,12 +189,13 @@ fn suprema() {
         4,
         family,
         Kind::Plot,
-    );
+    )
 }
 
 // Of an equivalent plot and treatment column the plot column is listed.
-fn equivalents() {
+fn equivalents(rt: &impl Print) -> io::Result<()> {
     trial(
+        rt,
         b"an equivalent column of the other kind\n",
         b"t:Gain\tp:Hut\tp:Pier\n",
         8,
@@ -189,12 +203,13 @@ fn equivalents() {
         3,
         b"111111111111222212345678",
         Kind::Treatment,
-    );
+    )
 }
 
 // The first column is finer than the others, which are listed; the last is not finer than the member.
-fn coarsest() {
+fn coarsest(rt: &impl Print) -> io::Result<()> {
     trial(
+        rt,
         b"a column that a coarser one hides\n",
         b"p:Plt\tp:Hut\tt:Gain\tt:Kind\n",
         8,
@@ -202,12 +217,13 @@ fn coarsest() {
         3,
         b"111111111111222212345678",
         Kind::Treatment,
-    );
+    )
 }
 
 // The second member is a plot column, but the infimum of treatment columns comes first.
-fn infimum_first() {
+fn infimum_first(rt: &impl Print) -> io::Result<()> {
     trial(
+        rt,
         b"an infimum before a supremum\n",
         b"p:Hut\tt:Gain\tt:Kind\n",
         8,
@@ -215,12 +231,13 @@ fn infimum_first() {
         3,
         b"111111111212343412345678",
         Kind::Treatment,
-    );
+    )
 }
 
-fn refusals() {
-    trial(b"no text\n", b"", 4, b"0000", 1, b"2211", Kind::Plot);
+fn refusals(rt: &impl Print) -> io::Result<()> {
+    trial(rt, b"no text\n", b"", 4, b"0000", 1, b"2211", Kind::Plot)?;
     trial(
+        rt,
         b"an unended line\n",
         b"p:Hut",
         4,
@@ -228,8 +245,9 @@ fn refusals() {
         1,
         b"2211",
         Kind::Plot,
-    );
+    )?;
     trial(
+        rt,
         b"a line, then anything\n",
         b"p:Hut\nrubbish",
         2,
@@ -237,8 +255,9 @@ fn refusals() {
         2,
         b"1112",
         Kind::Plot,
-    );
+    )?;
     trial(
+        rt,
         b"no plots\n",
         b"p:Hut\n",
         0,
@@ -246,8 +265,9 @@ fn refusals() {
         1,
         b"2211",
         Kind::Plot,
-    );
+    )?;
     trial(
+        rt,
         b"a level of 0\n",
         b"p:Hut\n",
         4,
@@ -255,8 +275,9 @@ fn refusals() {
         1,
         b"2211",
         Kind::Plot,
-    );
+    )?;
     trial(
+        rt,
         b"a level of 0 in a plot column, a treatment member\n",
         b"p:Hut\n",
         4,
@@ -264,8 +285,9 @@ fn refusals() {
         1,
         b"1111",
         Kind::Treatment,
-    );
+    )?;
     trial(
+        rt,
         b"a level of 0 in a treatment column, a plot member\n",
         b"p:Hut\tt:Gain\n",
         4,
@@ -273,8 +295,9 @@ fn refusals() {
         1,
         b"1111",
         Kind::Plot,
-    );
+    )?;
     trial(
+        rt,
         b"a family not numbered\n",
         b"p:Hut\n",
         4,
@@ -282,8 +305,9 @@ fn refusals() {
         1,
         b"2211",
         Kind::Plot,
-    );
+    )?;
     trial(
+        rt,
         b"a family not in order\n",
         b"p:Hut\n",
         4,
@@ -291,32 +315,32 @@ fn refusals() {
         2,
         b"12341122",
         Kind::Plot,
-    );
+    )
 }
 
 // Sizes and places past the limits, and a name buffer that is too short.
-fn sizes() {
-    io::write_all(STDOUT_FILENO, b"sizes and places\n");
-    placed(1, 0);
-    placed(0, 1);
-    placed(33, 33);
-    placed(33, 34);
-    placed(1, 1);
-    short_buffer();
+fn sizes(rt: &impl Print) -> io::Result<()> {
+    rt.write_all(b"sizes and places\n")?;
+    placed(rt, 1, 0)?;
+    placed(rt, 0, 1)?;
+    placed(rt, 33, 33)?;
+    placed(rt, 33, 34)?;
+    placed(rt, 1, 1)?;
+    short_buffer(rt)
 }
 
 // One place of a family whose members have one plot.
-fn placed(size: usize, place: usize) {
+fn placed(rt: &impl Print, size: usize, place: usize) -> io::Result<()> {
     let table: [Level; 2880] = [1; 2880];
     let family = [1u8; 7680];
-    member(b"p:Hut\n", &table, &family, 1, size, Kind::Plot, place);
+    member(rt, b"p:Hut\n", &table, &family, 1, size, Kind::Plot, place)
 }
 
 // A name buffer of 159 bytes.
-fn short_buffer() {
+fn short_buffer(rt: &impl Print) -> io::Result<()> {
     let table: [Level; 2880] = [1; 2880];
     let family = [1u8; 7680];
     let mut name = [46u8; 159];
     let answer = naming::member_name(b"p:Hut\n", &table, &family, 1, 1, Kind::Plot, 1, &mut name);
-    show(answer, &name);
+    show(rt, answer, &name)
 }

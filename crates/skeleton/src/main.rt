@@ -1,6 +1,8 @@
 // Reads a sheet on standard input and prints its skeleton table, or the line of its refusal.
+#![tactic(auto)]
+
 use input::read_input;
-use libc::STDOUT_FILENO;
+use std::io;
 use table::Printed;
 
 // One byte more than a sheet may have, so that a longer one is refused.
@@ -9,20 +11,20 @@ const INPUT: usize = limits::TEXT + 1;
 // Bytes of the printed text.
 const TABLE: usize = 32768;
 
-fn main() {
+fn main(rt: HostRuntime) -> io::Result<()> {
     let mut input = [0u8; INPUT];
-    let got = read_input(&mut input);
-    if INPUT < got {
-        os::fail(b"skeleton: standard input");
-        return;
-    }
+    let got = match read_input(&mut rt.stdin(), &mut input) {
+        Ok(got) => got,
+        Err(error) => return eprintln!(rt; "skeleton: standard input: {error}"),
+    };
     let mut out = [0u8; TABLE];
     let answer = table::skeleton_table(&input[..got], &mut out);
     // The buffer has the room that is asked for, so the table is not refused.
     let Printed::Text(length) = answer else {
-        return;
+        return Ok(());
     };
-    if !io::write_all(STDOUT_FILENO, &out[..length]) {
-        os::fail(b"skeleton: standard output");
+    match rt.write_all(&out[..length]) {
+        Ok(()) => Ok(()),
+        Err(error) => eprintln!(rt; "skeleton: standard output: {error}"),
     }
 }

@@ -1,108 +1,110 @@
 // What the entries answer, in lines.
-use libc::STDOUT_FILENO;
+use std::io;
 
 // The relation and the degrees of freedom of a family.
-pub fn family(family: &[u8], plots: usize, size: usize) {
+pub fn family(rt: &impl Print, family: &[u8], plots: usize, size: usize) -> io::Result<()> {
     let r = strata::relation(family, plots, size);
     let d = strata::degrees_of_freedom(family, plots, size);
     if r.refusal != 0 {
-        refusal(r.refusal);
-        refusal(d.refusal);
-        return;
+        refusal(rt, r.refusal)?;
+        refusal(rt, d.refusal)?;
+        return Ok(());
     }
     let coarser = r.coarser;
     let direct = r.direct;
     let counts = r.counts;
     let degrees = d.degrees;
-    io::write_all(STDOUT_FILENO, b"coarser");
-    words(coarser, size);
-    io::write_all(STDOUT_FILENO, b"direct");
-    words(direct, size);
-    io::write_all(STDOUT_FILENO, b"counts");
-    words(counts, size);
-    io::write_all(STDOUT_FILENO, b"degrees");
-    numbers(degrees, size);
+    rt.write_all(b"coarser")?;
+    words(rt, coarser, size)?;
+    rt.write_all(b"direct")?;
+    words(rt, direct, size)?;
+    rt.write_all(b"counts")?;
+    words(rt, counts, size)?;
+    rt.write_all(b"degrees")?;
+    numbers(rt, degrees, size)
 }
 
 // The same of a whole buffer.
-pub fn whole(buffer: &[u8; 7680], plots: usize, size: usize) {
-    family(buffer, plots, size);
+pub fn whole(rt: &impl Print, buffer: &[u8; 7680], plots: usize, size: usize) -> io::Result<()> {
+    family(rt, buffer, plots, size)
 }
 
 // Both families, and the strata and residuals.
 pub fn design(
+    rt: &impl Print,
     plot: &[u8; 7680],
     plot_size: usize,
     treatment: &[u8; 7680],
     treatment_size: usize,
     plots: usize,
-) {
+) -> io::Result<()> {
     let s = strata::strata(plot, plot_size, treatment, treatment_size, plots);
     if s.refusal != 0 {
-        refusal(s.refusal);
-        return;
+        refusal(rt, s.refusal)?;
+        return Ok(());
     }
     let places = s.places;
     let residuals = s.residuals;
-    family(plot, plots, plot_size);
-    family(treatment, plots, treatment_size);
-    io::write_all(STDOUT_FILENO, b"strata");
-    strata_places(places, treatment_size);
-    io::write_all(STDOUT_FILENO, b"residuals");
-    numbers(residuals, plot_size);
+    family(rt, plot, plots, plot_size)?;
+    family(rt, treatment, plots, treatment_size)?;
+    rt.write_all(b"strata")?;
+    strata_places(rt, places, treatment_size)?;
+    rt.write_all(b"residuals")?;
+    numbers(rt, residuals, plot_size)
 }
 
-fn refusal(number: u8) {
-    io::write_all(STDOUT_FILENO, b"refused ");
-    io::print_decimal(STDOUT_FILENO, number as u64);
-    io::write_all(STDOUT_FILENO, b"\n");
+fn refusal(rt: &impl Print, number: u8) -> io::Result<()> {
+    rt.write_all(b"refused ")?;
+    rt.print(number as u64)?;
+    rt.write_all(b"\n")
 }
 
 // The first `size` words; a mark for each other that is not 0.
-fn words(values: [u32; 32], size: usize) {
+fn words(rt: &impl Print, values: [u32; 32], size: usize) -> io::Result<()> {
     for i in 0..32 {
-        number(i, size, wide_word(values[i]));
+        number(rt, i, size, wide_word(values[i]))?;
     }
-    end();
+    end(rt)
 }
 
 // The same for places.
-fn strata_places(values: [usize; 32], size: usize) {
+fn strata_places(rt: &impl Print, values: [usize; 32], size: usize) -> io::Result<()> {
     for i in 0..32 {
-        number(i, size, wide(values[i]));
+        number(rt, i, size, wide(values[i]))?;
     }
-    end();
+    end(rt)
 }
 
 // The same for signed numbers.
-fn numbers(values: [i64; 32], size: usize) {
+fn numbers(rt: &impl Print, values: [i64; 32], size: usize) -> io::Result<()> {
     for i in 0..32 {
         let value = values[i];
-        signed(i, size, value);
+        signed(rt, i, size, value)?;
     }
-    end();
+    end(rt)
 }
 
 // Number `i` of a line.
-fn number(i: usize, size: usize, value: u64) {
+fn number(rt: &impl Print, i: usize, size: usize, value: u64) -> io::Result<()> {
     if i < size {
-        io::write_all(STDOUT_FILENO, b" ");
-        io::print_decimal(STDOUT_FILENO, value);
-        return;
+        rt.write_all(b" ")?;
+        rt.print(value)?;
+        return Ok(());
     }
     if value != 0 {
-        io::write_all(STDOUT_FILENO, b" !");
+        rt.write_all(b" !")?;
     }
+    Ok(())
 }
 
 // A signed number.
-fn signed(i: usize, size: usize, value: i64) {
+fn signed(rt: &impl Print, i: usize, size: usize, value: i64) -> io::Result<()> {
     if value < 0 {
-        io::write_all(STDOUT_FILENO, b" -");
-        io::print_decimal(STDOUT_FILENO, below(value));
-        return;
+        rt.write_all(b" -")?;
+        rt.print(below(value))?;
+        return Ok(());
     }
-    number(i, size, value as u64);
+    number(rt, i, size, value as u64)
 }
 
 // How far a number lies below 0, up to a million.
@@ -117,8 +119,8 @@ fn below(value: i64) -> u64 {
     size as u64
 }
 
-fn end() {
-    io::write_all(STDOUT_FILENO, b"\n");
+fn end(rt: &impl Print) -> io::Result<()> {
+    rt.write_all(b"\n")
 }
 
 fn wide_word(n: u32) -> u64 {
