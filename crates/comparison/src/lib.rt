@@ -8,7 +8,7 @@ ghost use Rattle.comparison.specs.Answers.{compared_numbers};
 use standing::Comparison;
 
 // What comparing answers: how the two members stand, or the number of the question that failed.
-#[derive(Drop)]
+#[derive(Clone, Copy)]
 pub enum Compared {
     Stands(Comparison),
     Refused(u32),

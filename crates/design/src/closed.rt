@@ -25,7 +25,7 @@ const CROSSED: usize = 5;
 const PARTED: usize = 6;
 
 // A closed family: its size, or TOO_MANY; and where its members were found, in their order.
-#[derive(Drop)]
+#[derive(Clone, Copy)]
 pub struct ClosedFamily {
     pub size: usize,
     pub order: [u8; MEMBERS],

@@ -21,7 +21,7 @@ use limits::{MEMBERS, PLOTS};
 const SOME_MEMBERS: usize = 4;
 
 // Whether a pair is orthogonal, and how many different suprema there are with its own, or TOO_MANY.
-#[derive(Drop)]
+#[derive(Clone, Copy)]
 pub struct Pair {
     pub orthogonal: bool,
     pub size: usize,
@@ -29,7 +29,7 @@ pub struct Pair {
 
 // The cell of a pair that is not orthogonal, from 1, or 0; and how many different suprema there are, or TOO_MANY, which says something
 // only where all are orthogonal.
-#[derive(Drop)]
+#[derive(Clone, Copy)]
 pub struct Row {
     pub apart: usize,
     pub size: usize,
@@ -37,7 +37,7 @@ pub struct Row {
 
 // The first pair of a plot and a treatment member that are not orthogonal, from 1, or zeros; and how many different suprema there
 // are, or TOO_MANY, which says something only where all are orthogonal.
-#[derive(Drop)]
+#[derive(Clone, Copy)]
 pub struct Crossed {
     pub first: usize,
     pub second: usize,

@@ -29,7 +29,7 @@ mod verdict;
 use limits::{COLUMNS, Level};
 
 // Why a plot design is refused: the question's number, the places it fails at, and the size of the family written.
-#[derive(Drop)]
+#[derive(Clone, Copy)]
 pub struct PlotRefusal {
     pub number: u32,
     pub first: usize,
@@ -38,7 +38,7 @@ pub struct PlotRefusal {
 }
 
 // What the plot design answers: the size of the family written, or the refusal.
-#[derive(Drop)]
+#[derive(Clone, Copy)]
 pub enum PlotDesign {
     Accepted(usize),
     Refused(PlotRefusal),
@@ -62,14 +62,14 @@ pub fn plot_design(levels: &[Level], plots: usize, columns: usize, family: &mut 
 }
 
 // The sizes of the plot and the treatment family written.
-#[derive(Drop)]
+#[derive(Clone, Copy)]
 pub struct Sizes {
     pub plot: usize,
     pub treatment: usize,
 }
 
 // Why a full design is refused: the question's number, the places it fails at, and the sizes of the families written.
-#[derive(Drop)]
+#[derive(Clone, Copy)]
 pub struct FullRefusal {
     pub number: u32,
     pub first: usize,
@@ -79,7 +79,7 @@ pub struct FullRefusal {
 }
 
 // What the full design answers: the sizes of the families written, or the refusal.
-#[derive(Drop)]
+#[derive(Clone, Copy)]
 pub enum FullDesign {
     Accepted(Sizes),
     Refused(FullRefusal),

@@ -11,7 +11,7 @@ use families::member;
 use limits::MEMBERS;
 
 // A member of a family: its place, its number of classes, and a word with a bit for each member that is finer.
-#[derive(Drop)]
+#[derive(Clone, Copy)]
 pub struct Entry {
     pub place: usize,
     pub count: u8,

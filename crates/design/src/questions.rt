@@ -14,7 +14,7 @@ use families::member;
 use limits::{COLUMNS, FAMILY, INTERACTION, LEVELS, MEMBERS, PLOTS};
 
 // The first failing pair, with places from 1; 0 and 0 where there is none.
-#[derive(Drop)]
+#[derive(Clone, Copy)]
 pub struct Places {
     pub first: usize,
     pub second: usize,

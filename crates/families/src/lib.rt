@@ -1,4 +1,6 @@
 // Questions 6 and 15 of a family in lent memory. Members are counted from 0.
+#![tactic(auto)]
+
 ghost use Rattle.std.specs.Prelude.{◌≡◌, true, false, ◌&&◌, ℕ, ◌≤◌, ◌<◌, leb, length};
 ghost use Rattle.rules.specs.Limits.{most_plots, most_members, family_bytes};
 ghost use Rattle.rules.specs.Factor.{at};

@@ -1,4 +1,6 @@
 // The level table in lent memory: its columns, these numbered, and question 7.
+#![tactic(auto)]
+
 ghost use Rattle.std.specs.Prelude.{◌≡◌};
 ghost use Rattle.rules.specs.Factor.{at, number, classes};
 ghost use Rattle.rules.specs.Family.{columns_from};

@@ -12,7 +12,7 @@ pub const COLUMN_BYTES: usize = PLOTS * FIELDS;
 
 // Which columns a name is given by, and on how many plots. The first `before` are plot columns that a member of another kind looks at too;
 // then come the `count` columns of its kind, which `mark` marks in the first line and which stand from column `first` on in the level table.
-#[derive(Drop)]
+#[derive(Clone, Copy)]
 pub struct Look {
     pub mark: u8,
     pub plots: usize,

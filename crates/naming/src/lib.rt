@@ -15,14 +15,14 @@ use limits::{Level, TEXT};
 use sheet::Counts;
 
 // A family's kind, which the caller states.
-#[derive(Drop)]
+#[derive(Clone, Copy)]
 pub enum Kind {
     Plot,
     Treatment,
 }
 
 // What naming answers: how many bytes the name has, or the number of the question that failed.
-#[derive(Drop)]
+#[derive(Clone, Copy)]
 pub enum Named {
     Written(usize),
     Refused(u32),

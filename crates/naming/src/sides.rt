@@ -10,7 +10,7 @@ ghost use Rattle.naming.specs.Columns.{Columns, side_of, JoinAsks, outdone, list
 use limits::PLOTS;
 
 // Which side.
-#[derive(Drop)]
+#[derive(Clone, Copy)]
 pub enum Side {
     Coarser,
     Finer,

@@ -1,5 +1,7 @@
 // Numbering by first appearance: equivalent columns become equal. A column of levels is a slice, that of numbers an array; at most 240 plots
 // are numbered.
+#![tactic(auto)]
+
 ghost use Rattle.std.specs.Prelude.{◌≡◌, ◌≤◌, take};
 ghost use Rattle.rules.specs.Limits.{most_plots};
 ghost use Rattle.rules.specs.Factor.{number, classes};

@@ -37,7 +37,7 @@ pub fn place_of(text: &[u8], byte: u8) -> usize
 }
 
 // A level and the place after the byte that follows it; 0 and 0 where these are not there.
-#[derive(Drop)]
+#[derive(Clone, Copy)]
 pub struct FieldLevel {
     pub end: usize,
     pub level: Level,

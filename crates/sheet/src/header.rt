@@ -16,7 +16,7 @@ const PAST_COLUMN: usize = 15;
 
 // The first line of a sheet: where the next one starts, 0 if the line has not the form, the columns of each kind, and the column of
 // the level table that each field takes, 0 past the fields.
-#[derive(Drop)]
+#[derive(Clone, Copy)]
 pub struct Header {
     pub end: usize,
     pub plot_columns: usize,
@@ -25,7 +25,7 @@ pub struct Header {
 }
 
 // Where bytes of a text stand: from `start` on, those before `end`.
-#[derive(Drop)]
+#[derive(Clone, Copy)]
 pub struct Span {
     pub start: usize,
     pub end: usize,

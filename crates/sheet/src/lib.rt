@@ -1,4 +1,6 @@
 // The sheet reader: the only way from text to a level table.
+#![tactic(auto)]
+
 ghost use Rattle.std.specs.Prelude.{◌≡◌};
 ghost use Rattle.rules.specs.Sheet.{reading, levels_after, OlderKept};
 ghost use Rattle.sheet.specs.Answers.{outcome_of};
@@ -13,7 +15,7 @@ pub use header::{Header, Span, column_name, read_header};
 use limits::{LEVELS, Level, TEXT};
 
 // How many plots, plot columns and treatment columns a sheet has.
-#[derive(Drop)]
+#[derive(Clone, Copy)]
 pub struct Counts {
     pub plots: usize,
     pub plot_columns: usize,
@@ -21,7 +23,7 @@ pub struct Counts {
 }
 
 // What reading answers: the counts, or the number of the question that failed.
-#[derive(Drop)]
+#[derive(Clone, Copy)]
 pub enum Reading {
     Read(Counts),
     Refused(u32),

@@ -9,7 +9,7 @@ use crate::field;
 use limits::{Level, PLOTS};
 
 // Whether every later line has the form, and how many there are.
-#[derive(Drop)]
+#[derive(Clone, Copy)]
 pub struct Rows {
     pub good: bool,
     pub count: usize,

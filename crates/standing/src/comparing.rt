@@ -9,7 +9,7 @@ use factor::finer;
 use limits::PLOTS;
 
 // The five cases, each said of the first factor; of those that fit the first. `Orthogonal` is said where neither is finer.
-#[derive(Drop)]
+#[derive(Clone, Copy)]
 pub enum Comparison {
     Equivalent,
     Finer,

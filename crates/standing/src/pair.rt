@@ -14,14 +14,14 @@ use factor::{common_plots, finer, label_sizes};
 use limits::PLOTS;
 
 // Numbers of classes: of the infimum of two factors and of their supremum.
-#[derive(Drop)]
+#[derive(Clone, Copy)]
 pub struct Bounds {
     pub infimum: usize,
     pub supremum: usize,
 }
 
 // The number of classes of the supremum of two factors, and whether they are orthogonal.
-#[derive(Drop)]
+#[derive(Clone, Copy)]
 pub struct Crossing {
     pub supremum: usize,
     pub orthogonal: bool,

@@ -13,7 +13,7 @@ mod order;
 mod stratum;
 
 // Who is strictly coarser than whom: bit j - 1 of member i's word is for member j. All 0 past the size and after a refusal.
-#[derive(Drop)]
+#[derive(Clone, Copy)]
 pub struct RelationReport {
     // the question that failed, or 0
     pub refusal: u8,
@@ -28,7 +28,7 @@ pub struct RelationReport {
 }
 
 // The degrees of freedom of each member. All 0 past the size and after a refusal.
-#[derive(Drop)]
+#[derive(Clone, Copy)]
 pub struct DegreesReport {
     // the question that failed, or 0
     pub refusal: u8,
@@ -36,7 +36,7 @@ pub struct DegreesReport {
 }
 
 // All 0 past the sizes and after a refusal.
-#[derive(Drop)]
+#[derive(Clone, Copy)]
 pub struct StrataReport {
     // the question that failed, or 0
     pub refusal: u8,

@@ -27,7 +27,7 @@ const TABLE: usize = 32768;
 const NAMES: usize = NAME * MEMBERS;
 
 // What printing answers: how many bytes the text has, or the number of the question that failed.
-#[derive(Drop)]
+#[derive(Clone, Copy)]
 pub enum Printed {
     Text(usize),
     Refused(u32),

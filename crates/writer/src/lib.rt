@@ -7,7 +7,7 @@ use decimal::{write_byte, write_bytes, write_decimal};
 use limits::Level;
 
 // What an entry that writes a sheet answers: how many bytes the sheet has, or the number of the question that failed.
-#[derive(Drop)]
+#[derive(Clone, Copy)]
 pub enum Writing {
     Written(usize),
     Refused(u32),
