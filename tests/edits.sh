@@ -1,11 +1,17 @@
 #!/usr/bin/env bash
-# The prover refused each must-fail edit where it should. `fails:` names what becomes false: a function, as `crate::module::function`, or
+# The prover refuses each must-fail edit where it should. `fails:` names what becomes false: a function, as `crate::module::function`, or
 # functions that call each other, as `crate::module::+one+other`, or a law of the rules, as `crate::File::law`. A function has an error of
 # its own: it does not count that a function it calls is not proved, nor that the proof names a step or a place that the edited code has
-# not. A law is refused itself, or rests on one that is. The script reads what `rt ci` left of the edits it tried. That what is refused is
-# false, and not only written for other code, a reader has to see.
+# not. A law is refused itself, or rests on one that is. `rt ci` keeps no more of an edit than its first error, so each is tried here once
+# more, on a copy of its crate. That what is refused is false, and not only written for other code, a reader has to see.
+#
+#     tests/edits.sh             the edits of all crates
+#     tests/edits.sh CRATE..     those of some
 set -u
 cd "$(dirname "$0")/.." || exit 1
+work=$(mktemp -d) || exit 1
+trap 'rm -rf "$work"' EXIT
+export work
 named=0
 bad=0
 
@@ -15,40 +21,103 @@ complain() {
   bad=1
 }
 
-# fails LOG FUNCTION: the function has an error of its own that is no misfit of its proof
-fails() {
-  local path=${2#*::}
-  path=proofs/${path//:://}/Proof.antt
-  if grep -q "/$path:[0-9]*:[0-9]*: error" "$1"; then
-    grep "/$path:[0-9]*:[0-9]*: error" "$1" | grep -v 'so this cannot be checked' | grep -v 'has no field' | grep -qv 'has no `Need-'
-  else
-    grep -q "^fn $2: no proof: .*\`search\` does not close" "$1"
-  fi
+# below CRATE: the crates of the repository that it stands on
+below() {
+  local crate
+  for crate in $(sed -n "s/^$1\( [^:]*\)\?: *//p" crates.txt); do
+    if [[ -d crates/$crate ]]; then
+      echo "$crate"
+      below "$crate"
+    fi
+  done
 }
 
-# law_fails LOG LAW: the law, in the file of specs/ or proofs/ that has it, is refused
+# log_of EDIT: where what was said of it stands
+log_of() {
+  local crate=${1#crates/}
+  echo "$work/${crate%%/*}.$(basename "$1" .edit).log"
+}
+
+# try EDIT: checks a copy of its crate with it
+try() {
+  local crate=${1#crates/} room one
+  crate=${crate%%/*}
+  room=$(mktemp -d "$work/room.XXXXXX") || return
+  mkdir "$room/crates"
+  cp crates.txt "$room"
+  cp -a "crates/$crate" "$room/crates"
+  rm -rf "$room/crates/$crate/must-fail"
+  for one in $(below "$crate" | sort -u); do
+    cp -al "crates/$one" "$room/crates" 2>/dev/null || cp -a "crates/$one" "$room/crates"
+  done
+  if python3 tests/parts/edit.py "$1" "$room/crates/$crate" >"$(log_of "$1")" 2>&1; then
+    (cd "$room/crates/$crate" && rt check --jobs 1) </dev/null >"$(log_of "$1")" 2>&1
+  fi
+  rm -rf "$room"
+}
+export -f below log_of try
+
+# what is said of a proof that names what the edit took away, and of what rests on what was refused
+misfit='has no field|has no `|is not in scope|(was|were) not checked'
+
+# fails LOG FUNCTION: the function has an error of its own that is no misfit of its proof
+fails() {
+  local functions=$2 path=${2#*::} one
+  if [[ $path == *+* ]]; then
+    # functions that call each other: their proof has a name of its own
+    functions=${2#*+}
+    functions=${2%%+*}${functions//+/ ${2%%+*}}
+    path="${path%%+*}\\+[^/]*"
+  fi
+  for one in $functions; do
+    grep -qE "^fn $one: no proof: .*\`search\` did not prove" "$1" && return
+  done
+  grep -E "^(\./)?proofs/${path//:://}/[A-Za-z]*\.antt:[0-9]+:[0-9]+: error" "$1" | grep -qvE "$misfit"
+}
+
+# law_fails LOG LAW: the law, in the file of proofs/ that has it, is refused or rests on one that is
 law_fails() {
   local path=${2#*::}
   local law=${path##*::}
   path=${path%::*}
-  grep -qE "/(specs|proofs)/${path//:://}\.antt:[0-9]+:[0-9]+: error: \`$law\`" "$1"
+  grep -E "^(\./)?proofs/${path//:://}\.antt:[0-9]+:[0-9]+: error: \`$law\`" "$1" | grep -qvE "$misfit" ||
+    grep -qE "^(\./)?proofs/${path//:://}\.antt:[0-9]+:[0-9]+: error: .* not checked: (.*, )?$law( \(via|, | and |\$)" "$1" ||
+    grep -qE "^(\./)?proofs/Asked[0-9]+\.antt:[0-9]+:[0-9]+: error: .* depends on \`$law\`, which was (not admitted|rejected), " "$1"
 }
 
-for edit in crates/*/must-fail/*.edit; do
-  crate=${edit#crates/}
-  log=target/must-fail/${crate%%/*}/$(basename "$edit" .edit)/.log
-  if [[ ! -f $log ]]; then
-    complain "$edit" 'it was not tried'
+# The crates are proved as they stand: the tries begin with that.
+if [[ $# -eq 0 ]]; then
+  for folder in crates/*/must-fail; do
+    set -- "$@" "$(basename "${folder%/*}")"
+  done
+fi
+for crate in "$@"; do
+  if ! (cd "crates/$crate" && rt check) </dev/null >"$work/$crate.log" 2>&1; then
+    echo "edits: $crate is not proved as it stands"
+    tail -n 20 "$work/$crate.log"
+    exit 1
+  fi
+done
+edits=()
+for crate in "$@"; do
+  edits+=("crates/$crate/must-fail/"*.edit)
+done
+printf '%s\0' "${edits[@]}" | xargs -0 -P "$(nproc)" -n 1 bash -c 'try "$1"' try
+
+for edit in "${edits[@]}"; do
+  log=$(log_of "$edit")
+  if ! grep -q '^logic=not-proved' "$log"; then
+    complain "$edit" "it was not tried, or not refused: $(tail -n 1 "$log")"
     continue
   fi
-  if grep -m 1 ': error' "$log" | grep -q 'has no `Need-'; then
-    complain "$edit" 'it only makes the proof unfit for the code'
-  fi
-  if grep -q '^file: proofs/' "$edit"; then
-    complain "$edit" 'it changes a proof, not the code or the rules'
+  if grep -E "^(\./)?(src|specs)/[^:]*:[0-9]+:[0-9]+: error" "$log" >/dev/null; then
+    complain "$edit" 'its text cannot be read'
   fi
   if ! grep -q '^fails: ' "$edit"; then
     complain "$edit" 'it names neither a function nor a law that fails'
+  fi
+  if grep -q '^file: proofs/' "$edit"; then
+    complain "$edit" 'it changes a proof, not the code or the rules'
   fi
   for name in $(sed -n 's/^fails: //p' "$edit"); do
     named=$((named + 1))
