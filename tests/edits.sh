@@ -44,11 +44,12 @@ try() {
   crate=${crate%%/*}
   room=$(mktemp -d "$work/room.XXXXXX") || return
   mkdir "$room/crates"
-  cp crates.txt "$room"
   cp -a "crates/$crate" "$room/crates"
   rm -rf "$room/crates/$crate/must-fail"
+  grep -E "^$crate( [^:]*)?:" crates.txt >"$room/crates.txt"
   for one in $(below "$crate" | sort -u); do
     cp -al "crates/$one" "$room/crates" 2>/dev/null || cp -a "crates/$one" "$room/crates"
+    grep -E "^$one( [^:]*)?:" crates.txt >>"$room/crates.txt"
   done
   if python3 tests/parts/edit.py "$1" "$room/crates/$crate" >"$(log_of "$1")" 2>&1; then
     (cd "$room/crates/$crate" && rt check --jobs 1) </dev/null >"$(log_of "$1")" 2>&1
