@@ -1,4 +1,6 @@
 // Sheets written from a level table: the first line as it is given, then a line for each plot.
+#![tactic(auto)]
+
 ghost use Rattle.rules.specs.Lists.{decimal_of};
 ghost use Rattle.decimal.specs.Writing.{Wrote};
 ghost use Rattle.writer.specs.Rows.{columns_at, line_bytes, field_bytes, table_sheet};
