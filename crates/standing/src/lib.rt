@@ -1,5 +1,7 @@
 // How two factors stand, and what they make together: infimum, supremum and orthogonality, by their columns.
 
+#![tactic(auto)]
+
 mod cells;
 mod comparing;
 mod join;

@@ -1,0 +1,25 @@
+-- `crossing_whole` meets its contract: the supremum of nested factors is the coarser one.
+use mathlib.Core.Path.{◌≡◌, refl, sym, ap, ◌∙◌}
+use mathlib.Core.Bool.{true}
+use lib.ListN.{length}
+use Rattle.rules.specs.Factor.{finer, classes}
+use Rattle.rules.proofs.Bounds.{infimum_self}
+use Rattle.rules.proofs.Columns.{classes_number}
+use Rattle.factor.specs.Lent.{overlay}
+use Rattle.factor.proofs.Lent.{finer_common}
+use Rattle.standing.proofs.Nesting.{nested_supremum, supremum_classes, nested_true}
+use Rattle.standing.proofs.pair.crossing_whole.Goals as goal
+
+pub infimum_many-k-requires : goal.infimum_many-k-requires
+infimum_many-k-requires c = (c.requires.0, refl, c.requires.2, c.requires.4)
+
+pub returns-then-finer : goal.returns-then-finer
+returns-then-finer c =
+    let f = c.args.f.now in
+    let g = c.args.g.now in
+    let self = infimum_self (length f) f refl in
+    let nested : finer (length f) g f ≡ true = sym (finer_common (length f) g f c.requires.0 c.requires.1 refl) ∙ sym c.finer.ensures ∙ c.if-finer.true in record {
+      supremum = c.infimum_many-k.ensures.answer ∙ ap classes self ∙ classes_number f ∙ supremum_classes f g c.requires.1 nested;
+      orthogonal = nested_true f g c.requires.1 nested;
+      above = c.infimum_many-k.ensures.numbers ∙ ap (overlay c.args.above.now) (self ∙ sym (nested_supremum f g c.requires.1 nested));
+    }
