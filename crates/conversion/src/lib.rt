@@ -1,4 +1,6 @@
 // Old sheets, which number a column within another one, are converted: questions 6, 2 to 5 and 23.
+#![tactic(auto)]
+
 ghost use Rattle.std.specs.Prelude.{◌≡◌, length};
 ghost use Rattle.rules.specs.SheetText.{sheet_buffer};
 ghost use Rattle.rules.specs.Parents.{conversion, conversion_from3};

@@ -1,12 +1,10 @@
 -- `convert`: 6, 2 and half of 3 are asked first.
--- Assumes nothing.
 use Prim.Native.Nat.{ℕ}
 use mathlib.Core.Path.{◌≡◌, refl, sym, ap, ◌∙◌, subst}
 use mathlib.Core.List.{List}
 use mathlib.Core.Bool.{true, ◌&&◌}
 use native.Mathlib.Omega.{arith}
-use borrow.Author.Rules.{rules}
-use borrow.Author.Tests.{not-true, not-false, le-leb}
+use borrow.Author.Tests.{le-leb}
 use lib.ListN.{length, take}
 use Rattle.rules.specs.Sheet.{newline, has, all, header}
 use Rattle.rules.specs.SheetText.{sheet_buffer}
@@ -19,8 +17,7 @@ use Rattle.conversion.specs.Answers.{HoldsConverted}
 use Rattle.writer.specs.declared.Writing.{Writing}
 use Rattle.writer.specs.declared.Writing.TheVariants.{Refused}
 use Rattle.conversion.proofs.PlainLaws.{short_6, empty_2, long_2, unformed_3, from_3}
-use Rattle.conversion.proofs.convert.Statement.{statement}
-use Rattle.conversion.proofs.convert.Tie as tie
+use Rattle.conversion.proofs.convert.Goals as goal
 
 -- the last clause follows from the others
 whole : (old out after : List ℕ) (r : Writing) → (writing_numbers r ≡ answer_numbers (conversion old (length out))) × (after ≡ sheet_buffer out (conversion old (length out)))
@@ -30,47 +27,44 @@ whole old out after r p = (
   (p.1, λ e levels h. subst (λ (t : List ℕ). Converted old t levels) (sym (ap (take (length (conversion old (length out)).sheet)) p.1 ∙ buffer_sheet out (conversion old (length out)))) (conversion_converted old (length out) levels e h)),
 )
 
-returns : tie.Need-returns
+pub returns-then-out-lt-TEXT : goal.returns-then-out-lt-TEXT
 unfolding writing_numbers answer_numbers
-returns c =
-    let a = c.before.before.before.args in
+returns-then-out-lt-TEXT c =
+    let a = c.args in
     let o = a.old.now in
     let l = length a.out.now in
-    whole o a.out.now a.out.now (Refused 6) (rw (short_6 o l (omega arith)) (refl, refl))
+    let all = whole o a.out.now a.out.now (Refused 6) (rw (short_6 o l (omega arith)) (refl, refl)) in record { answer = all.0; sheet = all.1.0; converted = all.1.1 }
 
-returns-2 : tie.Need-returns-2
+pub returns-then-old-lt1 : goal.returns-then-old-lt1
 unfolding writing_numbers answer_numbers
-returns-2 c =
-    let a = c.before.before.before.before.args in
+returns-then-old-lt1 c =
+    let a = c.args in
     let o = a.old.now in
     let l = length a.out.now in
-    whole o a.out.now a.out.now (Refused 2) (rw (empty_2 o l (omega arith) (omega arith)) (refl, refl))
+    let all = whole o a.out.now a.out.now (Refused 2) (rw (empty_2 o l (omega arith) (omega arith)) (refl, refl)) in record { answer = all.0; sheet = all.1.0; converted = all.1.1 }
 
-returns-3 : tie.Need-returns-3
+pub returns-then-old-gt-TEXT : goal.returns-then-old-gt-TEXT
 unfolding writing_numbers answer_numbers
-returns-3 c =
-    let a = c.before.before.before.before.before.args in
+returns-then-old-gt-TEXT c =
+    let a = c.args in
     let o = a.old.now in
     let l = length a.out.now in
-    whole o a.out.now a.out.now (Refused 2) (rw (long_2 o l (omega arith) (omega arith) (omega arith)) (refl, refl))
+    let all = whole o a.out.now a.out.now (Refused 2) (rw (long_2 o l (omega arith) (omega arith) (omega arith)) (refl, refl)) in record { answer = all.0; sheet = all.1.0; converted = all.1.1 }
 
-slashes-formed-requires : tie.Need-slashes-formed-requires
-slashes-formed-requires c κs = search rules
-
-returns-4 : tie.Need-returns-4
+pub returns-then-not-slashes_formed : goal.returns-then-not-slashes_formed
 unfolding writing_numbers answer_numbers
-returns-4 c =
-    let a = c.before.before.before.before.before.before.before.args in
+returns-then-not-slashes_formed c =
+    let a = c.args in
     let o = a.old.now in
     let l = length a.out.now in
-    whole o a.out.now a.out.now (Refused 3) (rw (unformed_3 o l (omega arith) (omega arith) (omega arith) (sym c.before.slashes-formed.ensures ∙ not-true _ c.if4.true)) (refl, refl))
+    let all = whole o a.out.now a.out.now (Refused 3) (rw (unformed_3 o l (omega arith) (omega arith) (omega arith) (sym c.slashes_formed.ensures ∙ c.if-not-slashes_formed.true)) (refl, refl)) in record { answer = all.0; sheet = all.1.0; converted = all.1.1 }
 
-convert-formed-requires : tie.Need-convert-formed-requires
-convert-formed-requires c κs =
-    let a = c.before.before.before.before.before.before.before.before.args in
+pub convert_formed-requires : goal.convert_formed-requires
+convert_formed-requires c =
+    let a = c.args in
     let o = a.old.now in
     let l = length a.out.now in
-    let y : has newline o && all slash_form (header o) ≡ true = sym c.before.before.slashes-formed.ensures ∙ not-false _ c.before.if4.false in
+    let y : has newline o && all slash_form (header o) ≡ true = sym c.slashes_formed.ensures ∙ c.if-not-slashes_formed.false in
     record {
       room = omega arith;
       size = rw (le-leb 1 (length o) (omega arith), le-leb (length o) 32768 (omega arith));
@@ -78,26 +72,10 @@ convert-formed-requires c κs =
       slashes = and_right (has newline o) (all slash_form (header o)) y;
     }
 
-same_length : tie.Need-same-length
-same_length c = search rules
-
-returns-5 : tie.Need-returns-5
-returns-5 c =
-    let a = c.before.before.before.before.before.before.before.before.before.before.before.args in
+pub returns : goal.returns
+returns c =
+    let a = c.args in
     let o = a.old.now in
     let l = length a.out.now in
-    let k = c.before.before.convert-formed in
-    whole o a.out.now k.new.1.0 k.result (rw (from_3 o l (omega arith) (omega arith) (omega arith)) k.ensures)
-
-pub convert_spec : {M : Type 1} → statement M
-convert_spec =
-    tie.close
-    (tie.spec
-    returns
-    returns-2
-    returns-3
-    slashes-formed-requires
-    returns-4
-    convert-formed-requires
-    same_length
-    returns-5)
+    let k = c.convert_formed in
+    let all = whole o a.out.now k.new.out k.result (rw (from_3 o l (omega arith) (omega arith) (omega arith)) (k.ensures.answer, k.ensures.sheet)) in record { answer = all.0; sheet = all.1.0; converted = all.1.1 }
