@@ -5,7 +5,7 @@ use mathlib.Core.List.{List}
 use native.Mathlib.Omega.{arith}
 use lib.ListN.{length, take, drop, replicate, length-take, length-replicate}
 use lib.Seq.{take_at}
-use Rattle.rules.specs.Sheet.{read, refused, reading}
+use Rattle.rules.specs.Sheet.{refused, reading}
 use Rattle.rules.specs.SheetText.{no_sheet}
 use Rattle.rules.specs.Parents.{conversion_from3}
 use borrow.Author.Tests.{ne_eqb}
