@@ -1,5 +1,7 @@
 // Designs: families closed from the columns of a level table, and questions 6 to 14.
 
+#![tactic(auto)]
+
 ghost use Rattle.std.specs.Prelude.{◌≡◌, length};
 ghost use Rattle.rules.specs.Family.{columns_from, members_of, AtMost};
 ghost use Rattle.rules.specs.Closing.{InPlotFamily};

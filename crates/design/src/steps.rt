@@ -3,7 +3,7 @@ ghost use Rattle.std.specs.Prelude.{◌≡◌, ◌≤◌, length};
 ghost use Rattle.rules.specs.Limits.{most_plots, table_cells, family_bytes};
 ghost use Rattle.rules.specs.Factor.{equality};
 ghost use Rattle.rules.specs.Family.{◌∈◌, columns_from, members_of};
-ghost use Rattle.rules.specs.Closing.{plot_family, first_treatment_family};
+ghost use Rattle.rules.specs.Closing.{plot_family as closed_plot_family, first_treatment_family};
 ghost use Rattle.rules.specs.Design.{question8, plot_buffer, question11, with_treatments, treatment_buffer};
 ghost use Rattle.design.specs.Treatments.{Numbered};
 ghost use Rattle.design.specs.Answers.{plot_numbers, plot_numbers_of, full_numbers, full_numbers_of};
@@ -18,8 +18,8 @@ use limits::{FAMILY, Level};
 // Questions 8 to 10.
 pub fn plot_from_8(levels: &[Level], n: usize, columns: usize, family: &mut [u8]) -> PlotDesign
     requires { (1 ≤ n) × (n ≤ most_plots) × (columns ≤ 6) × (table_cells ≤ length levels.now) × (family_bytes ≤ length family.old) }
-    ensures answer { plot_numbers result ≡ plot_numbers_of (question8 n (plot_family n (columns_from n levels.now 0 columns))) }
-    ensures buffer { family.new ≡ plot_buffer family.old (question8 n (plot_family n (columns_from n levels.now 0 columns))) }
+    ensures answer { plot_numbers result ≡ plot_numbers_of (question8 n (closed_plot_family n (columns_from n levels.now 0 columns))) }
+    ensures buffer { family.new ≡ plot_buffer family.old (question8 n (closed_plot_family n (columns_from n levels.now 0 columns))) }
 {
     let mut store = [0u8; FAMILY];
     let mut marks = [0u8; PAIRS];
@@ -38,9 +38,9 @@ pub fn full_from_8(
     treatment_family: &mut [u8],
 ) -> FullDesign
     requires { (1 ≤ n) × (n ≤ most_plots) × (c ≤ 6) × (d ≤ 6) × (1 ≤ k) × (k ≤ 6) × (table_cells ≤ length levels.now) × (family_bytes ≤ length plot_family.old) × (family_bytes ≤ length treatment_family.old) }
-    ensures answer { full_numbers result ≡ full_numbers_of (with_treatments n k (columns_from n levels.now 6 d) (question8 n (plot_family n (columns_from n levels.now 0 c)))) }
-    ensures plots { plot_family.new ≡ plot_buffer plot_family.old (with_treatments n k (columns_from n levels.now 6 d) (question8 n (plot_family n (columns_from n levels.now 0 c)))) }
-    ensures treatments { treatment_family.new ≡ treatment_buffer treatment_family.old (with_treatments n k (columns_from n levels.now 6 d) (question8 n (plot_family n (columns_from n levels.now 0 c)))) }
+    ensures answer { full_numbers result ≡ full_numbers_of (with_treatments n k (columns_from n levels.now 6 d) (question8 n (closed_plot_family n (columns_from n levels.now 0 c)))) }
+    ensures plots { plot_family.new ≡ plot_buffer plot_family.old (with_treatments n k (columns_from n levels.now 6 d) (question8 n (closed_plot_family n (columns_from n levels.now 0 c)))) }
+    ensures treatments { treatment_family.new ≡ treatment_buffer treatment_family.old (with_treatments n k (columns_from n levels.now 6 d) (question8 n (closed_plot_family n (columns_from n levels.now 0 c)))) }
 {
     let mut store = [0u8; FAMILY];
     let mut marks = [0u8; PAIRS];

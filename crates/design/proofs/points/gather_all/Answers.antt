@@ -1,0 +1,98 @@
+use mathlib.Core.Path.{◌≡◌, refl, sym, ap, ◌∙◌}
+use Prim.Native.Nat.{◌-◌, ◌≤◌, ◌<◌}
+use native.Mathlib.Omega.{arith}
+use lib.ListN.{length, take}
+use lib.Seq.{take_all, length-take-le}
+use Rattle.rules.specs.Factor.{Column, classes, equality}
+use Rattle.rules.specs.Family.{members_of}
+use Rattle.rules.proofs.ClassCount.{classes_most, each_class_is}
+use Rattle.design.specs.State.{column_at}
+use Rattle.design.specs.Points.{points_on_plots}
+use Rattle.design.proofs.Start.{held_on, placed_on, after_placed}
+use Rattle.design.proofs.Work.{size_members, held_length, column_in_lem, members_more}
+use Rattle.design.proofs.PointLaws.{points_most, ranged, plots_part, classes_plots}
+use Rattle.design.proofs.Lifting.{gathered_none, gathered_same, gathered_more}
+use Rattle.design.proofs.points.gather_all.Goals as goal
+use Rattle.design.proofs.points.gather_all.Goals.{After-gathered-column, Start, else-counts-i, then-counts-i}
+
+-- there are as many points as plots at most
+few-points : (c : Start) → c.args.m ≤ 240
+few-points c = omega (arith, points_most c.requires.1, c.requires.0.most)
+
+-- the member as a column of points
+abbrev column : After-gathered-column → Column
+column c = take c.args.m c.gathered-column.result
+
+length-is : (c : After-gathered-column) → length (column c) ≡ c.args.m
+length-is c = length-take-le c.args.m c.gathered-column.result (rw c.gathered-column.ensures.0 (few-points (goal.at.After-gathered-column c).Start))
+
+-- the member
+abbrev member : After-gathered-column → Column
+member c = column_at c.args.n c.args.store.now c.loop-i.i
+
+is_member : (c : After-gathered-column) → points_on_plots (take c.args.n c.args.points.now) (column c) ≡ member c
+is_member c = plots_part c.requires.1 c.gathered-column.result ∙ c.gathered-column.ensures.1
+
+pub loop-i-init : goal.loop-i-init
+loop-i-init c =
+        (omega arith, omega arith, gathered_none c.requires.1 c.requires.0.some c.requires.0.most c.args.own.now c.args.own_counts.now c.requires.5 c.requires.6)
+
+pub bounds-counts-i : goal.bounds-counts-i
+bounds-counts-i c = omega (arith, c.requires.0.few)
+
+pub overflow_cast-counts : goal.overflow_cast-counts
+overflow_cast-counts c =
+            let h = c.requires.0 in
+    let i = c.loop-i.i in
+    let l : i < c.args.size = omega arith in
+    omega (arith, h.counted i l, classes_most (column_at c.args.n c.args.store.now i), held_length h i l, h.most)
+
+pub gathered-column-requires : goal.gathered-column-requires
+gathered-column-requires c =
+            let h = c.requires.0 in
+    let l : c.loop-i.i < c.args.size = omega arith in
+    (h.most, h.room, omega (arith, h.few), ranged c.requires.1 h.most, c.requires.4 c.loop-i.i l c.if-counts-i.true)
+
+pub slice_bounds-column-end : goal.slice_bounds-column-end
+slice_bounds-column-end c = let w = (goal.at.slice_bounds-column-end c).Start in rw w.gathered-column.ensures.0 (few-points w)
+
+pub slice_bounds-place-end : goal.slice_bounds-place-end
+slice_bounds-place-end c = sym (length-is (goal.at.slice_bounds-place-end c).After-gathered-column)
+
+pub bounds-counts-i-then-counts-i : goal.bounds-counts-i-then-counts-i
+bounds-counts-i-then-counts-i c = omega (arith, c.requires.0.few)
+
+pub place-p-requires : goal.place-p-requires
+place-p-requires c =
+    let w = (goal.at.place-p-requires c).After-gathered-column in
+            let l : c.loop-i.i < c.args.size = omega arith in (
+      held_on c.args.m c.loop-i.own c.loop-i.own_counts c.loop-i.some (column w) (column w) refl (length-is w) c.loop-i.invariant.2.held,
+      c.requires.0.counted c.loop-i.i l ∙ ap classes (sym (is_member w)) ∙ classes_plots c.requires.1 (column w) (length-is w),
+    )
+
+pub grown-some-requires : goal.grown-some-requires
+grown-some-requires c = c.loop-i.invariant.2.held.few
+
+pub loop-i-preserved : goal.loop-i-preserved
+loop-i-preserved c =
+            let h = c.requires.0 in
+    let i = c.loop-i.i in
+    let l : i < c.args.size = omega arith in
+    let less : c.loop-i.some < 32 = omega (arith, h.few) in
+    elim c.if-counts-i.branch [ then-counts-i v ↦     let w : tie.After-gathered invariant-loop decreases-loop = record { before = record { before = c; if1 = v.if-counts-i }; gathered = v.gathered-column } in
+    let m = c.args.m in
+    let p = placed_on m c.loop-i.own c.loop-i.some (column w) (column w) v.place-p.result v.place-p.last.0 v.place-p.last.1.0 refl (length-is w) v.place-p.ensures in
+    let g = gathered_more c.requires.1 c.loop-i.invariant.2 less (column w) (member w) (length-is w) (is_member w) (c.requires.3 (member w) (column_in_lem h i l)) v.place-p.result v.place-p.last.0 v.place-p.last.1.0 p in
+    let most = (after_placed m c.loop-i.own c.loop-i.own_counts c.loop-i.some c.loop-i.invariant.2.held less (column w) v.place-p.result v.place-p.last.0 v.place-p.last.1.0 p).most in
+    (omega arith, rw (v.some-is ∙ v.grown-some.ensures) (omega (arith, most)), rw (members_more h i l, v.own-is, v.own_counts-is, v.some-is ∙ v.grown-some.ensures) g) | else-counts-i v ↦     let F = column_at c.args.n c.args.store.now i in
+    let e : F ≡ equality c.args.n = (each_class_is c.args.n F (held_length h i l) (c.requires.3 F (column_in_lem h i l))).0 (sym (h.counted i l) ∙ v.if-counts-i.false) in
+    (omega arith, rw v.some-is (omega arith), rw (members_more h i l, v.own-is, v.own_counts-is, v.some-is) (gathered_same c.loop-i.invariant.2 F e)) ]
+
+pub shape_of-own : goal.shape_of-own
+shape_of-own c = c.loop-i.invariant.2.held.room ∙ sym c.requires.5
+
+pub returns : goal.returns
+returns c =
+            let S = members_of c.args.n c.args.store.now c.args.size in
+    let e : take c.loop-i.i S ≡ S = take_all c.loop-i.i S (omega (arith, size_members c.requires.0)) in
+    rw e at c.loop-i.invariant.2
