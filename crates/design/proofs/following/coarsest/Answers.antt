@@ -11,7 +11,7 @@ use mir.Val.{Fits}
 use Rattle.rules.specs.Lists.{bit_at}
 use Rattle.design.specs.Crossing.{ChosenJoin}
 use Rattle.design.proofs.following.coarsest.Goals as goal
-use Rattle.design.proofs.following.coarsest.Goals.{At-loop-k, Then-left-eq1}
+use Rattle.design.proofs.following.coarsest.Goals.{At-loop-k, Then-left-eq1, then-left-eq1, else-left-eq1}
 
 -- a part of what is small is small
 fits : (a x : ℕ) → a + x < 1024 → Fits w64 x
@@ -27,8 +27,8 @@ abbrev Good : At-loop-k → ℕ → Type 0
 Good c x = let a = c.args in (x ≡ 0) ⊎ ChosenJoin a.joins.now a.at a.step a.word x
 
 -- its cell
-cell : (c : Then-left-eq1) → let b = c in let a = b.args in (a.at + a.step * b.loop.k < 1024) × (get_or a.joins.now (a.at + a.step * b.loop.k) 0 ≤ 32)
-cell c = let b = c in b.requires.2 b.loop.k (bit b.args.word b.loop.k c.if-left-eq1.true)
+cell : (c : Then-left-eq1) → let b = c in let a = b.args in (a.at + a.step * b.loop-k.k < 1024) × (get_or a.joins.now (a.at + a.step * b.loop-k.k) 0 ≤ 32)
+cell c = let b = c in b.requires.2 b.loop-k.k (bit b.args.word b.loop-k.k c.if-left-eq1.true)
 
 -- what is found so far is the place of a member, from 1, or 0
 most : (c : At-loop-k) → c.loop-k.best ≤ 32
@@ -57,13 +57,12 @@ loop-k-preserved c =
     let b = (goal.at.loop-k-preserved c).At-loop-k in
     let a = b.args in
     let k = b.loop-k.k in
-    ⊎_elim
-    (λ w. subst (Good b) (sym w.3) (⊎_elim
-    (λ h. subst (Good b) (sym h) b.loop-k.invariant)
-    (λ h. inr record { place = k; marked = bit a.word k w.0.taken; cell = sym h })
-    w.2.ensures))
-    (λ w. subst (Good b) (sym w.1) b.loop-k.invariant)
-    c.if-left-eq1.branch
+    elim c.if-left-eq1.branch [
+      then-left-eq1 w ↦ subst (Good b) (sym w.best-is) (⊎_elim
+        (λ h. subst (Good b) (sym h) b.loop-k.invariant)
+        (λ h. inr record { place = k; marked = bit a.word k w.if-left-eq1.true; cell = sym h })
+        w.fewer-best.ensures)
+    | else-left-eq1 w ↦ subst (Good b) (sym w.best-is) b.loop-k.invariant ]
 
 pub returns : goal.returns
 returns c = c.loop-k.invariant

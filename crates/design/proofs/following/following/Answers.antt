@@ -49,11 +49,11 @@ module _ (c : After-coarsest-q) where
 
     -- whose number of classes is known in either case
     either : (r ≡ c.coarsest-p.result) ⊎ (r ≡ c.coarsest-q.result) → r ≡ suc q → let a = c.args in (q < 32) × (get_or a.counts.now q 0 ≡ classes (column_at a.n a.store.now q))
-    either c e = let s = c in let a = s.args in
+    either o e = let s = c in let a = s.args in
         ⊎_elim
         (λ h. plot_counted a.n a.plot.now a.first.now a.store.now a.counts.now a.size a.joins.now s.requires.0.held.most s.requires.2.room s.requires.4.room s.requires.0 s.requires.1 a.f.place a.g.place a.f.finer s.requires.2.place s.requires.4.place s.requires.3 c.coarsest-p.result c.coarsest-p.ensures q (sym h ∙ e))
         (λ h. first_counted a.n a.plot.now a.first.now a.store.now a.counts.now a.size a.joins.now s.requires.0.held.most s.requires.2.room s.requires.4.room s.requires.0 s.requires.1 a.f.place a.g.place a.g.finer s.requires.2.place s.requires.4.place s.requires.5 c.coarsest-q.result c.coarsest-q.ensures q (sym h ∙ e))
-        c
+        o
 
 pub coarsest-p-requires : goal.coarsest-p-requires
 coarsest-p-requires c =     let a = c.args in
@@ -74,7 +74,7 @@ under-requires c = let w = (goal.at.under-requires c).After-coarsest-q in
         (c.requires.0.held.some, c.requires.0.held.most, c.requires.2, c.requires.0.held.room, λ q e. either w c.fewer-r.result q c.fewer-r.ensures e)
 
 pub returns-then-under : goal.returns-then-under
-returns-then-under c =     λ q e. by_plots_lem c.before _ q c.if-r-p.true e (c.under.ensures c.if-under.true q e)
+returns-then-under c =     λ q e. by_plots_lem (goal.at.returns-then-under c).After-coarsest-q _ q c.if-r-p.true e (c.under.ensures c.if-under.true q e)
 
 pub returns-then-r-p : goal.returns-then-r-p
 returns-then-r-p c = λ q e. absurd (omega arith)
@@ -85,7 +85,7 @@ under-requires-2 c = let w = (goal.at.under-requires-2 c).After-coarsest-q in
 
 pub returns-then-under-2 : goal.returns-then-under-2
 returns-then-under-2 c =     let k : c.fewer-r.result ≡ c.coarsest-q.result = ⊎_elim (λ h. absurd (c.if-r-p.false h)) (λ h. h) c.fewer-r.ensures in
-    λ q e. by_firsts c.before _ q k e (c.under-2.ensures c.if-under-2.true q e)
+    λ q e. by_firsts (goal.at.returns-then-under-2 c).After-coarsest-q _ q k e (c.under-2.ensures c.if-under-2.true q e)
 
 pub returns : goal.returns
 returns c = λ q e. absurd (omega arith)
