@@ -1,5 +1,5 @@
 use mathlib.Core.Path.{◌≡◌, refl, sym, ap, ◌∙◌}
-use Prim.Native.Nat.{◌-◌, ◌≤◌, ◌<◌}
+use Prim.Native.Nat.{ℕ, ◌-◌, ◌≤◌, ◌<◌}
 use native.Mathlib.Omega.{arith}
 use lib.ListN.{length, take}
 use lib.Seq.{take_all, length-take-le}
@@ -13,25 +13,20 @@ use Rattle.design.proofs.Work.{size_members, held_length, column_in_lem, members
 use Rattle.design.proofs.PointLaws.{points_most, ranged, plots_part, classes_plots}
 use Rattle.design.proofs.Lifting.{gathered_none, gathered_same, gathered_more}
 use Rattle.design.proofs.points.gather_all.Goals as goal
-use Rattle.design.proofs.points.gather_all.Goals.{After-gathered-column, Start, else-counts-i, then-counts-i}
+use Rattle.design.proofs.points.gather_all.Goals.{Start, else-counts-i, then-counts-i}
 
 -- there are as many points as plots at most
 few-points : (c : Start) → c.args.m ≤ 240
 few-points c = omega (arith, points_most c.requires.1, c.requires.0.most)
 
--- the member as a column of points
-abbrev column : After-gathered-column → Column
-column c = take c.args.m c.gathered-column.result
+module _ (c : Start) (r : Column) (h : length r ≡ 240) where
+  -- the member as a column of points
+  length_of : length (take c.args.m r) ≡ c.args.m
+  length_of = length-take-le c.args.m r (rw h (few-points c))
 
-length-is : (c : After-gathered-column) → length (column c) ≡ c.args.m
-length-is c = length-take-le c.args.m c.gathered-column.result (rw c.gathered-column.ensures.0 (few-points (goal.at.After-gathered-column c).Start))
-
--- the member
-abbrev member : After-gathered-column → Column
-member c = column_at c.args.n c.args.store.now c.loop-i.i
-
-is_member : (c : After-gathered-column) → points_on_plots (take c.args.n c.args.points.now) (column c) ≡ member c
-is_member c = plots_part c.requires.1 c.gathered-column.result ∙ c.gathered-column.ensures.1
+  module _ (i : ℕ) (e : points_on_plots (take c.args.n c.args.points.now) r ≡ column_at c.args.n c.args.store.now i) where
+    is_member : points_on_plots (take c.args.n c.args.points.now) (take c.args.m r) ≡ column_at c.args.n c.args.store.now i
+    is_member = plots_part c.requires.1 r ∙ e
 
 pub loop-i-init : goal.loop-i-init
 loop-i-init c =
@@ -54,20 +49,24 @@ gathered-column-requires c =
     (h.most, h.room, omega (arith, h.few), ranged c.requires.1 h.most, c.requires.4 c.loop-i.i l c.if-counts-i.true)
 
 pub slice_bounds-column-end : goal.slice_bounds-column-end
-slice_bounds-column-end c = let w = (goal.at.slice_bounds-column-end c).Start in rw w.gathered-column.ensures.0 (few-points w)
+slice_bounds-column-end c = rw c.gathered-column.ensures.0 (few-points (goal.at.slice_bounds-column-end c).Start)
 
 pub slice_bounds-place-end : goal.slice_bounds-place-end
-slice_bounds-place-end c = sym (length-is (goal.at.slice_bounds-place-end c).After-gathered-column)
+slice_bounds-place-end c = sym (length_of (goal.at.slice_bounds-place-end c).Start c.gathered-column.result c.gathered-column.ensures.0)
 
 pub bounds-counts-i-then-counts-i : goal.bounds-counts-i-then-counts-i
 bounds-counts-i-then-counts-i c = omega (arith, c.requires.0.few)
 
 pub place-p-requires : goal.place-p-requires
 place-p-requires c =
-    let w = (goal.at.place-p-requires c).After-gathered-column in
-            let l : c.loop-i.i < c.args.size = omega arith in (
-      held_on c.args.m c.loop-i.own c.loop-i.own_counts c.loop-i.some (column w) (column w) refl (length-is w) c.loop-i.invariant.2.held,
-      c.requires.0.counted c.loop-i.i l ∙ ap classes (sym (is_member w)) ∙ classes_plots c.requires.1 (column w) (length-is w),
+    let s = (goal.at.place-p-requires c).Start in
+    let r = c.gathered-column.result in
+    let F = take c.args.m r in
+    let k : length F ≡ c.args.m = length_of s r c.gathered-column.ensures.0 in
+    let i = c.loop-i.i in
+    let l : i < c.args.size = omega arith in (
+      held_on c.args.m c.loop-i.own c.loop-i.own_counts c.loop-i.some F F refl k c.loop-i.invariant.2.held,
+      c.requires.0.counted i l ∙ ap classes (sym (is_member s r c.gathered-column.ensures.0 i c.gathered-column.ensures.1)) ∙ classes_plots c.requires.1 F k,
     )
 
 pub grown-some-requires : goal.grown-some-requires
@@ -79,12 +78,19 @@ loop-i-preserved c =
     let i = c.loop-i.i in
     let l : i < c.args.size = omega arith in
     let less : c.loop-i.some < 32 = omega (arith, h.few) in
-    elim c.if-counts-i.branch [ then-counts-i v ↦     let w : tie.After-gathered invariant-loop decreases-loop = record { before = record { before = c; if1 = v.if-counts-i }; gathered = v.gathered-column } in
+    elim c.if-counts-i.branch [ then-counts-i v ↦
+    let s = (goal.at.loop-i-preserved c).Start in
     let m = c.args.m in
-    let p = placed_on m c.loop-i.own c.loop-i.some (column w) (column w) v.place-p.result v.place-p.last.0 v.place-p.last.1.0 refl (length-is w) v.place-p.ensures in
-    let g = gathered_more c.requires.1 c.loop-i.invariant.2 less (column w) (member w) (length-is w) (is_member w) (c.requires.3 (member w) (column_in_lem h i l)) v.place-p.result v.place-p.last.0 v.place-p.last.1.0 p in
-    let most = (after_placed m c.loop-i.own c.loop-i.own_counts c.loop-i.some c.loop-i.invariant.2.held less (column w) v.place-p.result v.place-p.last.0 v.place-p.last.1.0 p).most in
-    (omega arith, rw (v.some-is ∙ v.grown-some.ensures) (omega (arith, most)), rw (members_more h i l, v.own-is, v.own_counts-is, v.some-is ∙ v.grown-some.ensures) g) | else-counts-i v ↦     let F = column_at c.args.n c.args.store.now i in
+    let r = v.gathered-column.result in
+    let F = take m r in
+    let G = column_at c.args.n c.args.store.now i in
+    let k : length F ≡ m = length_of s r v.gathered-column.ensures.0 in
+    let f : points_on_plots (take c.args.n c.args.points.now) F ≡ G = is_member s r v.gathered-column.ensures.0 i v.gathered-column.ensures.1 in
+    let p = placed_on m c.loop-i.own c.loop-i.some F F v.place-p.result v.place-p.new.store v.place-p.new.counts refl k v.place-p.ensures in
+    let g = gathered_more c.requires.1 c.loop-i.invariant.2 less F G k f (c.requires.3 G (column_in_lem h i l)) v.place-p.result v.place-p.new.store v.place-p.new.counts p in
+    let most = (after_placed m c.loop-i.own c.loop-i.own_counts c.loop-i.some c.loop-i.invariant.2.held less F v.place-p.result v.place-p.new.store v.place-p.new.counts p).most in
+    (omega arith, rw (v.some-is ∙ v.grown-some.ensures) (omega (arith, most)), rw (members_more h i l, v.own-is, v.own_counts-is, v.some-is ∙ v.grown-some.ensures) g)
+    | else-counts-i v ↦     let F = column_at c.args.n c.args.store.now i in
     let e : F ≡ equality c.args.n = (each_class_is c.args.n F (held_length h i l) (c.requires.3 F (column_in_lem h i l))).0 (sym (h.counted i l) ∙ v.if-counts-i.false) in
     (omega arith, rw v.some-is (omega arith), rw (members_more h i l, v.own-is, v.own_counts-is, v.some-is) (gathered_same c.loop-i.invariant.2 F e)) ]
 
