@@ -29,10 +29,10 @@ module _ (c : After-member_bounds-bounds) where
 
   -- the arrays once both are written
   abbrev below : List ℕ
-  below = c.member_bounds-bounds.last.1.1.1.1.0
+  below = c.member_bounds-bounds.new.below
 
   abbrev above : List ℕ
-  above = c.member_bounds-bounds.last.1.1.1.1.1.0
+  above = c.member_bounds-bounds.new.above
 
   -- both members have n plots
   i_plots : length (column_at n c.args.store.now c.args.i) ≡ n
@@ -79,7 +79,7 @@ mark-is c =
 -- the infimum was placed
 placed : (c : After-place-p)
     → let a = c.args in
-    PlacedMember a.n (members_of a.n a.store.now a.size) (made infimum c) c.place-p.result c.place-p.new.store c.place-p.new.counts
+    PlacedMember a.n (members_of a.n a.store.now a.size) (made infimum (goal.at.After-place-p c).After-member_bounds-bounds) c.place-p.result c.place-p.new.store c.place-p.new.counts
 placed c =
     let m = (goal.at.After-place-p c).After-member_bounds-bounds in
     placed_on _ m.args.store.now m.args.size _ _ _ _ _ (below_front m) (below_plots m) c.place-p.ensures
@@ -88,7 +88,7 @@ placed c =
 here : (c : After-grown-more)
     → let p = (goal.at.After-grown-more c).After-place-p in
     let a = p.args in
-    Stood a.n (members_of a.n a.store.now a.size) (made infimum p) p.place-p.result p.place-p.last.0 p.place-p.last.1.0 c.grown-more.result
+    Stood a.n (members_of a.n a.store.now a.size) (made infimum (goal.at.After-grown-more c).After-member_bounds-bounds) p.place-p.result p.place-p.new.store p.place-p.new.counts c.grown-more.result
 here c =
     let p = (goal.at.After-grown-more c).After-place-p in
     let s = c in
@@ -106,12 +106,12 @@ j-in c = let s = c in omega (arith, i-in c, s.requires.2)
 abbrev joined : After-grown-more → Column
 joined c =
     let a = c.args in
-    supremum (column_at a.n c.place-p.last.0 a.i) (column_at a.n c.place-p.last.0 a.j)
+    supremum (column_at a.n c.place-p.new.store a.i) (column_at a.n c.place-p.new.store a.j)
 
 -- it is the one that was written
 joined_is : (c : After-grown-more) → take c.args.n (above (goal.at.After-grown-more c).After-member_bounds-bounds) ≡ joined c
 joined_is c =
-    let m = bounds c in
+    let m = (goal.at.After-grown-more c).After-member_bounds-bounds in
     let s = m in
     above_front m ∙ sym (ap₂ supremum (column_kept s.requires.0 (here c) s.args.i s.requires.1) (column_kept s.requires.0 (here c) s.args.j (omega (arith, s.requires.1, s.requires.2))))
 
@@ -122,17 +122,17 @@ joined-plots c = sym (ap length (joined_is c)) ∙ above_length (goal.at.After-g
 placed-2 : (c : After-place-q)
     → let g = (goal.at.After-place-q c).After-grown-more in
     let a = g.args in
-    PlacedMember a.n (members_of a.n g.place-p.last.0 g.grown-more.result) (joined g) c.place-q.result c.place-q.new.store c.place-q.new.counts
+    PlacedMember a.n (members_of a.n g.place-p.new.store g.grown-more.result) (joined g) c.place-q.result c.place-q.new.store c.place-q.new.counts
 placed-2 c =
     let g = (goal.at.After-place-q c).After-grown-more in
-    placed_on _ g.place-p.last.0 g.grown-more.result _ _ _ _ _ (joined_is g) (joined-plots g) c.place-q.ensures
+    placed_on _ g.place-p.new.store g.grown-more.result _ _ _ _ _ (joined_is g) (joined-plots g) c.place-q.ensures
 
 -- it stands in the store
 here-2 : (c : Else-q-eq-MEMBERS)
     → let q = (goal.at.Else-q-eq-MEMBERS c).After-place-q in
     let g = (goal.at.Else-q-eq-MEMBERS c).After-grown-more in
     let a = g.args in
-    Stood a.n (members_of a.n g.place-p.last.0 g.grown-more.result) (joined g) q.place-q.result q.place-q.new.store q.place-q.new.counts (grown_to g.grown-more.result q.place-q.result)
+    Stood a.n (members_of a.n g.place-p.new.store g.grown-more.result) (joined g) q.place-q.result q.place-q.new.store q.place-q.new.counts (grown_to g.grown-more.result q.place-q.result)
 here-2 c =
     let q = (goal.at.Else-q-eq-MEMBERS c).After-place-q in
     let g = (goal.at.Else-q-eq-MEMBERS c).After-grown-more in
@@ -172,7 +172,7 @@ returns-then-p-eq-MEMBERS c =
 
 pub slice_bounds-supremum-end : goal.slice_bounds-supremum-end
 slice_bounds-supremum-end c =
-    let m = bounds c in
+    let m = (goal.at.slice_bounds-supremum-end c).After-member_bounds-bounds in
     omega (arith, length-take (n m) (above m), above_length m)
 
 pub slice_bounds-place-end-2 : goal.slice_bounds-place-end-2
@@ -180,13 +180,13 @@ slice_bounds-place-end-2 c = sym (above_length (goal.at.slice_bounds-place-end-2
 
 pub overflow_cast-bounds-2 : goal.overflow_cast-bounds-2
 overflow_cast-bounds-2 c =
-    let m = bounds c in
+    let m = (goal.at.overflow_cast-bounds-2 c).After-member_bounds-bounds in
     omega (arith, m.member_bounds-bounds.ensures.supremum, classes_most (made supremum m), above_plots m, m.requires.0.most)
 
 pub place-q-requires : goal.place-q-requires
 place-q-requires c =
     let g = (goal.at.place-q-requires c).After-grown-more in
-    let m = bounds g in
+    let m = (goal.at.place-q-requires c).After-member_bounds-bounds in
     (held_on _ _ _ _ _ _ (joined_is g) (joined-plots g) (here g).held, m.member_bounds-bounds.ensures.supremum ∙ ap classes (sym (above_front m)))
 
 pub returns-then-q-eq-MEMBERS : goal.returns-then-q-eq-MEMBERS
@@ -199,28 +199,28 @@ returns-then-q-eq-MEMBERS c =
     }
 
 pub entry-requires : goal.entry-requires
-entry-requires c = let y = here-2 c in omega (arith, y.here, y.held.few)
+entry-requires c = let y = here-2 (goal.at.entry-requires c).Else-q-eq-MEMBERS in omega (arith, y.here, y.held.few)
 
 pub overflow_mul-marks : goal.overflow_mul-marks
 overflow_mul-marks c =
-    let s = start (bounds c) in
+    let s = c in
     omega (arith, s.requires.1, s.requires.0.few)
 
 pub overflow_add-marks : goal.overflow_add-marks
 overflow_add-marks c =
-    let s = start (bounds c) in
+    let s = c in
     omega (arith, s.requires.1, s.requires.2, s.requires.0.few)
 
 pub bounds-marks-i : goal.bounds-marks-i
 bounds-marks-i c =
-    let s = start (bounds c) in
+    let s = c in
     omega (arith, s.requires.1, s.requires.2, s.requires.0.few)
 
 -- the members of the pair, and of its infimum and supremum, have words
 pub note_supremum-requires : goal.note_supremum-requires
 note_supremum-requires c =
     let y = here-2 (goal.at.note_supremum-requires c).Else-q-eq-MEMBERS in
-    let s = start (bounds c) in
+    let s = c in
     (s.requires.3.words, omega (arith, s.requires.0.few, s.requires.1), omega (arith, s.requires.0.few, s.requires.1, s.requires.2), omega (arith, y.here, y.held.few))
 
 pub note_infimum-requires : goal.note_infimum-requires
@@ -248,8 +248,8 @@ returns c =
     let i-now : a.i < size = omega (arith, c.requires.1, more) in
     let j-now : a.j < size = omega (arith, c.requires.2, i-now) in
     let j-first : a.j < a.size = omega (arith, c.requires.1, c.requires.2) in
-    let i-there : a.i < length (members_of a.n c.place-p.last.0 c.grown-more.result) = omega (arith, i-in (goal.at.returns c).After-grown-more, size_members x.held) in
-    let j-there : a.j < length (members_of a.n c.place-p.last.0 c.grown-more.result) = omega (arith, j-in (goal.at.returns c).After-grown-more, size_members x.held) in
+    let i-there : a.i < length (members_of a.n c.place-p.new.store c.grown-more.result) = omega (arith, i-in (goal.at.returns c).After-grown-more, size_members x.held) in
+    let j-there : a.j < length (members_of a.n c.place-p.new.store c.grown-more.result) = omega (arith, j-in (goal.at.returns c).After-grown-more, size_members x.held) in
     let low = pair_keeps i-there j-there y (pair_here c.requires.0 c.requires.1 j-first x) in
     let high = pair_here x.held (i-in (goal.at.returns c).After-grown-more) (j-in (goal.at.returns c).After-grown-more) y in
     let mark = mark-is (goal.at.returns c).After-same_product-mark ∙ sym (ap₂ by_counts (y.keeps a.i i-there ∙ kept_at c.requires.0 x a.i c.requires.1) (y.keeps a.j j-there ∙ kept_at c.requires.0 x a.j j-first)) in
