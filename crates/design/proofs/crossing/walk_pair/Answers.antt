@@ -4,6 +4,7 @@ use mathlib.Core.List.{List}
 use Prim.Native.Nat.{ℕ, ◌+◌, ◌*◌, ◌≤◌}
 use native.Mathlib.Omega.{arith}
 use lib.ListN.{length, take, replicate}
+use Rattle.std.proofs.lemmas.Bool.{not-true, not-false}
 use Rattle.rules.specs.Factor.{Column, number, classes, supremum, orthogonal}
 use Rattle.rules.proofs.Members.{clash}
 use Rattle.factor.proofs.Lent.{part_of}
@@ -68,7 +69,7 @@ tested c =
 pub returns-then-not-crossing : goal.returns-then-not-crossing
 returns-then-not-crossing c = let w = (goal.at.returns-then-not-crossing c).After-crossing_of-crossing in
          record {
-      test = sym (c.if-not-crossing.true) ∙ tested w;
+      test = sym (not-true _ c.if-not-crossing.true) ∙ tested w;
       kept = (c.requires.0, c.requires.1);
       places = λ e. clash e refl;
     }
@@ -97,7 +98,7 @@ returns c =         let w = (goal.at.returns c).After-crossing_of-crossing in
     let X = take a.n (array w) in
     let H = supremum (F w) (G w) in
     let e = c.add-held.ensures in
-    let o = sym (c.if-not-crossing.false) ∙ tested w in
+    let o = sym (not-false _ c.if-not-crossing.false) ∙ tested w in
     let g = grown_on a.n a.store.now a.size X H c.add-held.new.store c.add-held.new.counts c.add-held.result (taken w) (length-is w) e.grown in
     let k = entered_on a.n a.store.now a.size X H c.add-held.new.store c.add-held.new.counts c.add-held.result (taken w) (length-is w) a.joins.now (32 * a.i + a.j) c.add-held.new.joins e.entered in  record {
       test = o;
