@@ -162,26 +162,28 @@ small_places ds h k =
     (λ e. rw (at_places_lem (pos 0) ds k (ltb-true k 32 e)) (h k))
     (λ e. rw (get_or-eq_default (for_places (pos 0) ds) (pos 0) {n = k} (rw (length_places (pos 0) ds) (ltb-false k 32 e))) (omega arith))
 
--- ---- the same on the bits of a signed local
+-- ---- the same of a signed local, which is read from its bits
 
 module _ (x : ℤ) (t : ℕ → Bool) (d : ℕ → ℤ) (m : ℕ) (l : m ≤ 32) (hx : Small x) (hd : (j : ℕ) → Small (d j)) where
   same : to_z w64 (of_z w64 x) ≡ x
   same = to_z-of_z w64 x (small_fits x hx)
 
-  pub bits_start : of_z w64 x ≡ of_z w64 (to_z w64 (of_z w64 x) -ℤ sum_passing t d 0)
-  bits_start = ap (of_z w64) (left_start x t d m ∙ ap (λ (z : ℤ). z -ℤ sum_passing t d 0) (sym same))
+  pub bits_start : to_z w64 (of_z w64 x) ≡ to_z w64 (of_z w64 x) -ℤ sum_passing t d 0
+  bits_start = left_start (to_z w64 (of_z w64 x)) t d m
 
-  pub bits_end : to_z w64 (of_z w64 (to_z w64 (of_z w64 x) -ℤ sum_passing t d m)) ≡ x -ℤ sum_passing t d m
-  bits_end = ap (λ (z : ℤ). to_z w64 (of_z w64 (z -ℤ sum_passing t d m))) same ∙ to_z-of_z w64 (x -ℤ sum_passing t d m) (left_fits x t d m l hx hd)
+  pub bits_end : to_z w64 (of_z w64 x) -ℤ sum_passing t d m ≡ x -ℤ sum_passing t d m
+  bits_end = ap (λ (z : ℤ). z -ℤ sum_passing t d m) same
 
-  step : t m ≡ true → to_z w64 (of_z w64 (to_z w64 (of_z w64 x) -ℤ sum_passing t d m)) -ℤ to_z w64 (of_z w64 (d m)) ≡ x -ℤ sum_passing t d (m + 1)
+  step : t m ≡ true → to_z w64 (of_z w64 x) -ℤ sum_passing t d m -ℤ to_z w64 (of_z w64 (d m)) ≡ x -ℤ sum_passing t d (m + 1)
   step e = ap₂ ◌-ℤ◌ bits_end (to_z-of_z w64 (d m) (small_fits (d m) (hd m))) ∙ left_yes x t d m e
 
-  pub bits_fit : m + 1 ≤ 32 → t m ≡ true → SFits w64 (to_z w64 (of_z w64 (to_z w64 (of_z w64 x) -ℤ sum_passing t d m)) -ℤ to_z w64 (of_z w64 (d m)))
+  pub bits_fit : m + 1 ≤ 32 → t m ≡ true → SFits w64 (to_z w64 (of_z w64 x) -ℤ sum_passing t d m -ℤ to_z w64 (of_z w64 (d m)))
   bits_fit k e = rw (step e) (left_fits x t d (m + 1) k hx hd)
 
-  pub bits_yes : t m ≡ true → of_z w64 (to_z w64 (of_z w64 (to_z w64 (of_z w64 x) -ℤ sum_passing t d m)) -ℤ to_z w64 (of_z w64 (d m))) ≡ of_z w64 (to_z w64 (of_z w64 x) -ℤ sum_passing t d (m + 1))
-  bits_yes e = ap (of_z w64) (step e ∙ ap (λ (z : ℤ). z -ℤ sum_passing t d (m + 1)) (sym same))
+  pub bits_yes : m + 1 ≤ 32 → t m ≡ true → to_z w64 (of_z w64 (to_z w64 (of_z w64 x) -ℤ sum_passing t d m -ℤ to_z w64 (of_z w64 (d m)))) ≡ to_z w64 (of_z w64 x) -ℤ sum_passing t d (m + 1)
+  bits_yes k e =
+      ap (λ (z : ℤ). to_z w64 (of_z w64 z)) (step e) ∙ to_z-of_z w64 (x -ℤ sum_passing t d (m + 1)) (left_fits x t d (m + 1) k hx hd)
+      ∙ ap (λ (z : ℤ). z -ℤ sum_passing t d (m + 1)) (sym same)
 
-  pub bits_no : t m ≡ false → of_z w64 (to_z w64 (of_z w64 x) -ℤ sum_passing t d m) ≡ of_z w64 (to_z w64 (of_z w64 x) -ℤ sum_passing t d (m + 1))
-  bits_no e = ap (of_z w64) (left_no (to_z w64 (of_z w64 x)) t d m e)
+  pub bits_no : t m ≡ false → to_z w64 (of_z w64 x) -ℤ sum_passing t d m ≡ to_z w64 (of_z w64 x) -ℤ sum_passing t d (m + 1)
+  bits_no e = left_no (to_z w64 (of_z w64 x)) t d m e

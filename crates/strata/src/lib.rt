@@ -1,4 +1,6 @@
 // Relation, degrees of freedom and strata of families already made. Each entry asks 6, then 15; strata then ask 16.
+#![tactic(auto)]
+
 ghost use Rattle.std.specs.Prelude.{◌≡◌};
 ghost use Rattle.rules.specs.Relation.{relation};
 ghost use Rattle.rules.specs.Degrees.{degrees_of_freedom};
