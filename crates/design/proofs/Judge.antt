@@ -13,7 +13,7 @@ use lib.ListN.{length, get_or, take}
 use lib.Seq.{length-take-le, get_or-take}
 use borrow.Author.Tests.{ltb-true, ltb-false}
 use Rattle.rules.specs.Factor.{Column, classes, uniform, orthogonal}
-use Rattle.rules.specs.Family.{Family, ◌∈◌, Distinct, apart, empty, insert_all, members_of, written}
+use Rattle.rules.specs.Family.{Family, ◌∈◌, Distinct, none_left, apart, empty, insert_all, members_of, written}
 use Rattle.rules.specs.Closing.{both, only_supremum, Made, plot_generators, plot_family, too_many, family, close}
 use Rattle.rules.specs.Design.{Places, first_failing, first_pair, question8, plot_buffer}
 use Rattle.rules.specs.Relation.{member_at}
@@ -51,6 +51,7 @@ get_d_map f (x ∷ l) d (suc i) h = get_d_map f l d i (le_of_suc-le-suc h)
 pub distinct_places : (S : Family) → Distinct S → (i j : ℕ) → i < j → j < length S → member_at S i ≡ member_at S j → ⊥
 distinct_places S (apart {x = F} {xs = T} n d) zero (suc j) h k e = n (Memᴰ.cast e (member_in T j (le_of_suc-le-suc k)))
 distinct_places S (apart {x = F} {xs = T} n d) (suc i) (suc j) h k e = distinct_places T d i j (le_of_suc-le-suc h) (le_of_suc-le-suc k) e
+distinct_places _ none_left i (suc j) h k e = elim k [ ]
 distinct_places S d i zero h k e = absurd (not-suc-le-zero h)
 
 -- ---- marks

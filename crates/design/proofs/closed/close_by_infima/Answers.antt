@@ -28,14 +28,14 @@ on c = let s = c in column_length s.args.n s.args.levels.now s.args.columns 0 s.
 begun : (c : After-place_plot_infima-start) → (c.place_plot_infima-start.result ≡ 33 → ⊥) → Begun c.args.n (plot_infima c.args.n (columns c)) c.place_plot_infima-start.new.store c.place_plot_infima-start.new.counts c.place_plot_infima-start.result
 begun c d = all_on d c.place_plot_infima-start.ensures
 
-abbrev begun-of : (c : After-close_or_grow-size) → let p = (goal.at.After-close_or_grow-size c).After-place_plot_infima-start in Begun p.args.n (plot_infima p.args.n (columns p)) p.place_plot_infima-start.last.1.1.1.0 p.place_plot_infima-start.last.1.1.1.1.0 p.place_plot_infima-start.result
+abbrev begun-of : (c : After-close_or_grow-size) → let p = (goal.at.After-close_or_grow-size c).After-place_plot_infima-start in Begun p.args.n (plot_infima p.args.n (columns p)) p.place_plot_infima-start.new.store p.place_plot_infima-start.new.counts p.place_plot_infima-start.result
 begun-of c = begun (goal.at.After-close_or_grow-size c).After-place_plot_infima-start c.if-start-eq-TOO_MANY.false
 
 -- what suprema add to them
 grows : (c : After-close_or_grow-size) → let p = (goal.at.After-close_or_grow-size c).After-place_plot_infima-start in Grows p.args.n (plot_infima p.args.n (columns p)) c.close_or_grow-size.new.store c.close_or_grow-size.new.counts c.close_or_grow-size.new.marks p.place_plot_infima-start.result c.close_or_grow-size.result
 grows c = c.close_or_grow-size.ensures.grows (plot_infima c.args.n (columns (goal.at.After-close_or_grow-size c).After-place_plot_infima-start)) (work_begun false (begun-of c) c.requires.7)
 
-whole : (c : Then-size-start) → let g = c in let p = (goal.at.Then-size-start c).After-place_plot_infima-start in Work p.args.n false (plot_infima p.args.n (columns p)) g.close_or_grow-size.last.0 g.close_or_grow-size.last.1.0 g.close_or_grow-size.last.1.1.0 g.close_or_grow-size.result g.close_or_grow-size.result 0
+whole : (c : Then-size-start) → let g = c in let p = (goal.at.Then-size-start c).After-place_plot_infima-start in Work p.args.n false (plot_infima p.args.n (columns p)) g.close_or_grow-size.new.store g.close_or_grow-size.new.counts g.close_or_grow-size.new.marks g.close_or_grow-size.result g.close_or_grow-size.result 0
 whole c = grows_whole c.if-size-eq-TOO_MANY.false c.if-size-start.true (grows (goal.at.Then-size-start c).After-close_or_grow-size)
 
 -- the entries of the order are places
@@ -51,14 +51,14 @@ returns-then-start-eq-TOO_MANY c =
     plot_over (on p) c.too_many.ensures (all_over c.if-start-eq-TOO_MANY.true p.place_plot_infima-start.ensures) refl
 
 pub close_or_grow-size-requires : goal.close_or_grow-size-requires
-close_or_grow-size-requires c = (begun c.before c.if-start-eq-TOO_MANY.false).held
+close_or_grow-size-requires c = (begun (goal.at.close_or_grow-size-requires c).After-place_plot_infima-start c.if-start-eq-TOO_MANY.false).held
 
 pub returns-then-size-eq-TOO_MANY : goal.returns-then-size-eq-TOO_MANY
 returns-then-size-eq-TOO_MANY c =
             plot_over (on (goal.at.returns-then-size-eq-TOO_MANY c).After-place_plot_infima-start) c.too_many-then-size-eq-TOO_MANY.ensures (grows_over c.if-size-eq-TOO_MANY.true (grows (goal.at.returns-then-size-eq-TOO_MANY c).After-close_or_grow-size)) refl
 
 pub sort-order-requires : goal.sort-order-requires
-sort-order-requires c = let w = whole c in (w.held, w.found.distinct)
+sort-order-requires c = let w = whole (goal.at.sort-order-requires c).Then-size-start in (w.held, w.found.distinct)
 
 pub write-requires : goal.write-requires
 write-requires c =
@@ -76,7 +76,7 @@ returns-then-size-start c =
     let b = begun-of g in
     let w = whole h in
     let few : length (columns p) ≤ 6 = omega (arith, length_columns n p.args.levels.now 0 p.args.columns, p.requires.2) in
-    plot_whole (on p) few (members_of n p.place_plot_infima-start.last.1.1.1.0 p.place_plot_infima-start.result) b.distinct b.only (h.if-size-start.true ∙ sym (size_members b.held))
+    plot_whole (on p) few (members_of n p.place_plot_infima-start.new.store p.place_plot_infima-start.result) b.distinct b.only (h.if-size-start.true ∙ sym (size_members b.held))
     (family_listed w c.sort-order.ensures (plot_infima n (columns p)) (work_done w) c.write.ensures) w.held.few
 
 pub close_family-requires : goal.close_family-requires

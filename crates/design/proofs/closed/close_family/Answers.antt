@@ -35,7 +35,7 @@ places : (c : After-sort-order) (p : ℕ) → p < c.close-size.result → get_or
 places c p h =
     let w = work-of c in
     let q = c in
-    let l = length_members q.args.n w.held.most q.close-size.last.0 q.close-size.result in
+    let l = length_members q.args.n w.held.most q.close-size.new.store q.close-size.result in
     omega (arith, c.sort-order.ensures.places p (rw l h), l, w.held.few)
 
 pub close-size-requires : goal.close-size-requires
@@ -48,7 +48,7 @@ returns-then-size-eq-TOO_MANY c =
 
 pub sort-order-requires : goal.sort-order-requires
 sort-order-requires c =
-        let w = work c.before c.if-size-eq-TOO_MANY.false in
+        let w = work (goal.at.sort-order-requires c).After-close-size c.if-size-eq-TOO_MANY.false in
     (w.held, w.found.distinct)
 
 pub write-requires : goal.write-requires

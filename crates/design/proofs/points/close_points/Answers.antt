@@ -42,7 +42,7 @@ work : (c : After-close-size) → (c.close-size.result ≡ 33 → ⊥) → Work 
 work c d = (closed_on d (closed c)).0
 
 -- it is closed on the points
-work-of : (c : After-spread_all) → let q = (goal.at.After-spread_all c).After-close-size in Work q.args.m true (columns q) q.close-size.last.0 q.close-size.last.1.0 q.close-size.last.1.1.0 q.close-size.result q.close-size.result 0
+work-of : (c : After-spread_all) → let q = (goal.at.After-spread_all c).After-close-size in Work q.args.m true (columns q) q.close-size.new.store q.close-size.new.counts q.close-size.new.marks q.close-size.result q.close-size.result 0
 work-of c = work (goal.at.After-spread_all c).After-close-size c.if-size-eq-TOO_MANY.false
 
 -- the store with its members as columns of plots
@@ -53,31 +53,29 @@ spread c = c.spread_all.new.store
 own : (c : After-close-size) → Generates c.args.n c.args.m (points c) (columns c) (members_of c.args.n c.args.store.now c.args.start)
 own c = generates c (members_of c.args.n c.args.store.now c.args.start) c.requires.0
 
-held : (c : After-spread_all) → let q = (goal.at.After-spread_all c).After-close-size in Held q.args.n (spread c) q.close-size.last.1.0 q.close-size.result
+held : (c : After-spread_all) → let q = (goal.at.After-spread_all c).After-close-size in Held q.args.n (spread c) q.close-size.new.counts q.close-size.result
 held c = let q = (goal.at.After-spread_all c).After-close-size in let s = c in spread_held s.requires.2 (own q) (work-of c) s.requires.3 s.requires.0.held.most (spread c) c.spread_all.ensures.room c.spread_all.ensures.members
 
 -- E is on n plots
 length-is : (c : After-equality-column) → let n = c.args.n in length (take n c.equality-column.result) ≡ n
 length-is c = let n = c.args.n in ap length c.equality-column.ensures ∙ length_equality n
 
-placed : (c : After-place-p) → let t = spreader c in let q = t in PlacedMember q.args.n (members_of q.args.n (spread t) q.close-size.result) (equality q.args.n) c.place-p.result c.place-p.new.store c.place-p.new.counts
+placed : (c : After-place-p) → let t = (goal.at.After-place-p c).After-spread_all in PlacedMember c.args.n (members_of c.args.n (spread t) c.close-size.result) (equality c.args.n) c.place-p.result c.place-p.new.store c.place-p.new.counts
 placed c =
-    let t = spreader c in
-    let q = t in
-    let n = q.args.n in
-    placed_on n (spread t) q.close-size.result (take n c.equality-column.result) (equality n) c.place-p.result c.place-p.new.store c.place-p.new.counts c.equality-column.ensures (length_equality n) c.place-p.ensures
+    let t = (goal.at.After-place-p c).After-spread_all in
+    let n = c.args.n in
+    placed_on n (spread t) c.close-size.result (take n c.equality-column.result) (equality n) c.place-p.result c.place-p.new.store c.place-p.new.counts c.equality-column.ensures (length_equality n) c.place-p.ensures
 
-stands : (c : After-place-p) → (c.place-p.result ≡ 32 → ⊥) → (size : ℕ) → let t = spreader c in let q = t in size ≡ grown_to q.close-size.result c.place-p.result
-    → Stood q.args.n (members_of q.args.n (spread t) q.close-size.result) (equality q.args.n) c.place-p.result c.place-p.new.store c.place-p.new.counts size
-stands c d size e = let t = spreader c in stood_as e (stood t.close-size.result (size_members (held t)) (placed c) d)
+stands : (c : After-place-p) → (c.place-p.result ≡ 32 → ⊥) → (size : ℕ) → let t = (goal.at.After-place-p c).After-spread_all in size ≡ grown_to c.close-size.result c.place-p.result
+    → Stood c.args.n (members_of c.args.n (spread t) c.close-size.result) (equality c.args.n) c.place-p.result c.place-p.new.store c.place-p.new.counts size
+stands c d size e = let t = (goal.at.After-place-p c).After-spread_all in stood_as e (stood c.close-size.result (size_members (held t)) (placed c) d)
 
 -- with E, the members before it are combined with each other
-worked : (c : After-place-p) → (c.place-p.result ≡ 32 → ⊥) → (size : ℕ) → let t = spreader c in let q = t in size ≡ grown_to q.close-size.result c.place-p.result
-    → (Gs : List Column) → Generates q.args.n q.args.m (points q) (columns q) Gs → Work q.args.n true Gs c.place-p.new.store c.place-p.new.counts q.close-size.last.1.1.0 size q.close-size.result 0
+worked : (c : After-place-p) → (c.place-p.result ≡ 32 → ⊥) → (size : ℕ) → let q = (goal.at.After-place-p c).After-close-size in size ≡ grown_to c.close-size.result c.place-p.result
+    → (Gs : List Column) → Generates c.args.n c.args.m (points q) (columns q) Gs → Work c.args.n true Gs c.place-p.new.store c.place-p.new.counts c.close-size.new.marks size c.close-size.result 0
 worked c d size e Gs g =
-    let t = spreader c in
-    let s = t in
-    with_equality s.requires.2 g (work-of t) s.requires.3 s.requires.0.held.most (spread t) t.spread_all.ensures.room t.spread_all.ensures.members (stands c d size e)
+    let t = (goal.at.After-place-p c).After-spread_all in
+    with_equality c.requires.2 g (work-of t) c.requires.3 c.requires.0.held.most (spread t) c.spread_all.ensures.room c.spread_all.ensures.members (stands c d size e)
 
 pub returns-then-size-eq-TOO_MANY : goal.returns-then-size-eq-TOO_MANY
 returns-then-size-eq-TOO_MANY c = let q = (goal.at.returns-then-size-eq-TOO_MANY c).After-close-size in λ Gs b. unlisted c.too_many.ensures (points_over q.requires.2 (generates q Gs b) (closed_over c.if-size-eq-TOO_MANY.true (closed q))) refl
@@ -104,17 +102,16 @@ pub place-p-requires : goal.place-p-requires
 place-p-requires c =
         let t = (goal.at.place-p-requires c).After-spread_all in
         let n = c.args.n in (
-      held_on n (spread t) c.close-size.last.1.0 c.close-size.result (take n c.equality-column.result) (equality n) c.equality-column.ensures (length_equality n) (held t),
+      held_on n (spread t) c.close-size.new.counts c.close-size.result (take n c.equality-column.result) (equality n) c.equality-column.ensures (length_equality n) (held t),
       sym (ap classes c.equality-column.ensures ∙ classes_equality n),
     )
 
 pub returns-then-p-eq-MEMBERS : goal.returns-then-p-eq-MEMBERS
 returns-then-p-eq-MEMBERS c =
     let y = (goal.at.returns-then-p-eq-MEMBERS c).After-place-p in
-    let t = spreader y in
-    let q = t in
-    let s = q in
-    λ Gs b. unlisted c.too_many-then-p-eq-MEMBERS.ensures (equality_over s.requires.2 (generates q Gs b) (work-of t) s.requires.3 s.requires.0.held.most (spread t) t.spread_all.ensures.room t.spread_all.ensures.members (placed y) c.if-p-eq-MEMBERS.true) refl
+    let t = (goal.at.returns-then-p-eq-MEMBERS c).After-spread_all in
+    let q = (goal.at.returns-then-p-eq-MEMBERS c).After-close-size in
+    λ Gs b. unlisted c.too_many-then-p-eq-MEMBERS.ensures (equality_over c.requires.2 (generates q Gs b) (work-of t) c.requires.3 c.requires.0.held.most (spread t) c.spread_all.ensures.room c.spread_all.ensures.members (placed y) c.if-p-eq-MEMBERS.true) refl
 
 pub grown-requires : goal.grown-requires
 grown-requires c = (work-of (goal.at.grown-requires c).After-spread_all).held.few
@@ -122,15 +119,15 @@ grown-requires c = (work-of (goal.at.grown-requires c).After-spread_all).held.fe
 pub close_family-requires : goal.close_family-requires
 close_family-requires c =
     let y = (goal.at.close_family-requires c).After-place-p in
-    let t = spreader y in
-    let s = t in
+    let t = (goal.at.close_family-requires c).After-spread_all in
+    let q = (goal.at.close_family-requires c).After-close-size in
     let d = c.if-p-eq-MEMBERS.false in
-    let w = worked y d c.grown.result c.grown.ensures (members_of s.args.n s.args.store.now s.args.start) (own t) in
-    (work_self w, omega (arith, (stands y d c.grown.result c.grown.ensures).more, size_members (held t)), s.requires.6)
+    let w = worked y d c.grown.result c.grown.ensures (members_of c.args.n c.args.store.now c.args.start) (own q) in
+    (work_self w, omega (arith, (stands y d c.grown.result c.grown.ensures).more, size_members (held t)), c.requires.6)
 
 pub returns : goal.returns
 returns c =
-        let y = (goal.at.returns c).After-place-p in
+    let y = (goal.at.returns c).After-place-p in
     let q = (goal.at.returns c).After-close-size in
     let g = c.grown in
     λ Gs b. c.close_family.ensures Gs (worked y c.if-p-eq-MEMBERS.false g.result g.ensures Gs (generates q Gs b))

@@ -76,7 +76,7 @@ work : (c : After-close-size) → (c.close-size.result ≡ 33 → ⊥) → Work 
 work c d = (closed_on d (closed c)).0
 
 -- the family is closed on the plots
-worked : (c : After-spread_all) → let q = c in Work q.args.n false (family (goal.at.After-spread_all c).After-place_choices-start) c.spread_all.new.store q.close-size.last.1.0 q.close-size.last.1.1.0 q.close-size.result q.close-size.result 0
+worked : (c : After-spread_all) → let q = c in Work q.args.n false (family (goal.at.After-spread_all c).After-place_choices-start) c.spread_all.new.store q.close-size.new.counts q.close-size.new.marks q.close-size.result q.close-size.result 0
 worked c =
     let q = c in
     let a = (goal.at.After-spread_all c).After-place_choices-start in

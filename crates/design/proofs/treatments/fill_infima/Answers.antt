@@ -87,7 +87,7 @@ loop-c-preserved c =
     )
 
 pub shape_of-infima : goal.shape_of-infima
-shape_of-infima c = c.loop-c.invariant.3 ∙ same c.before
+shape_of-infima c = c.loop-c.invariant.3 ∙ same (goal.at.shape_of-infima c).After-put
 
 pub returns : goal.returns
 returns c =

@@ -35,7 +35,7 @@ place_choices-start-requires c =
 
 pub returns-then-start-eq-TOO_MANY : goal.returns-then-start-eq-TOO_MANY
 returns-then-start-eq-TOO_MANY c =
-        unlisted c.too_many.ensures (all_over c.if-start-eq-TOO_MANY.true (placed c.before)) refl
+        unlisted c.too_many.ensures (all_over c.if-start-eq-TOO_MANY.true (placed (goal.at.returns-then-start-eq-TOO_MANY c).After-place_choices-start)) refl
 
 pub close_family-requires : goal.close_family-requires
 close_family-requires c =
