@@ -2,8 +2,9 @@
 # The prover refuses each must-fail edit where it should. `fails:` names what becomes false: a function, as `crate::module::function`, or
 # functions that call each other, as `crate::module::+one+other`, or a law of the rules, as `crate::File::law`. A function has an error of
 # its own: it does not count that a function it calls is not proved, nor that the proof names a step or a place that the edited code has
-# not. A law is refused itself, or rests on one that is. `rt ci` keeps no more of an edit than its first error, so each is tried here once
-# more, on a copy of its crate. That what is refused is false, and not only written for other code, a reader has to see.
+# not; a proof that names such a place is tried once more with the names that the edited code has. A law is refused itself, or rests on one
+# that is. `rt ci` keeps no more of an edit than its first error, so each is tried here once more, on a copy of its crate. That what is
+# refused is false, and not only written for other code, a reader has to see.
 #
 #     tests/edits.sh             the edits of all crates
 #     tests/edits.sh CRATE..     those of some
@@ -38,42 +39,33 @@ log_of() {
   echo "$work/${crate%%/*}.$(basename "$1" .edit).log"
 }
 
-# try EDIT: checks a copy of its crate with it
-try() {
-  local crate=${1#crates/} room one
-  crate=${crate%%/*}
-  room=$(mktemp -d "$work/room.XXXXXX") || return
-  mkdir "$room/crates"
-  cp -a "crates/$crate" "$room/crates"
-  rm -rf "$room/crates/$crate/must-fail"
-  grep -E "^$crate( [^:]*)?:" crates.txt >"$room/crates.txt"
-  for one in $(below "$crate" | sort -u); do
-    cp -al "crates/$one" "$room/crates" 2>/dev/null || cp -a "crates/$one" "$room/crates"
-    grep -E "^$one( [^:]*)?:" crates.txt >>"$room/crates.txt"
-  done
-  if python3 tests/parts/edit.py "$1" "$room/crates/$crate" >"$(log_of "$1")" 2>&1; then
-    (cd "$room/crates/$crate" && rt check --jobs 1) </dev/null >"$(log_of "$1")" 2>&1
-  fi
-  rm -rf "$room"
-}
-export -f below log_of try
-
 # what is said of a proof that names what the edit took away, and of what rests on what was refused
-misfit='has no field|has no `|is not in scope|(was|were) not checked'
+export misfit='has no field|has no `|is not in scope|(was|were) not checked'
+
+# proof_of FUNCTION: where its proof stands, as a pattern; functions that call each other have one, under a name of its own
+proof_of() {
+  local path=${1#*::}
+  [[ $path == *+* ]] && path="${path%%+*}\\+[^/]*"
+  echo "proofs/${path//:://}"
+}
+
+# each_of FUNCTION: itself, or each of those that call each other
+each_of() {
+  local ends=${1#*+}
+  if [[ $ends == "$1" ]]; then
+    echo "$1"
+  else
+    echo "${1%%+*}${ends//+/ ${1%%+*}}"
+  fi
+}
 
 # fails LOG FUNCTION: the function has an error of its own that is no misfit of its proof
 fails() {
-  local functions=$2 path=${2#*::} one
-  if [[ $path == *+* ]]; then
-    # functions that call each other: their proof has a name of its own
-    functions=${2#*+}
-    functions=${2%%+*}${functions//+/ ${2%%+*}}
-    path="${path%%+*}\\+[^/]*"
-  fi
-  for one in $functions; do
+  local one
+  for one in $(each_of "$2"); do
     grep -qE "^fn $one: no proof: .*\`search\` did not prove" "$1" && return
   done
-  grep -E "^(\./)?proofs/${path//:://}/[A-Za-z]*\.antt:[0-9]+:[0-9]+: error" "$1" | grep -qvE "$misfit"
+  grep -E "^(\./)?$(proof_of "$2")/[A-Za-z]*\.antt:[0-9]+:[0-9]+: error" "$1" | grep -qvE "$misfit"
 }
 
 # law_fails LOG LAW: the law, in the file of proofs/ that has it, is refused or rests on one that is
@@ -88,6 +80,54 @@ law_fails() {
         grep -qE "^(\./)?proofs/Asked[0-9]+\.antt:[0-9]+:[0-9]+: error: .* depends on \`$law\`, which was (not admitted|rejected), " "$1"
     }
 }
+
+# fit ROOM EDIT FUNCTION: brings the names in the function's proof along with the code, and checks it once more
+fit() {
+  local crate=${2#crates/} one
+  crate=${crate%%/*}
+  one=$(each_of "$3")
+  one=${one%% *}
+  (
+    cd "$1/crates/$crate" || exit
+    rt check --generated "$1/new" --start "$one" --allow-holes >/dev/null 2>&1
+    mv src edited
+    cp -a "$top/crates/$crate/src" src
+    rt check --generated "$1/old" --start "$one" --allow-holes >/dev/null 2>&1
+    rm -rf src
+    mv edited src
+    find proofs -regextype posix-extended -regex "$(proof_of "$3")/[A-Za-z]*\.antt" -exec python3 "$top/tests/parts/places.py" "$1/old" "$1/new" {} +
+    rm -rf "$1/old" "$1/new"
+    rt check --jobs 1 --only "$one"
+  ) </dev/null 2>&1
+}
+
+# try EDIT: checks a copy of its crate with it
+try() {
+  local crate=${1#crates/} log room one
+  crate=${crate%%/*}
+  log=$(log_of "$1")
+  room=$(mktemp -d "$work/room.XXXXXX") || return
+  mkdir "$room/crates"
+  cp -a "crates/$crate" "$room/crates"
+  rm -rf "$room/crates/$crate/must-fail"
+  grep -E "^$crate( [^:]*)?:" crates.txt >"$room/crates.txt"
+  for one in $(below "$crate" | sort -u); do
+    cp -al "crates/$one" "$room/crates" 2>/dev/null || cp -a "crates/$one" "$room/crates"
+    grep -E "^$one( [^:]*)?:" crates.txt >>"$room/crates.txt"
+  done
+  if python3 tests/parts/edit.py "$1" "$room/crates/$crate" >"$log" 2>&1; then
+    (cd "$room/crates/$crate" && rt check --jobs 1) </dev/null >"$log" 2>&1
+    for one in $(sed -n 's/^fails: //p' "$1"); do
+      if [[ ! $one =~ ::[A-Z] ]] && ! fails "$log" "$one" && grep -E "^(\./)?$(proof_of "$one")/" "$log" | grep -qE "$misfit"; then
+        fit "$room" "$1" "$one" >"$log.fit"
+        cat "$log.fit" >>"$log"
+      fi
+    done
+  fi
+  rm -rf "$room"
+}
+export top=$PWD
+export -f below log_of proof_of each_of fails fit try
 
 # The crates are proved as they stand: the tries begin with that.
 if [[ $# -eq 0 ]]; then
