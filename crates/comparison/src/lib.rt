@@ -1,4 +1,6 @@
 // How a member of one lent family and a member of another stand. Asks 6, then 15 of both families.
+#![tactic(auto)]
+
 ghost use Rattle.std.specs.Prelude.{◌≡◌, ◌&&◌, leb};
 ghost use Rattle.rules.specs.Limits.{family_bytes};
 ghost use Rattle.rules.specs.Design.{plots_within};
