@@ -1,4 +1,6 @@
 // Names for the members of a family, by the column names of a sheet's first line.
+#![tactic(auto)]
+
 ghost use Rattle.std.specs.Prelude.{◌≡◌};
 ghost use Rattle.rules.specs.Naming.{name_buffer};
 ghost use Rattle.naming.specs.Answers.{name_numbers, name_numbers_of, member_naming, counted_naming, Asked, naming_of};

@@ -1,0 +1,77 @@
+use mathlib.Core.List.{List, ◌++◌}
+use mathlib.Core.Path.{◌≡◌, refl, sym, ap, ap₂, ◌∙◌}
+use Prim.Native.Nat.{ℕ, ◌+◌, ◌-◌, ◌*◌, ◌≤◌}
+use native.Mathlib.Numerals.{add-one}
+use native.Mathlib.Omega.{arith}
+use lib.ListN.{length, take, drop, length-take, length-drop, set, length-set}
+use borrow.Rule.Slice.PartMut.{mid_of, put_mid, same_len_mid}
+use Rattle.rules.specs.Factor.{Column}
+use Rattle.decimal.proofs.Writing.{length_written}
+use Rattle.decimal.specs.Writing.{written, place_after}
+use Rattle.factor.proofs.Lent.{length_part}
+use Rattle.naming.proofs.Members.{names_turn, lengths_turn, slot_put, written_held, place_held}
+use Rattle.naming.specs.Answers.{starting_with}
+use Rattle.naming.specs.Members.{each_held, names_written, lengths_written, name_text, member_text, held}
+use Rattle.naming.proofs.compose.put_each.Goals as goal
+
+pub loop-i-init : goal.loop-i-init
+unfolding names_written lengths_written
+loop-i-init c =
+    (omega arith, c.requires.1.few, c.requires.0.columns.few_plots, c.requires.1.long, refl, c.requires.1.room, refl, c.requires.1.counted, refl, refl)
+
+pub put_member-requires : goal.put_member-requires
+put_member-requires c =
+    let on = ap length c.member-member.ensures ∙ length_part c.args.look.plots c.loop-i.i c.args.family.now (omega arith) in
+    (c.requires.0, on, simp (length-take, length-drop) (omega arith))
+
+pub loop-i-preserved : goal.loop-i-preserved
+unfolding member_text
+loop-i-preserved c =
+    let a = c.args in
+    let look = a.look in
+    let text = a.text.now in
+    let table = a.columns.now in
+    let whole = member_text look text table a.family.now in
+    let f = held whole in
+    let i = c.loop-i.i in
+    let k = 160 * i + 160 - 160 * i in
+    let mid = mid_of (160 * i) k c.loop-i.names in
+    let w = c.put_member in
+    let m = c.member-member in
+    let same : name_text look text table (i + 1) m.result.now ≡ whole i = ap₂ (λ (p : ℕ) (F : Column). name_text look text table p F) (add-one i) m.ensures in
+    let part : length mid ≡ 160 = simp (length-take, length-drop) (omega arith) in
+    let short : length (f i) ≤ 160 = simp length-take (omega arith) in
+    let back : w.new.out ≡ starting_with (f i) mid = w.ensures.1 ∙ ap (written mid 0) same ∙ written_held mid (whole i) ∙ ap (λ (m : ℕ). starting_with (take m (whole i)) mid) part in
+    let long : w.result ≡ length (f i) = w.ensures.0 ∙ ap (place_after mid 0) same ∙ place_held mid (whole i) ∙ ap (λ (m : ℕ). length (take m (whole i))) part in
+    let names-are : put_mid (160 * i) k c.loop-i.names w.new.out ≡ names_written f a.names.now (i + 1) =
+    ap (put_mid (160 * i) k c.loop-i.names) back ∙ slot_put i k c.loop-i.names (f i) (omega arith) (omega arith) short
+    ∙ ap (λ (x : List ℕ). take (160 * i) x ++ starting_with (f i) (drop (160 * i) x)) c.loop-i.invariant.8 ∙ sym (names_turn f a.names.now a.lengths.now i) in
+    let lengths-are : set c.loop-i.lengths i w.result ≡ lengths_written f a.lengths.now (i + 1) =
+    ap₂ (λ (x : List ℕ) (m : ℕ). set x i m) c.loop-i.invariant.9 long ∙ sym (lengths_turn f a.names.now a.lengths.now i) in (
+      omega arith,
+      c.loop-i.invariant.1,
+      c.loop-i.invariant.2,
+      c.loop-i.invariant.3,
+      same_len_mid (160 * i) k c.loop-i.names w.new.out (ap length w.ensures.1 ∙ length_written mid 0 (name_text look text table (i + 1) m.result.now)) ∙ c.loop-i.invariant.4,
+      c.loop-i.invariant.5,
+      length-set c.loop-i.lengths i w.result ∙ c.loop-i.invariant.6,
+      c.loop-i.invariant.7,
+      names-are,
+      lengths-are,
+    )
+
+pub shape_of-names : goal.shape_of-names
+shape_of-names c = c.loop-i.invariant.4
+
+pub shape_of-lengths : goal.shape_of-lengths
+shape_of-lengths c = c.loop-i.invariant.6
+
+pub returns : goal.returns
+returns c =
+    let a = c.args in
+    let f = each_held a.look a.text.now a.columns.now a.family.now in
+    let e : c.loop-i.i ≡ a.size = omega arith in
+    record {
+      names_after = c.loop-i.invariant.8 ∙ ap (names_written f a.names.now) e;
+      lengths_after = c.loop-i.invariant.9 ∙ ap (lengths_written f a.lengths.now) e;
+    }
