@@ -4,7 +4,7 @@ use mathlib.Core.List.{List, [], ◌∷◌, ◌++◌}
 use Prim.Native.Nat.{ℕ, ◌+◌, ◌*◌, ◌-◌, ◌/◌, ◌%◌, ◌<◌}
 use native.Mathlib.Omega.{arith}
 use lib.Dec.{eqb}
-use borrow.Author.Tests.{eqb-true, eqb-false}
+use Rattle.std.proofs.lemmas.Bool.{eqb-true, eqb-false, not-true, not-false}
 use lib.ListN.{drop}
 use Rattle.rules.specs.Factor.{Column, supremum}
 use Rattle.rules.specs.Family.{members_of}
@@ -57,7 +57,7 @@ returns-then-not-pair c =
     let p : (32 * s.f.place + j + 1 - 1) / 32 ≡ s.f.place = omega arith in
     let e : (32 * s.f.place + j + 1 - 1) % 32 ≡ j = omega arith in  record {
       all = λ z. absurd (omega arith);
-      apart = λ _. (p, (rw e less, rw (p, e) (sym c.cross_pair-pair.ensures.test ∙ c.if-not-pair.true)));
+      apart = λ _. (p, (rw e less, rw (p, e) (sym c.cross_pair-pair.ensures.test ∙ not-true _ c.if-not-pair.true)));
       kept = c.cross_pair-pair.ensures.kept;
       places = λ z. absurd (omega arith);
     }
@@ -69,7 +69,7 @@ loop-j-preserved c =
     let T = members_of s.n s.first.now s.first_size in
     let j = c.loop-j.j - 1 in
     let next : c.loop-j.j ≡ j + 1 = omega (arith, c.loop-j-test.true) in
-    let o = c.if-not-pair.false in
+    let o = not-false _ c.if-not-pair.false in
     let e : orthogonal_at s.n s.plot.now s.first.now s.f.place j ≡ true = sym c.cross_pair-pair.ensures.test ∙ o in
     let store = c.cross_pair-pair.new.store in
     let counts = c.cross_pair-pair.new.counts in (

@@ -114,6 +114,7 @@ pub returns : goal.returns
 unfolding full_numbers
 returns c =
         let e = (goal.at.returns c).Else-last-eq-TOO_MANY in
+    let e1 = (goal.at.returns c).Else-at-ne0 in
     let w = (goal.at.returns c).After-cross-crossed in
     let n = w.args.n in
     let size = w.cross-crossed.result.size in
@@ -121,10 +122,10 @@ returns c =
     let R = final_treatment_family (plots w) (treatments w) in
     let many = final_size (plots w) (treatments w) n (store w) (counts w) size b in
     let t = told_14_on (plots w) (treatments w) R (subst (λ (k : ℕ). k ≤ 32) many b.held.few) in  record {
-      answer = full_accepting_is (plot-size w) many ∙ sym t.numbers ∙ ap full_numbers_of (sym (asked e.before));
+      answer = full_accepting_is (plot-size w) many ∙ sym t.numbers ∙ ap full_numbers_of (sym (asked e1));
       buffer = c.write.ensures
           ∙ ap (written w.args.treatment_family.now 0)
           (sorted_columns n b.held.most (store w) size c.sort-order.result b.held.few c.sort-order.ensures ∙ final_listed (plots w) (treatments w) n (store w) (counts w) size b)
           ∙ sym (told_buffer w.args.treatment_family.now t)
-          ∙ ap (treatment_buffer w.args.treatment_family.now) (sym (asked e.before));
+          ∙ ap (treatment_buffer w.args.treatment_family.now) (sym (asked e1));
     }
