@@ -254,8 +254,8 @@ fn put_each(
     lengths: &mut [usize],
 )
     requires { NumberedIn look columns.now × Slots family.now size names.old lengths.old }
-    ensures names_after { names.new ≡ names_written (each_held look text.now columns.now family.now) names.old size }
-    ensures lengths_after { lengths.new ≡ lengths_written (each_held look text.now columns.now family.now) lengths.old size }
+    ensures names { names.new ≡ names_written (each_held look text.now columns.now family.now) names.old size }
+    ensures lengths { lengths.new ≡ lengths_written (each_held look text.now columns.now family.now) lengths.old size }
 {
     let n = look.plots;
     for i in 0..size {
@@ -277,8 +277,8 @@ pub fn put_names(
     lengths: &mut [usize],
 )
     requires { Slots family.now size names.old lengths.old × InTable look levels.now }
-    ensures names_after { names.new ≡ names_written (level_held look text.now levels.now family.now) names.old size }
-    ensures lengths_after { lengths.new ≡ lengths_written (level_held look text.now levels.now family.now) lengths.old size }
+    ensures names { names.new ≡ names_written (level_held look text.now levels.now family.now) names.old size }
+    ensures lengths { lengths.new ≡ lengths_written (level_held look text.now levels.now family.now) lengths.old size }
 {
     let mut columns = [0u8; COLUMN_BYTES];
     columns::number_looked(levels, look, &mut columns);

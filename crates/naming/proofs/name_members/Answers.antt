@@ -45,6 +45,6 @@ returns c =
     let e = fit (goal.at.returns c).After-look-look true (sym c.members_fit.ensures ∙ c.if-not-members_fit.false) in
     let w = c.put_names.ensures in record {
       answer = rw e;
-      names = rw e (w.names_after ∙ ap (λ (x : Look). names_written (level_held x text a.levels.now a.family.now) a.names.now a.size) is);
-      lengths = rw e (w.lengths_after ∙ ap (λ (x : Look). lengths_written (level_held x text a.levels.now a.family.now) a.lengths.now a.size) is);
+      names = rw e (w.names ∙ ap (λ (x : Look). names_written (level_held x text a.levels.now a.family.now) a.names.now a.size) is);
+      lengths = rw e (w.lengths ∙ ap (λ (x : Look). lengths_written (level_held x text a.levels.now a.family.now) a.lengths.now a.size) is);
     }

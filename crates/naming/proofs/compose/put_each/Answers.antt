@@ -72,6 +72,6 @@ returns c =
     let f = each_held a.look a.text.now a.columns.now a.family.now in
     let e : c.loop-i.i ≡ a.size = omega arith in
     record {
-      names_after = c.loop-i.invariant.8 ∙ ap (names_written f a.names.now) e;
-      lengths_after = c.loop-i.invariant.9 ∙ ap (lengths_written f a.lengths.now) e;
+      names = c.loop-i.invariant.8 ∙ ap (names_written f a.names.now) e;
+      lengths = c.loop-i.invariant.9 ∙ ap (lengths_written f a.lengths.now) e;
     }

@@ -29,6 +29,6 @@ returns c =
     let level = level_held a.look text a.levels.now family in
     let same : (i : ℕ) → each i ≡ level i = λ i. ap (take 160) (filled_name a.look a.levels.now m.new.out c.requires.1 m.ensures.own m.ensures.all text (suc i) (column_at a.look.plots family i)) in
     record {
-      names_after = w.names_after ∙ names_ext each level a.names.now a.size (λ i h. same i);
-      lengths_after = w.lengths_after ∙ lengths_ext each level a.lengths.now a.size (λ i h. same i);
+      names = w.names ∙ names_ext each level a.names.now a.size (λ i h. same i);
+      lengths = w.lengths ∙ lengths_ext each level a.lengths.now a.size (λ i h. same i);
     }
