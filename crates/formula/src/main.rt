@@ -13,6 +13,7 @@ use std::io;
 const INPUT: usize = limits::FORMULA + 2;
 
 // How many bytes of the input are the formula.
+#[tactic(auto, unfolding(crate::specs::Input::without_end))]
 fn formula_size(input: &[u8]) -> usize
     ensures formula { take result input.now ≡ without_end input.now }
     ensures inside { result ≤ length input.now }
