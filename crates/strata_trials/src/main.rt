@@ -3,8 +3,8 @@
 
 use std::io;
 
-mod families;
 mod show;
+mod trial_families;
 
 fn main(rt: HostRuntime) -> io::Result<()> {
     trial(&rt, b"one plot\n", 1, 1, b"1")?;
@@ -31,14 +31,14 @@ fn main(rt: HostRuntime) -> io::Result<()> {
         9,
         b"111111121121112212111212122112221234",
     )?;
-    example(&rt, b"Example 1\n", families::TREES, 3, 4, 30)?;
-    example(&rt, b"Example 2\n", families::SUBJECTS, 3, 8, 40)?;
-    example(&rt, b"Example 3\n", families::BENCHES, 4, 4, 40)?;
-    example(&rt, b"Example 4\n", families::ROOTSTOCKS, 6, 4, 100)?;
+    example(&rt, b"Example 1\n", trial_families::TREES, 3, 4, 30)?;
+    example(&rt, b"Example 2\n", trial_families::SUBJECTS, 3, 8, 40)?;
+    example(&rt, b"Example 3\n", trial_families::BENCHES, 4, 4, 40)?;
+    example(&rt, b"Example 4\n", trial_families::ROOTSTOCKS, 6, 4, 100)?;
     example(
         &rt,
         b"Example 4, extension\n",
-        families::COMPOSTING,
+        trial_families::COMPOSTING,
         6,
         8,
         100,
@@ -57,7 +57,7 @@ fn trial(
 ) -> io::Result<()> {
     let mut family = [0u8; 7680];
     rt.write_all(title)?;
-    families::columns(&mut family, plots, digits);
+    trial_families::columns(&mut family, plots, digits);
     show::whole(rt, &family, plots, size)
 }
 
@@ -74,8 +74,8 @@ fn pair(
     let mut plot = [0u8; 7680];
     let mut treatment = [0u8; 7680];
     rt.write_all(title)?;
-    families::columns(&mut plot, plots, plot_digits);
-    families::columns(&mut treatment, plots, treatment_digits);
+    trial_families::columns(&mut plot, plots, plot_digits);
+    trial_families::columns(&mut treatment, plots, treatment_digits);
     show::design(rt, &plot, plot_size, &treatment, treatment_size, plots)
 }
 
@@ -104,7 +104,7 @@ fn example(
     let mut plot = [0u8; 7680];
     let mut treatment = [0u8; 7680];
     rt.write_all(title)?;
-    families::fill(number, plots, &mut plot, &mut treatment);
+    trial_families::fill(number, plots, &mut plot, &mut treatment);
     show::design(rt, &plot, plot_size, &treatment, treatment_size, plots)
 }
 
