@@ -116,7 +116,7 @@ module _ (n c : ℕ) (levels buffer after : List ℕ) (numbers : PlotNumbers) wh
   Compared = numbers ≡ plot_numbers_of (plot_design_by (pair_passes n) n c levels (length buffer))
 
   pub promised : numbers ≡ plot_numbers_of made → after ≡ plot_buffer buffer made
-      → (numbers ≡ plot_numbers_of made) × ((after ≡ plot_buffer buffer made) × (Demanded × (PlotTrusted n numbers after × Compared)))
+      → (numbers ≡ plot_numbers_of made) × (after ≡ plot_buffer buffer made) × Demanded × PlotTrusted n numbers after × Compared
   unfolding returned plot_numbers_of
   promised e f =
-      (e, (f, (λ lent few. rw (e, f) (demand_3 n c levels buffer lent few), (rw (e, f) (plot_trusted n c levels buffer), e ∙ ap plot_numbers_of (plot_compares n c levels (length buffer))))))
+      (e, f, λ lent few. rw (e, f) (demand_3 n c levels buffer lent few), rw (e, f) (plot_trusted n c levels buffer), e ∙ ap plot_numbers_of (plot_compares n c levels (length buffer)))

@@ -179,8 +179,8 @@ module _ (n c d k : ℕ) (levels p b after after' : List ℕ) (r : FullNumbers) 
   Compared = r ≡ full_numbers_of (full_design_by (pair_passes n) n c d k levels (length p) (length b))
 
   pub promised : r ≡ full_numbers_of made → after ≡ plot_buffer p made → after' ≡ treatment_buffer b made
-      → (r ≡ full_numbers_of made) × ((after ≡ plot_buffer p made) × ((after' ≡ treatment_buffer b made) × (Demand2 n c d k levels p b (full_left n r after after') × (FullTrusted n r after after' × Compared))))
+      → (r ≡ full_numbers_of made) × (after ≡ plot_buffer p made) × (after' ≡ treatment_buffer b made) × Demand2 n c d k levels p b (full_left n r after after') × FullTrusted n r after after' × Compared
   unfolding full_numbers_of
   promised e f g =
       let met : Demand2 n c d k levels p b (full_left n r after after') = rw (e, f, g) (demand_2 n c d k levels p b) in
-      (e, (f, (g, (met, (demand_trusted n c d k levels p b (full_left n r after after') met, e ∙ ap full_numbers_of (full_compares n c d k levels (length p) (length b)))))))
+      (e, f, g, met, demand_trusted n c d k levels p b (full_left n r after after') met, e ∙ ap full_numbers_of (full_compares n c d k levels (length p) (length b)))

@@ -18,33 +18,36 @@ in-limits c = plot_limits _ _ _ _ (sym c.within.ensures ∙ c.if-not-within.fals
 pub returns-then-not-within : goal.returns-then-not-within
 unfolding written
 returns-then-not-within c =
-        let a = c.args in
+    let a = c.args in
     let levels = a.levels.now in
     let family = a.family.now in
     let no6 : within_limits a.plots a.columns (length levels) (length family) ≡ false = sym c.within.ensures ∙ c.if-not-within.true in
     let e = design_6 a.plots a.columns levels (length family) no6 in
- let whole = promised a.plots a.columns levels family family (plot_numbers c.refused.result) (c.refused.ensures ∙ ap plot_numbers_of (sym e)) (ap (plot_buffer family) (sym e)) in record { answer = whole.0; buffer = whole.1; demand = whole.2; trusted = whole.3; compared = whole.4 }
+    let whole = promised a.plots a.columns levels family family (plot_numbers c.refused.result) (c.refused.ensures ∙ ap plot_numbers_of (sym e)) (ap (plot_buffer family) (sym e)) in
+    record { answer = whole.0; buffer = whole.1; demand = whole.2; trusted = whole.3; compared = whole.4 }
 
 pub returns-then-not-all_nonzero : goal.returns-then-not-all_nonzero
 unfolding written
 returns-then-not-all_nonzero c =
-            let a = c.args in
+    let a = c.args in
     let levels = a.levels.now in
     let family = a.family.now in
     let yes6 : within_limits a.plots a.columns (length levels) (length family) ≡ true = sym c.within.ensures ∙ c.if-not-within.false in
     let no7 : all_nonzero (columns_from a.plots levels 0 a.columns) ≡ false = sym c.all_nonzero.ensures ∙ c.if-not-all_nonzero.true in
     let e = design_7 a.plots a.columns levels (length family) yes6 no7 in
- let whole = promised a.plots a.columns levels family family (plot_numbers c.refused-then-not-all_nonzero.result) (c.refused-then-not-all_nonzero.ensures ∙ ap plot_numbers_of (sym e)) (ap (plot_buffer family) (sym e)) in record { answer = whole.0; buffer = whole.1; demand = whole.2; trusted = whole.3; compared = whole.4 }
+    let whole = promised a.plots a.columns levels family family (plot_numbers c.refused-then-not-all_nonzero.result) (c.refused-then-not-all_nonzero.ensures ∙ ap plot_numbers_of (sym e)) (ap (plot_buffer family) (sym e)) in
+    record { answer = whole.0; buffer = whole.1; demand = whole.2; trusted = whole.3; compared = whole.4 }
 
 pub plot_from_8-requires : goal.plot_from_8-requires
-plot_from_8-requires c = let l = c in-limits (goal.at.plot_from_8-requires c).Else-not-within in (l.plots_some, l.plots_few, l.columns, l.table, l.room)
+plot_from_8-requires c = let l = in-limits (goal.at.plot_from_8-requires c).Else-not-within in (l.plots_some, l.plots_few, l.columns, l.table, l.room)
 
 pub returns : goal.returns
 returns c =
-                    let a = c.args in
+    let a = c.args in
     let levels = a.levels.now in
     let family = a.family.now in
     let yes6 : within_limits a.plots a.columns (length levels) (length family) ≡ true = sym c.within.ensures ∙ c.if-not-within.false in
     let yes7 : all_nonzero (columns_from a.plots levels 0 a.columns) ≡ true = sym c.all_nonzero.ensures ∙ c.if-not-all_nonzero.false in
     let e = design_8 a.plots a.columns levels (length family) yes6 yes7 in
- let whole = promised a.plots a.columns levels family c.plot_from_8.new.family (plot_numbers c.plot_from_8.result) (c.plot_from_8.ensures.answer ∙ ap plot_numbers_of (sym e)) (c.plot_from_8.ensures.buffer ∙ ap (plot_buffer family) (sym e)) in record { answer = whole.0; buffer = whole.1; demand = whole.2; trusted = whole.3; compared = whole.4 }
+    let whole = promised a.plots a.columns levels family c.plot_from_8.new.family (plot_numbers c.plot_from_8.result) (c.plot_from_8.ensures.answer ∙ ap plot_numbers_of (sym e)) (c.plot_from_8.ensures.buffer ∙ ap (plot_buffer family) (sym e)) in
+    record { answer = whole.0; buffer = whole.1; demand = whole.2; trusted = whole.3; compared = whole.4 }
