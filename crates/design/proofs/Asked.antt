@@ -7,7 +7,7 @@ use native.Mathlib.Nat.{sub-zero}
 use native.Mathlib.Omega.{arith}
 use lib.ListN.{length}
 use lib.Seq.{take_all}
-use Rattle.rules.specs.Factor.{Column, at, number, uniform}
+use Rattle.rules.specs.Factor.{Column, number, uniform}
 use Rattle.rules.specs.Family.{members_of}
 use Rattle.rules.specs.Design.{first_failing}
 use Rattle.rules.specs.Relation.{member_at}

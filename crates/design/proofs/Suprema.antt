@@ -1,8 +1,8 @@
 -- Laws of the suprema of plot and treatment members: lent members, the suprema row by row, and more of them than a family may have.
 -- Assumes nothing.
-use mathlib.Core.Path.{◌≡◌, refl, sym, ap, ap₂, ◌∙◌}
+use mathlib.Core.Path.{◌≡◌, sym, ap, ap₂, ◌∙◌}
 use mathlib.Core.Logic.{◌⊎◌, inl, inr}
-use mathlib.Core.Bool.{Bool, true, false, ◌||◌}
+use mathlib.Core.Bool.{true}
 use mathlib.Core.List.Memᴰ
 use mathlib.Core.List.{List, [], ◌∷◌, ◌++◌}
 use Prim.Native.Nat.{ℕ, suc, ◌+◌, ◌*◌, ◌-◌, ◌≤◌, ◌<◌}
@@ -11,7 +11,7 @@ use lib.Dec.{eqb}
 use lib.ListN.{length, get_or, take, drop, length-append}
 use lib.Seq.{take_at}
 use borrow.Author.Tests.{eqb-true}
-use Rattle.rules.specs.Factor.{Column, at, number, classes, supremum, finer, orthogonal}
+use Rattle.rules.specs.Factor.{Column, number, classes, supremum, finer, orthogonal}
 use Rattle.rules.specs.Family.{Family, ◌∈◌, empty, members_of, insert_all}
 use Rattle.rules.specs.Closing.{only_supremum, products, final_treatment_family}
 use Rattle.rules.specs.Relation.{member_at}

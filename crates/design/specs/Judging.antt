@@ -5,7 +5,7 @@ use Rattle.rules.specs.Limits.{most_plots, most_members}
 use Rattle.rules.specs.Factor.{Column, uniform, orthogonal}
 use Rattle.rules.specs.Family.{Family, members_of, written}
 use Rattle.rules.specs.Closing.{too_many, family, close, plot_generators, plot_family}
-use Rattle.rules.specs.Design.{Places, first_failing, first_pair}
+use Rattle.rules.specs.Design.{first_failing, first_pair}
 use Rattle.design.specs.declared.questions.Places as found
 use Rattle.design.specs.State.{make_of, pair_mark, marked}
 use Rattle.design.specs.Search.{first_pair_of}

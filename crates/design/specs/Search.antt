@@ -1,6 +1,6 @@
 -- Searches over places, from 0, for the first that fails a test; the answers count from 1.
 -- Assumes nothing.
-use Rattle.std.specs.Prelude.{Bool, true, false, ℕ, zero, suc, ◌+◌, ◌-◌, ◌<◌, eqb}
+use Rattle.std.specs.Prelude.{Bool, true, false, ℕ, zero, suc, ◌-◌, eqb}
 use Rattle.design.specs.declared.questions.Places.{Places}
 
 -- the least k from j on, k < j + left, at which the test fails, and 1; 0 where there is none

@@ -1,6 +1,6 @@
 -- What the steps of closing keep: members in the order of their discovery, their numbers of classes, and a mark for each pair.
 -- Members and pairs are counted from 0 here. Assumes nothing.
-use Rattle.std.specs.Prelude.{◌≡◌, ◌⊎◌, Bool, true, false, not, ◌||◌, List, [], ◌∷◌, ◌++◌, map, ℕ, suc, ◌+◌, ◌*◌, ◌%◌, ◌^◌, ◌≤◌, ◌<◌, eqb, ltb, length, get_or, set, take, drop}
+use Rattle.std.specs.Prelude.{◌≡◌, ◌⊎◌, Bool, true, false, not, ◌||◌, List, [], ◌∷◌, ◌++◌, map, ℕ, suc, ◌+◌, ◌*◌, ◌%◌, ◌^◌, ◌≤◌, ◌<◌, eqb, ltb, length, get_or, set, take}
 use Rattle.std.specs.Int.Bits.{bit_or}
 use Rattle.rules.specs.Limits.{most_plots, most_members, family_bytes}
 use Rattle.rules.specs.Factor.{Column, Finer, number, classes, supremum, orthogonal}

@@ -10,9 +10,9 @@ pub returns-then-at-apart : goal.returns-then-at-apart
 returns-then-at-apart c = sym (c.requires.4.1 c.if-at-apart.true)
 
 pub returns-then-known_finer : goal.returns-then-known_finer
-returns-then-known_finer c =     let a = c.args in
+returns-then-known_finer c = let a = c.args in
     (treatment_coarser a.n a.i a.j a.f a.g a.plot.now a.first.now c.requires.0 c.requires.1 c.requires.2 c.requires.3 (sym c.known_finer.ensures ∙ c.if-known_finer.true)).0
 
 pub returns-then-known_finer-2 : goal.returns-then-known_finer-2
-returns-then-known_finer-2 c =     let a = c.args in
+returns-then-known_finer-2 c = let a = c.args in
     (plot_coarser a.n a.i a.j a.f a.g a.plot.now a.first.now c.requires.0 c.requires.1 c.requires.2 c.requires.3 (sym c.known_finer-2.ensures ∙ c.if-known_finer-2.true)).0

@@ -47,7 +47,7 @@ places c q h =
 
 pub returns-then-start-eq-TOO_MANY : goal.returns-then-start-eq-TOO_MANY
 returns-then-start-eq-TOO_MANY c =
-        let p = (goal.at.returns-then-start-eq-TOO_MANY c).After-place_plot_infima-start in
+    let p = (goal.at.returns-then-start-eq-TOO_MANY c).After-place_plot_infima-start in
     plot_over (on p) c.too_many.ensures (all_over c.if-start-eq-TOO_MANY.true p.place_plot_infima-start.ensures) refl
 
 pub close_or_grow-size-requires : goal.close_or_grow-size-requires
@@ -55,7 +55,7 @@ close_or_grow-size-requires c = (begun (goal.at.close_or_grow-size-requires c).A
 
 pub returns-then-size-eq-TOO_MANY : goal.returns-then-size-eq-TOO_MANY
 returns-then-size-eq-TOO_MANY c =
-            plot_over (on (goal.at.returns-then-size-eq-TOO_MANY c).After-place_plot_infima-start) c.too_many-then-size-eq-TOO_MANY.ensures (grows_over c.if-size-eq-TOO_MANY.true (grows (goal.at.returns-then-size-eq-TOO_MANY c).After-close_or_grow-size)) refl
+    plot_over (on (goal.at.returns-then-size-eq-TOO_MANY c).After-place_plot_infima-start) c.too_many-then-size-eq-TOO_MANY.ensures (grows_over c.if-size-eq-TOO_MANY.true (grows (goal.at.returns-then-size-eq-TOO_MANY c).After-close_or_grow-size)) refl
 
 pub sort-order-requires : goal.sort-order-requires
 sort-order-requires c = let w = whole (goal.at.sort-order-requires c).Then-size-start in (w.held, w.found.distinct)
@@ -69,7 +69,7 @@ write-requires c =
 
 pub returns-then-size-start : goal.returns-then-size-start
 returns-then-size-start c =
-            let h = (goal.at.returns-then-size-start c).Then-size-start in
+    let h = (goal.at.returns-then-size-start c).Then-size-start in
     let g = (goal.at.returns-then-size-start c).After-close_or_grow-size in
     let p = (goal.at.returns-then-size-start c).After-place_plot_infima-start in
     let n = p.args.n in
@@ -81,13 +81,13 @@ returns-then-size-start c =
 
 pub close_family-requires : goal.close_family-requires
 close_family-requires c =
-        let g = (goal.at.close_family-requires c).After-close_or_grow-size in
-        let o = grows_own c.if-size-eq-TOO_MANY.false (grows g) in
+    let g = (goal.at.close_family-requires c).After-close_or_grow-size in
+    let o = grows_own c.if-size-eq-TOO_MANY.false (grows g) in
     (work_begun true o.begun o.cells, zero-le, c.requires.4)
 
 pub returns : goal.returns
 returns c =
-            let g = (goal.at.returns c).After-close_or_grow-size in
+    let g = (goal.at.returns c).After-close_or_grow-size in
     let p = (goal.at.returns c).After-place_plot_infima-start in
     let o = grows_own c.if-size-eq-TOO_MANY.false (grows g) in
     plot_grown (on p) (members_of p.args.n g.close_or_grow-size.new.store g.close_or_grow-size.result) o.only o.given (c.close_family.ensures (members_of p.args.n g.close_or_grow-size.new.store g.close_or_grow-size.result) (work_begun true o.begun o.cells))

@@ -32,6 +32,6 @@ returns-then-n-m c = λ Gs b. c.close_family-then-n-m.ensures Gs (work_begun tru
 
 pub close_points-requires : goal.close_points-requires
 close_points-requires c =
-            let P = c.meet_members-m.ensures.points in
+    let P = c.meet_members-m.ensures.points in
     let less : c.meet_members-m.result < c.args.n = omega (arith, c.if-n-m.false, points_some P c.requires.0.held.some) in
     (c.requires.0, c.requires.1, P, less, c.meet_members-m.ensures.coarser, c.requires.2, c.requires.3)

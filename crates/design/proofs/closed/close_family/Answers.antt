@@ -48,7 +48,7 @@ returns-then-size-eq-TOO_MANY c =
 
 pub sort-order-requires : goal.sort-order-requires
 sort-order-requires c =
-        let w = work (goal.at.sort-order-requires c).After-close-size c.if-size-eq-TOO_MANY.false in
+    let w = work (goal.at.sort-order-requires c).After-close-size c.if-size-eq-TOO_MANY.false in
     (w.held, w.found.distinct)
 
 pub write-requires : goal.write-requires
@@ -59,4 +59,4 @@ write-requires c =
 
 pub returns : goal.returns
 returns c =
-            λ Gs b. family_listed (work-of (goal.at.returns c).After-sort-order) c.sort-order.ensures Gs (closed_on c.if-size-eq-TOO_MANY.false (closed (goal.at.returns c).After-close-size Gs b)).1 c.write.ensures
+    λ Gs b. family_listed (work-of (goal.at.returns c).After-sort-order) c.sort-order.ensures Gs (closed_on c.if-size-eq-TOO_MANY.false (closed (goal.at.returns c).After-close-size Gs b)).1 c.write.ensures

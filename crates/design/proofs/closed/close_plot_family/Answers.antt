@@ -26,19 +26,19 @@ on c = column_length c.args.n c.args.levels.now c.args.columns 0 c.requires.1 c.
 
 pub look_crossed-requires : goal.look_crossed-requires
 look_crossed-requires c =
-        (c.place_plot_columns-start.ensures.held.few, c.requires.1)
+    (c.place_plot_columns-start.ensures.held.few, c.requires.1)
 
 pub close_by_infima-requires : goal.close_by_infima-requires
 close_by_infima-requires c =
-            let held = c.place_plot_columns-start.ensures.held in
+    let held = c.place_plot_columns-start.ensures.held in
     (c.requires.0, c.requires.1, c.requires.2, c.requires.3, c.requires.4, held.room, held.places, c.requires.6)
 
 pub returns-then-look_crossed : goal.returns-then-look_crossed
 returns-then-look_crossed c =
-            let s = (goal.at.returns-then-look_crossed c).Start in
+    let s = (goal.at.returns-then-look_crossed c).Start in
     let n = s.args.n in
     let Fs : List Column = columns_from n s.args.levels.now 0 s.args.columns in
-    let l = c.close_by_infima.ensures in  record {
+    let l = c.close_by_infima.ensures in record {
       family = plot_held n s.requires.1 s.requires.0 Fs (on s) _ _ _ _ _ s.requires.4 l;
       buffer = plot_left n s.requires.1 s.requires.0 Fs (on s) _ _ _ _ _ s.requires.4 l;
       tables = plot_ready n s.requires.1 s.requires.0 Fs (on s) _ _ _ _ _ s.requires.4 l;
@@ -46,14 +46,14 @@ returns-then-look_crossed c =
 
 pub close_columns-requires : goal.close_columns-requires
 close_columns-requires c =
-        (begun_own c.place_plot_columns-start.ensures, c.place_plot_columns-start.ensures.given _ (has_equality_holds c.args.n (columns_from c.args.n c.args.levels.now 0 c.args.columns)), c.requires.6, c.requires.4)
+    (begun_own c.place_plot_columns-start.ensures, c.place_plot_columns-start.ensures.given _ (has_equality_holds c.args.n (columns_from c.args.n c.args.levels.now 0 c.args.columns)), c.requires.6, c.requires.4)
 
 pub returns : goal.returns
 returns c =
-            let s = (goal.at.returns c).Start in
+    let s = (goal.at.returns c).Start in
     let n = s.args.n in
     let Fs : List Column = columns_from n s.args.levels.now 0 s.args.columns in
-    let l = by_counts_holds (c.close_columns.ensures (plot_generators n Fs) c.place_plot_columns-start.ensures) in  record {
+    let l = by_counts_holds (c.close_columns.ensures (plot_generators n Fs) c.place_plot_columns-start.ensures) in record {
       family = plot_held n s.requires.1 s.requires.0 Fs (on s) _ _ _ _ _ s.requires.4 l;
       buffer = plot_left n s.requires.1 s.requires.0 Fs (on s) _ _ _ _ _ s.requires.4 l;
       tables = plot_ready n s.requires.1 s.requires.0 Fs (on s) _ _ _ _ _ s.requires.4 l;

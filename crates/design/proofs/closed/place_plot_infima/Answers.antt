@@ -41,11 +41,11 @@ beside-one c {after} {counts} {r} q =
 
 pub slice_bounds-place-end : goal.slice_bounds-place-end
 slice_bounds-place-end c =
-        sym (ap length c.equality-column.ensures ∙ length_equality c.args.n)
+    sym (ap length c.equality-column.ensures ∙ length_equality c.args.n)
 
 pub place-requires : goal.place-requires
 place-requires c =
-        let s = (goal.at.place-requires c).Start in
+    let s = (goal.at.place-requires c).Start in
     let n = s.args.n in (
       held_on n s.args.store.now s.args.counts.now 0 (take n c.equality-column.result) (equality n) c.equality-column.ensures (length_equality n) (empty-held s),
       sym (ap classes c.equality-column.ensures ∙ classes_equality n),
@@ -54,9 +54,9 @@ place-requires c =
 pub place_choices-requires : goal.place_choices-requires
 place_choices-requires c =
     let p = (goal.at.place_choices-requires c).After-place in
-        (c.requires.2, omega arith, omega arith, omega arith, c.requires.3, begun_own (begun-one p))
+    (c.requires.2, omega arith, omega arith, omega arith, c.requires.3, begun_own (begun-one p))
 
 pub returns : goal.returns
 returns c =
-        let p = (goal.at.returns c).After-place in
+    let p = (goal.at.returns c).After-place in
     beside-one p c.place_choices.ensures

@@ -1,7 +1,7 @@
 use mathlib.Core.Path.{◌≡◌, refl, subst}
 use mathlib.Core.Logic.{inr}
 use mathlib.Core.Bool.{false}
-use Prim.Native.Nat.{ℕ, ◌-◌}
+use Prim.Native.Nat.{ℕ}
 use native.Mathlib.Nat.{le_refl}
 use native.Mathlib.Omega.{arith}
 use Rattle.design.specs.State.{Held, Known, Work, whole}
@@ -17,18 +17,18 @@ combine_row-now-requires c = (c.loop-i.invariant.1, omega arith, c.loop-i.invari
 
 pub shape_of-store-then-now-size : goal.shape_of-store-then-now-size
 shape_of-store-then-now-size c =
-            omega (arith, c.combine_row-now.auto.store, c.loop-i.invariant.1.room, c.requires.room)
+    omega (arith, c.combine_row-now.auto.store, c.loop-i.invariant.1.room, c.requires.room)
 
 pub returns-then-now-size : goal.returns-then-now-size
 returns-then-now-size c =
-             record {
+    record {
       kept = advanced_kept c.combine_row-now.ensures.kept;
       grows = λ Gs w. stepped_grows c.if-now-size.true (c.combine_row-now.ensures.step Gs (c.loop-i.invariant.2 Gs w));
     }
 
 pub loop-i-preserved : goal.loop-i-preserved
 loop-i-preserved c =
-                let size = c.args.size in
+    let size = c.args.size in
     let same : c.combine_row-now.result ≡ size = c.if-now-size.false in
     let fits : c.combine_row-now.result ≡ 33 → ⊥ = λ q. let few = c.loop-i.invariant.1.few in omega (arith, few) in
     let k = advanced_on fits c.combine_row-now.ensures.kept in (
@@ -43,9 +43,9 @@ shape_of-store c = omega (arith, c.loop-i.invariant.1.room, c.requires.room)
 
 pub returns : goal.returns
 returns c =
-        let size = c.args.size in
+    let size = c.args.size in
     let e : c.loop-i.i ≡ size = omega arith in
-     record {
+    record {
       kept = inr (c.loop-i.invariant.1, le_refl size);
       grows = λ Gs w. whole refl (work_at e refl (c.loop-i.invariant.2 Gs w));
     }

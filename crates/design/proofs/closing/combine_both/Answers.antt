@@ -165,7 +165,7 @@ place-p-requires c =
 pub returns-then-p-eq-MEMBERS : goal.returns-then-p-eq-MEMBERS
 returns-then-p-eq-MEMBERS c =
     let p = (goal.at.returns-then-p-eq-MEMBERS c).After-place-p in
-         record {
+    record {
       kept = inl refl;
       step = λ Gs w. over refl (over_infimum w c.requires.1 c.requires.2 (placed p) c.if-p-eq-MEMBERS.true);
     }
@@ -193,7 +193,7 @@ pub returns-then-q-eq-MEMBERS : goal.returns-then-q-eq-MEMBERS
 returns-then-q-eq-MEMBERS c =
     let q = (goal.at.returns-then-q-eq-MEMBERS c).After-place-q in
     let g = (goal.at.returns-then-q-eq-MEMBERS c).After-grown-more in
-     record {
+    record {
       kept = inl refl;
       step = λ Gs w. over refl (over_supremum (work_infimum w c.requires.1 c.requires.2 (here g)) (i-in g) c.requires.2 (placed-2 q) c.if-q-eq-MEMBERS.true);
     }
@@ -225,8 +225,8 @@ note_supremum-requires c =
 
 pub note_infimum-requires : goal.note_infimum-requires
 note_infimum-requires c =
-        let g = (goal.at.note_infimum-requires c).After-grown-more in
-        let a = c.args in
+    let g = (goal.at.note_infimum-requires c).After-grown-more in
+    let a = c.args in
     let q = c.place-q.result in (
       ap length c.note_supremum.ensures ∙ noted_words (noted a.above.now a.i q) a.j q (noted_words a.above.now a.i q c.requires.3.words),
       omega (arith, c.requires.0.few, c.requires.1),
@@ -239,8 +239,8 @@ grown-requires c = (here (goal.at.grown-requires c).After-grown-more).held.few
 
 pub returns : goal.returns
 returns c =
-            let e = (goal.at.returns c).Else-q-eq-MEMBERS in
-                let a = c.args in
+    let e = (goal.at.returns c).Else-q-eq-MEMBERS in
+    let a = c.args in
     let x = here (goal.at.returns c).After-grown-more in
     let y = here-2 e in
     let size = grown_to c.grown-more.result c.place-q.result in
@@ -254,7 +254,7 @@ returns c =
     let high = pair_here x.held (i-in (goal.at.returns c).After-grown-more) (j-in (goal.at.returns c).After-grown-more) y in
     let mark = mark-is (goal.at.returns c).After-same_product-mark ∙ sym (ap₂ by_counts (y.keeps a.i i-there ∙ kept_at c.requires.0 x a.i c.requires.1) (y.keeps a.j j-there ∙ kept_at c.requires.0 x a.j j-first)) in
     let known = known_infimum y.held i-now j-now low (known_supremum y.held i-now j-now high (known_grown x.held y (known_grown c.requires.0 x c.requires.3))) in
-    let words = c.note_infimum.ensures ∙ ap (λ (l : List ℕ). noted (noted l c.place-p.result a.i) c.place-p.result a.j) c.note_supremum.ensures in  record {
+    let words = c.note_infimum.ensures ∙ ap (λ (l : List ℕ). noted (noted l c.place-p.result a.i) c.place-p.result a.j) c.note_supremum.ensures in record {
       kept = inr (rw (c.grown.ensures, words) (y.held, more, known));
       step = λ Gs w. on (rw (c.grown.ensures, c.entry.ensures) (work_both c.same_product-mark.result i-now c.requires.2 low high mark (work_supremum (work_infimum w c.requires.1 c.requires.2 x) (i-in (goal.at.returns c).After-grown-more) c.requires.2 y)));
     }

@@ -10,7 +10,7 @@ known_entry-known-requires c = (c.requires.0.places, c.requires.3.words, c.requi
 
 pub returns-then-known-ne0 : goal.returns-then-known-ne0
 returns-then-known-ne0 c =
-             record {
+    record {
       kept = inr (c.requires.0, le_refl _, c.requires.3);
       step = λ Gs w. on (work_follows w c.requires.1 c.requires.2 c.known_entry-known.result c.if-known-ne0.true (c.known_entry-known.ensures c.args.store.now c.requires.0 c.requires.3));
     }

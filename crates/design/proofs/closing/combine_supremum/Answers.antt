@@ -82,7 +82,7 @@ place-q-requires c =
 pub returns-then-q-eq-MEMBERS : goal.returns-then-q-eq-MEMBERS
 returns-then-q-eq-MEMBERS c =
     let p = (goal.at.returns-then-q-eq-MEMBERS c).After-place-q in
-         record {
+    record {
       kept = inl refl;
       step = λ Gs w. over refl (over_supremum w c.requires.1 c.requires.2 (placed p) c.if-q-eq-MEMBERS.true);
     }
@@ -103,7 +103,7 @@ pub note_supremum-requires : goal.note_supremum-requires
 note_supremum-requires c =
     let e = (goal.at.note_supremum-requires c).Else-q-eq-MEMBERS in
     let x = here e in
-        (c.requires.3.words, omega (arith, c.requires.0.few, c.requires.1), omega (arith, c.requires.0.few, c.requires.1, c.requires.2), omega (arith, x.here, x.held.few))
+    (c.requires.3.words, omega (arith, c.requires.0.few, c.requires.1), omega (arith, c.requires.0.few, c.requires.1, c.requires.2), omega (arith, x.here, x.held.few))
 
 pub grown-requires : goal.grown-requires
 grown-requires c = c.requires.0.few
@@ -111,7 +111,7 @@ grown-requires c = c.requires.0.few
 pub returns : goal.returns
 returns c =
     let e = (goal.at.returns c).Else-q-eq-MEMBERS in
-                let a = c.args in
+    let a = c.args in
     let x = here e in
     let more : a.size ≤ grown_to a.size c.place-q.result = omega (arith, x.more, size_members c.requires.0) in
     let i-in : a.i < grown_to a.size c.place-q.result = omega (arith, c.requires.1, more) in
@@ -119,7 +119,7 @@ returns c =
     let j-now : a.j < grown_to a.size c.place-q.result = omega (arith, j-in, more) in
     let high = pair_here c.requires.0 c.requires.1 j-in x in
     let mark = c.member_crossing-crossing.ensures.orthogonal ∙ sym (ap₂ (orthogonal a.n) (kept_at c.requires.0 x a.i c.requires.1) (kept_at c.requires.0 x a.j j-in)) in
-    let known = known_supremum x.held i-in j-now high (known_grown c.requires.0 x c.requires.3) in  record {
+    let known = known_supremum x.held i-in j-now high (known_grown c.requires.0 x c.requires.3) in record {
       kept = inr (rw (c.grown.ensures, c.note_supremum.ensures) (x.held, more, known));
       step = λ Gs w. on (rw (c.grown.ensures, c.entry.ensures) (work_join c.member_crossing-crossing.result.orthogonal i-in c.requires.2 high mark (work_supremum w c.requires.1 c.requires.2 x)));
     }

@@ -10,36 +10,36 @@ use Rattle.design.proofs.closing.found_finer.Goals as goal
 
 pub returns-then-told_finer : goal.returns-then-told_finer
 returns-then-told_finer c =
-         record {
+    record {
       finer = λ e. told_order c.requires.0 c.requires.1 c.requires.2 c.requires.3 (sym c.told_finer.ensures ∙ c.if-told_finer.true);
       known = c.requires.3;
     }
 
 pub returns-then-infima : goal.returns-then-infima
-returns-then-infima c =  record {
-      finer = λ e. clash e refl;
-      known = c.requires.3;
-    }
+returns-then-infima c = record {
+  finer = λ e. clash e refl;
+  known = c.requires.3;
+}
 
 pub returns-then-a-b : goal.returns-then-a-b
-returns-then-a-b c =  record {
-      finer = λ e. clash e refl;
-      known = c.requires.3;
-    }
+returns-then-a-b c = record {
+  finer = λ e. clash e refl;
+  known = c.requires.3;
+}
 
 pub returns-then-member_finer : goal.returns-then-member_finer
 returns-then-member_finer c =
-                let store = c.args.store.now in
+    let store = c.args.store.now in
     let n = c.args.n in
     let e = sym c.member_finer.ensures ∙ c.if-member_finer.true in
     let k = known_noted c.requires.0.few c.requires.1 c.requires.2 ((finer_test n (column_at n store c.args.i) (column_at n store c.args.j)).0 e) c.requires.3 in
-     record {
+    record {
       finer = λ _. e;
       known = subst (λ (above : List ℕ). Known n store above c.args.size) (sym c.note_finer.ensures) k;
     }
 
 pub returns : goal.returns
-returns c =  record {
-      finer = λ e. clash e refl;
-      known = c.requires.3;
-    }
+returns c = record {
+  finer = λ e. clash e refl;
+  known = c.requires.3;
+}

@@ -1,6 +1,6 @@
 use mathlib.Core.Path.{◌≡◌, refl, sym, ◌∙◌}
 use mathlib.Core.Bool.{true}
-use Prim.Native.Nat.{◌-◌, ◌/◌, ◌^◌}
+use Prim.Native.Nat.{◌/◌, ◌^◌}
 use native.Mathlib.Omega.{arith}
 use lib.Bits.{and_mask}
 use borrow.Author.Tests.{eq-eqb}
@@ -16,7 +16,7 @@ names_coarser-requires c = (c.requires.0, c.requires.1, c.requires.2, omega arit
 pub returns-then-names_coarser : goal.returns-then-names_coarser
 unfolding bit_at
 returns-then-names_coarser c store held known =
-                let y = c.loop-y.y in
+    let y = c.loop-y.y in
     let bit : bit_at (get_or c.args.above.now y 0) c.args.j ≡ true = eq-eqb _ _ (sym (and_mask (get_or c.args.above.now y 0 / 2 ^ c.args.j) 1) ∙ c.if-word-j-eq1.true) in
     known_follows {marks = c.args.marks.now} {i = c.args.i} held known (omega arith) y (omega arith) bit (c.names_coarser.ensures c.if-names_coarser.true) refl
 

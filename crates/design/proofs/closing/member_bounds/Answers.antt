@@ -10,13 +10,13 @@ use Rattle.design.proofs.closing.member_bounds.Goals as goal
 
 pub returns : goal.returns
 returns c =
-        let s = c.args in
+    let s = c.args in
     let store = s.store.now in
     let fits : (240 * s.i + s.n ≤ length store) × (240 * s.j + s.n ≤ length store) = (omega arith, omega arith) in
     let e = test_parts (λ (k : ℕ). infimum) s.n store store s.i s.j (omega arith) fits.0 fits.1 _ _ c.member.ensures c.member-2.ensures in
     let f = test_parts (λ (k : ℕ). supremum) s.n store store s.i s.j (omega arith) fits.0 fits.1 _ _ c.member.ensures c.member-2.ensures in
     let b = c.bounds_of.ensures in
-     record {
+    record {
       infimum = b.infimum ∙ ap classes e;
       supremum = b.supremum ∙ ap classes f;
       below = b.below ∙ ap (overlay s.below.now) e;

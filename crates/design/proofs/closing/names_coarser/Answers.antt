@@ -14,4 +14,4 @@ returns-then-size-q c e = clash e refl
 
 pub returns : goal.returns
 returns c e =
-        names (c.args.entry - 1) (omega arith) (omega arith) (sym c.told_finer.ensures ∙ e)
+    names (c.args.entry - 1) (omega arith) (omega arith) (sym c.told_finer.ensures ∙ e)

@@ -9,8 +9,8 @@ use Rattle.design.proofs.closing.note_infimum.Goals as goal
 
 pub note_finer-requires-2 : goal.note_finer-requires-2
 note_finer-requires-2 c =
-            (ap length c.note_finer.ensures ∙ noted_words c.args.above.now c.args.p c.args.i c.requires.0, c.requires.3, c.requires.2)
+    (ap length c.note_finer.ensures ∙ noted_words c.args.above.now c.args.p c.args.i c.requires.0, c.requires.3, c.requires.2)
 
 pub returns : goal.returns
 returns c =
-            c.note_finer-2.ensures ∙ ap (λ (l : List ℕ). noted l c.args.p c.args.j) c.note_finer.ensures
+    c.note_finer-2.ensures ∙ ap (λ (l : List ℕ). noted l c.args.p c.args.j) c.note_finer.ensures

@@ -9,8 +9,8 @@ use Rattle.design.proofs.closing.note_supremum.Goals as goal
 
 pub note_finer-requires-2 : goal.note_finer-requires-2
 note_finer-requires-2 c =
-            (ap length c.note_finer.ensures ∙ noted_words c.args.above.now c.args.i c.args.q c.requires.0, c.requires.2, c.requires.3)
+    (ap length c.note_finer.ensures ∙ noted_words c.args.above.now c.args.i c.args.q c.requires.0, c.requires.2, c.requires.3)
 
 pub returns : goal.returns
 returns c =
-            c.note_finer-2.ensures ∙ ap (λ (l : List ℕ). noted l c.args.j c.args.q) c.note_finer.ensures
+    c.note_finer-2.ensures ∙ ap (λ (l : List ℕ). noted l c.args.j c.args.q) c.note_finer.ensures

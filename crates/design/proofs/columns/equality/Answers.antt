@@ -8,4 +8,4 @@ use Rattle.design.proofs.columns.equality.Goals as goal
 
 pub returns : goal.returns
 returns c =
-        ap (λ (l : List ℕ). take c.args.n l) c.equality.ensures ∙ equality_part c.args.n c.requires
+    ap (λ (l : List ℕ). take c.args.n l) c.equality.ensures ∙ equality_part c.args.n c.requires

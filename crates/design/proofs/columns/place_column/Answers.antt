@@ -38,18 +38,17 @@ overflow_cast-k c = omega (arith, (made (goal.at.overflow_cast-k c).After-column
 
 pub place-p-requires : goal.place-p-requires
 place-p-requires c =
-    let w = (goal.at.place-p-requires c).After-column_numbers-k in
-    (
+    let w = (goal.at.place-p-requires c).After-column_numbers-k in (
       held_on c.args.n c.args.store.now c.args.counts.now c.args.size (take c.args.n w.column_numbers-k.new.out) (column w) (made w).numbers (made w).numbered_plots c.requires.0,
       (made w).count ∙ ap classes (sym (made w).numbers),
     )
 
 pub returns : goal.returns
 returns c =
-        let w = (goal.at.returns c).After-column_numbers-k in
-        let p = placed_on c.args.n c.args.store.now c.args.size (take c.args.n w.column_numbers-k.new.out) (column w) c.place-p.result c.place-p.new.store c.place-p.new.counts (made w).numbers (made w).numbered_plots c.place-p.ensures in
+    let w = (goal.at.returns c).After-column_numbers-k in
+    let p = placed_on c.args.n c.args.store.now c.args.size (take c.args.n w.column_numbers-k.new.out) (column w) c.place-p.result c.place-p.new.store c.place-p.new.counts (made w).numbers (made w).numbered_plots c.place-p.ensures in
     let a = after_placed c.args.n c.args.store.now c.args.counts.now c.args.size c.requires.0 c.requires.1 (column w) c.place-p.result c.place-p.new.store c.place-p.new.counts p in
-    let e = c.grown.ensures in  record {
+    let e = c.grown.ensures in record {
       kept = (subst (λ (k : ℕ). Held c.args.n c.place-p.new.store c.place-p.new.counts k) (sym e) a.held, subst (λ (k : ℕ). k ≤ c.args.size + 1) (sym e) a.most);
       begun = λ As b. subst (λ (k : ℕ). Begun c.args.n (As ++ column w ∷ []) c.place-p.new.store c.place-p.new.counts k) (sym e)
           (begun_more c.args.n As c.args.store.now c.args.counts.now c.args.size b c.requires.1 (column w) (number_number (entered w)) c.place-p.result c.place-p.new.store c.place-p.new.counts p);

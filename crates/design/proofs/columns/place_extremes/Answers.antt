@@ -30,7 +30,7 @@ begun-one c =
 
 pub slice_bounds-place-end : goal.slice_bounds-place-end
 slice_bounds-place-end c =
-        sym (ap length (take_ones c.args.n c.requires.1) ∙ length_universal c.args.n)
+    sym (ap length (take_ones c.args.n c.requires.1) ∙ length_universal c.args.n)
 
 pub place-requires : goal.place-requires
 place-requires c =
@@ -43,11 +43,11 @@ place-requires c =
 
 pub slice_bounds-place-end-2 : goal.slice_bounds-place-end-2
 slice_bounds-place-end-2 c =
-        sym (ap length c.equality-column.ensures ∙ length_equality c.args.n)
+    sym (ap length c.equality-column.ensures ∙ length_equality c.args.n)
 
 pub place-p-requires : goal.place-p-requires
 place-p-requires c =
-        let p = (goal.at.place-p-requires c).After-place in
+    let p = (goal.at.place-p-requires c).After-place in
     let n = p.args.n in (
       held_on n p.place.new.store p.place.new.counts 1 (take n c.equality-column.result) (equality n) c.equality-column.ensures (length_equality n) (begun-one p).held,
       sym (ap classes c.equality-column.ensures ∙ classes_equality n),
@@ -55,7 +55,7 @@ place-p-requires c =
 
 pub returns : goal.returns
 returns c =
-            let p = (goal.at.returns c).After-place in
+    let p = (goal.at.returns c).After-place in
     let n = p.args.n in
     let r = placed_on n p.place.new.store 1 (take n c.equality-column.result) (equality n) c.place-p.result c.place-p.new.store c.place-p.new.counts c.equality-column.ensures (length_equality n) c.place-p.ensures in
     subst (λ (k : ℕ). Begun n (universal n ∷ equality n ∷ []) c.place-p.new.store c.place-p.new.counts k) (sym c.grown.ensures)

@@ -26,7 +26,7 @@ there c =
     old_place (length a.column.now) a.store.now a.counts.now a.size s.requires.0 a.column.now s.requires.2 refl t.if-size-lt-MEMBERS.false q.find-p.result q.find-p.ensures c.if-p-eq-MEMBERS.false
 
 pub place-p-requires : goal.place-p-requires
-place-p-requires c =     (held_room (length c.args.column.now) c.args.store.now c.args.counts.now c.args.size c.requires.0 c.if-size-lt-MEMBERS.true, c.requires.1)
+place-p-requires c = (held_room (length c.args.column.now) c.args.store.now c.args.counts.now c.args.size c.requires.0 c.if-size-lt-MEMBERS.true, c.requires.1)
 
 pub overflow_add-joins : goal.overflow_add-joins
 overflow_add-joins c = omega (arith, small (goal.at.overflow_add-joins c).After-place-p)
@@ -35,20 +35,20 @@ pub overflow_cast-joins : goal.overflow_cast-joins
 overflow_cast-joins c = omega (arith, small (goal.at.overflow_cast-joins c).After-place-p)
 
 pub returns-then-size-lt-MEMBERS : goal.returns-then-size-lt-MEMBERS
-returns-then-size-lt-MEMBERS c =             let a = c.args in
+returns-then-size-lt-MEMBERS c = let a = c.args in
     let F = a.column.now in
-    let e = c.grown.ensures in  record {
+    let e = c.grown.ensures in record {
       grown = room_grown (length F) a.store.now a.counts.now a.size c.requires.0 F c.requires.2 c.if-size-lt-MEMBERS.true c.place-p.result c.place-p.new.store c.place-p.new.counts c.place-p.ensures c.grown.result e;
       entered = room_entered (length F) a.store.now a.counts.now a.size c.requires.0 F c.requires.2 c.if-size-lt-MEMBERS.true c.place-p.result c.place-p.new.store c.place-p.new.counts c.place-p.ensures c.grown.result e a.joins.now _ a.at refl;
       places = room_adds (length F) a.store.now a.counts.now a.size c.requires.0 F c.requires.2 c.if-size-lt-MEMBERS.true c.place-p.result c.place-p.new.store c.place-p.new.counts c.place-p.ensures c.grown.result e;
     }
 
 pub find-p-requires : goal.find-p-requires
-find-p-requires c =     (held_full (length c.args.column.now) c.args.store.now c.args.counts.now c.args.size c.requires.0 c.if-size-lt-MEMBERS.false, c.requires.1)
+find-p-requires c = (held_full (length c.args.column.now) c.args.store.now c.args.counts.now c.args.size c.requires.0 c.if-size-lt-MEMBERS.false, c.requires.1)
 
 pub returns-then-p-eq-MEMBERS : goal.returns-then-p-eq-MEMBERS
-returns-then-p-eq-MEMBERS c =             let a = c.args in
-    let F = a.column.now in  record {
+returns-then-p-eq-MEMBERS c = let a = c.args in
+    let F = a.column.now in record {
       grown = full_grown (length F) a.store.now a.counts.now a.size c.requires.0 F c.requires.2 refl c.if-size-lt-MEMBERS.false c.find-p.result c.find-p.ensures c.if-p-eq-MEMBERS.true;
       entered = nowhere refl;
       places = full_adds (length F) a.store.now a.counts.now a.size c.requires.0 F c.requires.2 refl c.if-size-lt-MEMBERS.false c.find-p.result c.find-p.ensures c.if-p-eq-MEMBERS.true;
@@ -61,8 +61,8 @@ pub overflow_cast-joins-2 : goal.overflow_cast-joins-2
 overflow_cast-joins-2 c = omega (arith, there c)
 
 pub returns : goal.returns
-returns c =             let a = c.args in
-    let F = a.column.now in  record {
+returns c = let a = c.args in
+    let F = a.column.now in record {
       grown = old_grown (length F) a.store.now a.counts.now a.size c.requires.0 F c.requires.2 refl c.if-size-lt-MEMBERS.false c.find-p.result c.find-p.ensures c.if-p-eq-MEMBERS.false;
       entered = old_entered (length F) a.store.now a.counts.now a.size c.requires.0 F c.requires.2 refl c.if-size-lt-MEMBERS.false c.find-p.result c.find-p.ensures c.if-p-eq-MEMBERS.false a.joins.now _ a.at refl;
       places = old_adds (length F) a.store.now a.counts.now a.size c.requires.0 F c.requires.2 refl c.if-size-lt-MEMBERS.false c.find-p.result c.find-p.ensures c.if-p-eq-MEMBERS.false;

@@ -35,9 +35,9 @@ add-requires c = let s = (goal.at.add-requires c).Start in
 
 pub returns : goal.returns
 returns c =
-        let s = (goal.at.returns c).Start in
+    let s = (goal.at.returns c).Start in
     let a = s.args in
-    let e = c.add.ensures in  record {
+    let e = c.add.ensures in record {
       grown = grown_on a.n a.store.now a.size (lent s) (column s) c.add.new.store c.add.new.counts c.add.result (is s) (length-is s) e.grown;
       entered = entered_on a.n a.store.now a.size (lent s) (column s) c.add.new.store c.add.new.counts c.add.result (is s) (length-is s) a.joins.now a.at c.add.new.joins e.entered;
       places = adds_on a.n a.store.now a.size (lent s) (column s) c.add.new.store c.add.new.counts c.add.result (is s) (length-is s) a.counts.now e.places;

@@ -31,7 +31,7 @@ apart c = c.cross_all-all.ensures.apart c.if-all-eq0.false
 pub cross_all-all-requires : goal.cross_all-all-requires
 cross_all-all-requires c = let k = (goal.at.cross_all-all-requires c).After-class_counts-firsts in
     let h = (goal.at.cross_all-all-requires c).After-class_counts-plots in
-        let a = c.args in (
+    let a = c.args in (
       record { limit = omega arith; held = held_none a.n a.store.now a.counts.now c.requires.0 c.requires.1 c.requires.4 c.requires.5 },
       joins_none a.n a.plot.now a.first.now a.store.now 0,
       c.requires.2.few,
@@ -42,11 +42,11 @@ cross_all-all-requires c = let k = (goal.at.cross_all-all-requires c).After-clas
 
 pub returns-then-all-eq0 : goal.returns-then-all-eq0
 unfolding cross_second
-returns-then-all-eq0 c =     let s = (goal.at.returns-then-all-eq0 c).Start in
+returns-then-all-eq0 c = let s = (goal.at.returns-then-all-eq0 c).Start in
     let a = s.args in
     let e = c.cross_all-all.ensures in
     let z = c.if-all-eq0.true in
-     record {
+    record {
       first = sym (cross_none (test s) a.plot_size a.first_size (e.all z));
       second = refl;
       places = λ _. e.places z;
@@ -54,20 +54,20 @@ returns-then-all-eq0 c =     let s = (goal.at.returns-then-all-eq0 c).Start in
 
 pub first_crossed-places-requires : goal.first_crossed-places-requires
 first_crossed-places-requires c = let e = (goal.at.first_crossed-places-requires c).Else-all-eq0 in
-        let k = (goal.at.first_crossed-places-requires c).After-class_counts-firsts in
+    let k = (goal.at.first_crossed-places-requires c).After-class_counts-firsts in
     let h = (goal.at.first_crossed-places-requires c).After-class_counts-plots in
-        let a = c.args in
+    let a = c.args in
     let r = c.cross_all-all.result in
     (c.requires.0, c.requires.1, c.requires.2.few, plot_members_holds h, c.requires.3.few, treatment_members k, joins_tested a.n a.plot.now a.first.now c.cross_all-all.new.store (held_of r.size) _ c.cross_all-all.ensures.kept.1 (r.apart - 1) (apart e).1.1)
 
 pub returns : goal.returns
 returns c = let e = (goal.at.returns c).Else-all-eq0 in
-        let s = (goal.at.returns c).Start in
+    let s = (goal.at.returns c).Start in
     let a = s.args in
     let at = c.cross_all-all.result.apart - 1 in
     let f = apart e in
     let p = c.first_crossed-places.ensures in
-     record {
+    record {
       first = p.first;
       second = p.second;
       places = λ z. clash (cross_all (test s) a.plot_size a.first_size (sym p.first ∙ z) (at / 32) (at % 32) f.0 f.1.0) f.1.1;

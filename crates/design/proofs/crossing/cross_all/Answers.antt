@@ -22,11 +22,11 @@ treatments c = let s = c.args in members_of s.n s.first.now s.first_size
 
 pub order_words-finer_plots-requires : goal.order_words-finer_plots-requires
 order_words-finer_plots-requires c =
-        (c.requires.0.held.some, c.requires.0.held.most, c.requires.2, c.requires.3)
+    (c.requires.0.held.some, c.requires.0.held.most, c.requires.2, c.requires.3)
 
 pub order_words-finer_firsts-requires : goal.order_words-finer_firsts-requires
 order_words-finer_firsts-requires c =
-        (c.requires.0.held.some, c.requires.0.held.most, c.requires.4, c.requires.5)
+    (c.requires.0.held.some, c.requires.0.held.most, c.requires.4, c.requires.5)
 
 pub loop-i-init : goal.loop-i-init
 loop-i-init c =
@@ -42,17 +42,17 @@ loop-i-init c =
 
 pub cross_row-row-requires : goal.cross_row-row-requires
 cross_row-row-requires c =
-            let i = c.loop-i.i - 1 in
+    let i = c.loop-i.i - 1 in
     (c.loop-i.invariant.1, c.loop-i.invariant.2, c.requires.3 i (omega arith), c.order_words-finer_plots.ensures i, c.requires.4, c.requires.5, c.order_words-finer_firsts.ensures)
 
 pub shape_of-store-then-row-ne0 : goal.shape_of-store-then-row-ne0
 shape_of-store-then-row-ne0 c =
-            c.cross_row-row.ensures.kept.0.held.room ∙ sym c.requires.0.held.room
+    c.cross_row-row.ensures.kept.0.held.room ∙ sym c.requires.0.held.room
 
 pub returns-then-row-ne0 : goal.returns-then-row-ne0
 returns-then-row-ne0 c =
-                let kept = c.cross_row-row.ensures.kept in
-    let w = c.cross_row-row.ensures.apart c.if-row-ne0.true in  record {
+    let kept = c.cross_row-row.ensures.kept in
+    let w = c.cross_row-row.ensures.apart c.if-row-ne0.true in record {
       all = λ z. absurd (c.if-row-ne0.true z);
       apart = λ _. (omega (arith, w.0, c.loop-i-test.true, c.loop-i.invariant.0), w.1);
       kept = (kept.0.held.room, kept.1);
@@ -61,7 +61,7 @@ returns-then-row-ne0 c =
 
 pub loop-i-preserved : goal.loop-i-preserved
 loop-i-preserved c =
-                let start = (goal.at.loop-i-preserved c).Start in
+    let start = (goal.at.loop-i-preserved c).Start in
     let s = start.args in
     let i = c.loop-i.i - 1 in
     let F = column_at s.n s.plot.now i in
@@ -84,10 +84,10 @@ shape_of-store c = c.loop-i.invariant.1.held.room ∙ sym c.requires.0.held.room
 
 pub returns : goal.returns
 returns c =
-        let start = (goal.at.returns c).Start in
+    let start = (goal.at.returns c).Start in
     let s = start.args in
     let P = members_of s.n s.plot.now s.plot_size in
-    let e : c.loop-i.i ≡ 0 = omega arith in  record {
+    let e : c.loop-i.i ≡ 0 = omega arith in record {
       all = λ _ a k l m. c.loop-i.invariant.3 a k (omega arith) l m;
       apart = λ z. absurd (z refl);
       kept = (c.loop-i.invariant.1.held.room, c.loop-i.invariant.2);

@@ -1,7 +1,7 @@
 -- `cross_all` meets its contract: the plot members from `i` on are orthogonal to all treatment members, and their suprema are placed.
 use mathlib.Core.Path.{◌≡◌}
 use mathlib.Core.Bool.{true}
-use Prim.Native.Nat.{ℕ, ◌-◌, ◌≤◌, ◌<◌}
+use Prim.Native.Nat.{ℕ, ◌≤◌, ◌<◌}
 use lib.ListN.{drop}
 use Rattle.rules.specs.Family.{members_of}
 use Rattle.rules.specs.Closing.{only_supremum, products}

@@ -22,7 +22,7 @@ place c = c.requires.2.place
 
 pub loop-j-init : goal.loop-j-init
 loop-j-init c =
-        let s = c.args in (
+    let s = c.args in (
       omega arith,
       c.requires.0,
       c.requires.1,
@@ -32,7 +32,7 @@ loop-j-init c =
 
 pub cross_pair-pair-requires : goal.cross_pair-pair-requires
 cross_pair-pair-requires c =
-            let j = c.loop-j.j - 1 in
+    let j = c.loop-j.j - 1 in
     (c.loop-j.invariant.1, c.loop-j.invariant.2, c.requires.2, c.requires.3, c.requires.5 j (omega arith), c.requires.6 j)
 
 pub overflow_mul-apart : goal.overflow_mul-apart
@@ -46,16 +46,16 @@ overflow_add-apart-then-not-pair c = omega (arith, place (goal.at.overflow_add-a
 
 pub shape_of-store-then-not-pair : goal.shape_of-store-then-not-pair
 shape_of-store-then-not-pair c =
-            c.cross_pair-pair.ensures.kept.0.held.room ∙ sym c.requires.0.held.room
+    c.cross_pair-pair.ensures.kept.0.held.room ∙ sym c.requires.0.held.room
 
 pub returns-then-not-pair : goal.returns-then-not-pair
 returns-then-not-pair c =
-                let s = c.args in
+    let s = c.args in
     let j = c.loop-j.j - 1 in
     let less : j < s.first_size = omega (arith, c.loop-j-test.true, c.loop-j.invariant.0) in
     let small : j < 32 = omega (arith, c.requires.4) in
     let p : (32 * s.f.place + j + 1 - 1) / 32 ≡ s.f.place = omega arith in
-    let e : (32 * s.f.place + j + 1 - 1) % 32 ≡ j = omega arith in  record {
+    let e : (32 * s.f.place + j + 1 - 1) % 32 ≡ j = omega arith in record {
       all = λ z. absurd (omega arith);
       apart = λ _. (p, (rw e less, rw (p, e) (sym c.cross_pair-pair.ensures.test ∙ not-true _ c.if-not-pair.true)));
       kept = c.cross_pair-pair.ensures.kept;
@@ -64,7 +64,7 @@ returns-then-not-pair c =
 
 pub loop-j-preserved : goal.loop-j-preserved
 loop-j-preserved c =
-                let s = c.args in
+    let s = c.args in
     let F = column_at s.n s.plot.now s.f.place in
     let T = members_of s.n s.first.now s.first_size in
     let j = c.loop-j.j - 1 in
@@ -88,10 +88,10 @@ shape_of-store c = c.loop-j.invariant.1.held.room ∙ sym c.requires.0.held.room
 
 pub returns : goal.returns
 returns c =
-            let s = c.args in
+    let s = c.args in
     let F = column_at s.n s.plot.now s.f.place in
     let T = members_of s.n s.first.now s.first_size in
-    let e : c.loop-j.j ≡ 0 = omega arith in  record {
+    let e : c.loop-j.j ≡ 0 = omega arith in record {
       all = λ _ k h. c.loop-j.invariant.3 k (omega arith) h;
       apart = λ z. absurd (z refl);
       kept = (c.loop-j.invariant.1, c.loop-j.invariant.2);

@@ -68,7 +68,7 @@ tested c =
 
 pub returns-then-not-crossing : goal.returns-then-not-crossing
 returns-then-not-crossing c = let w = (goal.at.returns-then-not-crossing c).After-crossing_of-crossing in
-         record {
+    record {
       test = sym (not-true _ c.if-not-crossing.true) ∙ tested w;
       kept = (c.requires.0, c.requires.1);
       places = λ e. clash e refl;
@@ -84,23 +84,22 @@ pub overflow_cast-k : goal.overflow_cast-k
 overflow_cast-k c = omega (arith, (counted (goal.at.overflow_cast-k c).After-crossing_of-crossing).1)
 
 pub add-held-requires : goal.add-held-requires
-add-held-requires c = let w = (goal.at.add-held-requires c).After-crossing_of-crossing in
-    (
-      growing_on c.args.n c.args.store.now c.args.counts.now c.args.size (take c.args.n (array w)) (supremum (F w) (G w)) (taken w) (length-is w) c.requires.0,
-      (counted w).0 ∙ ap classes (sym (taken w)),
-      ap number (taken w) ∙ number_made c.args.n c.args.i c.args.j c.args.plot.now c.args.first.now c.requires.0.held.most (in_plot w) (in_first w) ∙ sym (taken w),
-      omega arith,
-    )
+add-held-requires c = let w = (goal.at.add-held-requires c).After-crossing_of-crossing in (
+  growing_on c.args.n c.args.store.now c.args.counts.now c.args.size (take c.args.n (array w)) (supremum (F w) (G w)) (taken w) (length-is w) c.requires.0,
+  (counted w).0 ∙ ap classes (sym (taken w)),
+  ap number (taken w) ∙ number_made c.args.n c.args.i c.args.j c.args.plot.now c.args.first.now c.requires.0.held.most (in_plot w) (in_first w) ∙ sym (taken w),
+  omega arith,
+)
 
 pub returns : goal.returns
-returns c =         let w = (goal.at.returns c).After-crossing_of-crossing in
-        let a = c.args in
+returns c = let w = (goal.at.returns c).After-crossing_of-crossing in
+    let a = c.args in
     let X = take a.n (array w) in
     let H = supremum (F w) (G w) in
     let e = c.add-held.ensures in
     let o = sym (not-false _ c.if-not-crossing.false) ∙ tested w in
     let g = grown_on a.n a.store.now a.size X H c.add-held.new.store c.add-held.new.counts c.add-held.result (taken w) (length-is w) e.grown in
-    let k = entered_on a.n a.store.now a.size X H c.add-held.new.store c.add-held.new.counts c.add-held.result (taken w) (length-is w) a.joins.now (32 * a.i + a.j) c.add-held.new.joins e.entered in  record {
+    let k = entered_on a.n a.store.now a.size X H c.add-held.new.store c.add-held.new.counts c.add-held.result (taken w) (length-is w) a.joins.now (32 * a.i + a.j) c.add-held.new.joins e.entered in record {
       test = o;
       kept = (g.growing, joins_entered a.i a.j c.requires.4 c.requires.5 g k (sym o) c.requires.1);
       places = λ _. adds_on a.n a.store.now a.size X H c.add-held.new.store c.add-held.new.counts c.add-held.result (taken w) (length-is w) a.counts.now e.places;

@@ -1,7 +1,7 @@
 use mathlib.Core.Path.{◌≡◌, refl, sym, ◌∙◌, subst}
 use mathlib.Core.Logic.{◌⊎◌, inl, inr, ⊎_elim}
 use mathlib.Core.Bool.{true}
-use Prim.Native.Nat.{ℕ, ◌+◌, ◌*◌, ◌/◌, ◌%◌, ◌^◌, ◌-◌, ◌≤◌, ◌<◌}
+use Prim.Native.Nat.{ℕ, ◌+◌, ◌*◌, ◌/◌, ◌%◌, ◌^◌, ◌≤◌, ◌<◌}
 use native.Mathlib.Omega.{arith}
 use lib.Bits.{bit_and, and_mask}
 use lib.ListN.{get_or}
@@ -58,11 +58,12 @@ loop-k-preserved c =
     let a = b.args in
     let k = b.loop-k.k in
     elim c.if-left-eq1.branch [
-      then-left-eq1 w ↦ subst (Good b) (sym w.best-is) (⊎_elim
-        (λ h. subst (Good b) (sym h) b.loop-k.invariant)
-        (λ h. inr record { place = k; marked = bit a.word k w.if-left-eq1.true; cell = sym h })
-        w.fewer-best.ensures)
-    | else-left-eq1 w ↦ subst (Good b) (sym w.best-is) b.loop-k.invariant ]
+      | then-left-eq1 w ↦ subst (Good b) (sym w.best-is) (⊎_elim
+          (λ h. subst (Good b) (sym h) b.loop-k.invariant)
+          (λ h. inr record { place = k; marked = bit a.word k w.if-left-eq1.true; cell = sym h })
+          w.fewer-best.ensures)
+      | else-left-eq1 w ↦ subst (Good b) (sym w.best-is) b.loop-k.invariant
+    ]
 
 pub returns : goal.returns
 returns c = c.loop-k.invariant

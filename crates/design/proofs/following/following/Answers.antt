@@ -56,11 +56,11 @@ module _ (c : After-coarsest-q) where
         o
 
 pub coarsest-p-requires : goal.coarsest-p-requires
-coarsest-p-requires c =     let a = c.args in
+coarsest-p-requires c = let a = c.args in
     (omega (arith, c.requires.4.place), omega arith, plot_cells a.n a.plot.now a.first.now a.store.now a.counts.now a.size a.joins.now c.requires.0.held.most c.requires.2.room c.requires.4.room c.requires.0 c.requires.1 a.f.place a.g.place a.f.finer c.requires.2.place c.requires.4.place c.requires.3)
 
 pub coarsest-q-requires : goal.coarsest-q-requires
-coarsest-q-requires c =     let a = c.args in
+coarsest-q-requires c = let a = c.args in
     (omega (arith, c.requires.2.place), omega arith, first_cells a.n a.plot.now a.first.now a.store.now a.counts.now a.size a.joins.now c.requires.0.held.most c.requires.2.room c.requires.4.room c.requires.0 c.requires.1 a.f.place a.g.place a.g.finer c.requires.2.place c.requires.4.place c.requires.5)
 
 pub returns-then-p-q : goal.returns-then-p-q
@@ -71,20 +71,20 @@ fewer-r-requires c = (most_plots_lem (goal.at.fewer-r-requires c).After-coarsest
 
 pub under-requires : goal.under-requires
 under-requires c = let w = (goal.at.under-requires c).After-coarsest-q in
-        (c.requires.0.held.some, c.requires.0.held.most, c.requires.2, c.requires.0.held.room, λ q e. either w c.fewer-r.result q c.fewer-r.ensures e)
+    (c.requires.0.held.some, c.requires.0.held.most, c.requires.2, c.requires.0.held.room, λ q e. either w c.fewer-r.result q c.fewer-r.ensures e)
 
 pub returns-then-under : goal.returns-then-under
-returns-then-under c =     λ q e. by_plots_lem (goal.at.returns-then-under c).After-coarsest-q _ q c.if-r-p.true e (c.under.ensures c.if-under.true q e)
+returns-then-under c = λ q e. by_plots_lem (goal.at.returns-then-under c).After-coarsest-q _ q c.if-r-p.true e (c.under.ensures c.if-under.true q e)
 
 pub returns-then-r-p : goal.returns-then-r-p
 returns-then-r-p c = λ q e. absurd (omega arith)
 
 pub under-requires-2 : goal.under-requires-2
 under-requires-2 c = let w = (goal.at.under-requires-2 c).After-coarsest-q in
-        (c.requires.0.held.some, c.requires.0.held.most, c.requires.4, c.requires.0.held.room, λ q e. either w c.fewer-r.result q c.fewer-r.ensures e)
+    (c.requires.0.held.some, c.requires.0.held.most, c.requires.4, c.requires.0.held.room, λ q e. either w c.fewer-r.result q c.fewer-r.ensures e)
 
 pub returns-then-under-2 : goal.returns-then-under-2
-returns-then-under-2 c =     let k : c.fewer-r.result ≡ c.coarsest-q.result = ⊎_elim (λ h. absurd (c.if-r-p.false h)) (λ h. h) c.fewer-r.ensures in
+returns-then-under-2 c = let k : c.fewer-r.result ≡ c.coarsest-q.result = ⊎_elim (λ h. absurd (c.if-r-p.false h)) (λ h. h) c.fewer-r.ensures in
     λ q e. by_firsts (goal.at.returns-then-under-2 c).After-coarsest-q _ q k e (c.under-2.ensures c.if-under-2.true q e)
 
 pub returns : goal.returns

@@ -24,7 +24,7 @@ found_finer-requires c =
 
 pub returns : goal.returns
 returns c =
-        let n = c.args.n in
+    let n = c.args.n in
     let store = c.args.store.now in
     let F = column_at n c.args.family.now c.args.i in
     λ e q h.

@@ -1,7 +1,7 @@
 use mathlib.Core.Path.{◌≡◌, refl, ap, ◌∙◌}
 use mathlib.Core.Bool.{Bool, true, false}
 use mathlib.Core.List.{List}
-use Prim.Native.Nat.{ℕ, ◌+◌, ◌-◌, ◌<◌}
+use Prim.Native.Nat.{ℕ, ◌+◌, ◌<◌}
 use native.Mathlib.Nat.{not-suc-le-zero}
 use native.Mathlib.Omega.{arith}
 use borrow.Author.Tests.{eqb-true, eqb-false}
@@ -41,7 +41,7 @@ loop-i-init c = (omega arith, length-replicate {A = ℕ} 32 0, λ p h. absurd (n
 
 pub loop-i-preserved : goal.loop-i-preserved
 loop-i-preserved c =
-        let s = c.args in
+    let s = c.args in
     let i = c.loop-i.i in (
       omega arith,
       length-set c.loop-i.counts i c.largest.result ∙ c.loop-i.invariant.1,
@@ -50,6 +50,6 @@ loop-i-preserved c =
 
 pub returns : goal.returns
 returns c =
-        let s = c.args in
+    let s = c.args in
     let e : c.loop-i.i ≡ s.size = omega arith in
     λ p h. c.loop-i.invariant.2 p (omega arith)

@@ -1,6 +1,6 @@
 -- `finer_words` meets its contract: the words so far are those of finer members.
 use mathlib.Core.Path.{◌≡◌}
-use Prim.Native.Nat.{ℕ, ◌-◌, ◌≤◌}
+use Prim.Native.Nat.{ℕ, ◌≤◌}
 use lib.ListN.{length, get_or}
 use Rattle.design.specs.Crossing.{FinerBits}
 use Rattle.design.proofs.nesting.finer_words.Given as goal

@@ -7,5 +7,5 @@ use Rattle.design.proofs.nesting.walk_finer.Goals as goal
 
 pub returns : goal.returns
 returns c =
-        let s = c.args in
+    let s = c.args in
     c.finer.ensures ∙ test_parts finer s.n s.a.now s.b.now s.i s.j (omega arith) (omega arith) (omega arith) _ _ c.member.ensures c.member-2.ensures

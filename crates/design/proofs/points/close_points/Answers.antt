@@ -83,7 +83,7 @@ returns-then-size-eq-TOO_MANY c = let q = (goal.at.returns-then-size-eq-TOO_MANY
 pub spread_all-requires : goal.spread_all-requires
 spread_all-requires c =
     let q = (goal.at.spread_all-requires c).After-close-size in
-        let w = work q c.if-size-eq-TOO_MANY.false in
+    let w = work q c.if-size-eq-TOO_MANY.false in
     (c.requires.0.held.most, w.held.room, c.requires.0.held.room, w.held.few, ranged c.requires.2 c.requires.0.held.most)
 
 pub slice_bounds-column-end : goal.slice_bounds-column-end
@@ -100,8 +100,8 @@ overflow_cast-n c = omega (arith, c.requires.0.held.most)
 
 pub place-p-requires : goal.place-p-requires
 place-p-requires c =
-        let t = (goal.at.place-p-requires c).After-spread_all in
-        let n = c.args.n in (
+    let t = (goal.at.place-p-requires c).After-spread_all in
+    let n = c.args.n in (
       held_on n (spread t) c.close-size.new.counts c.close-size.result (take n c.equality-column.result) (equality n) c.equality-column.ensures (length_equality n) (held t),
       sym (ap classes c.equality-column.ensures ∙ classes_equality n),
     )

@@ -1,5 +1,5 @@
 use mathlib.Core.Path.{◌≡◌, refl, sym, ap, ◌∙◌}
-use Prim.Native.Nat.{ℕ, ◌-◌, ◌≤◌, ◌<◌}
+use Prim.Native.Nat.{ℕ, ◌≤◌, ◌<◌}
 use native.Mathlib.Omega.{arith}
 use lib.ListN.{length, take}
 use lib.Seq.{take_all, length-take-le}
@@ -30,21 +30,21 @@ module _ (c : Start) (r : Column) (h : length r ≡ 240) where
 
 pub loop-i-init : goal.loop-i-init
 loop-i-init c =
-        (omega arith, omega arith, gathered_none c.requires.1 c.requires.0.some c.requires.0.most c.args.own.now c.args.own_counts.now c.requires.5 c.requires.6)
+    (omega arith, omega arith, gathered_none c.requires.1 c.requires.0.some c.requires.0.most c.args.own.now c.args.own_counts.now c.requires.5 c.requires.6)
 
 pub bounds-counts-i : goal.bounds-counts-i
 bounds-counts-i c = omega (arith, c.requires.0.few)
 
 pub overflow_cast-counts : goal.overflow_cast-counts
 overflow_cast-counts c =
-            let h = c.requires.0 in
+    let h = c.requires.0 in
     let i = c.loop-i.i in
     let l : i < c.args.size = omega arith in
     omega (arith, h.counted i l, classes_most (column_at c.args.n c.args.store.now i), held_length h i l, h.most)
 
 pub gathered-column-requires : goal.gathered-column-requires
 gathered-column-requires c =
-            let h = c.requires.0 in
+    let h = c.requires.0 in
     let l : c.loop-i.i < c.args.size = omega arith in
     (h.most, h.room, omega (arith, h.few), ranged c.requires.1 h.most, c.requires.4 c.loop-i.i l c.if-counts-i.true)
 
@@ -74,31 +74,33 @@ grown-some-requires c = c.loop-i.invariant.2.held.few
 
 pub loop-i-preserved : goal.loop-i-preserved
 loop-i-preserved c =
-            let h = c.requires.0 in
+    let h = c.requires.0 in
     let i = c.loop-i.i in
     let l : i < c.args.size = omega arith in
     let less : c.loop-i.some < 32 = omega (arith, h.few) in
-    elim c.if-counts-i.branch [ then-counts-i v ↦
-    let s = (goal.at.loop-i-preserved c).Start in
-    let m = c.args.m in
-    let r = v.gathered-column.result in
-    let F = take m r in
-    let G = column_at c.args.n c.args.store.now i in
-    let k : length F ≡ m = length_of s r v.gathered-column.ensures.0 in
-    let f : points_on_plots (take c.args.n c.args.points.now) F ≡ G = is_member s r v.gathered-column.ensures.0 i v.gathered-column.ensures.1 in
-    let p = placed_on m c.loop-i.own c.loop-i.some F F v.place-p.result v.place-p.new.store v.place-p.new.counts refl k v.place-p.ensures in
-    let g = gathered_more c.requires.1 c.loop-i.invariant.2 less F G k f (c.requires.3 G (column_in_lem h i l)) v.place-p.result v.place-p.new.store v.place-p.new.counts p in
-    let most = (after_placed m c.loop-i.own c.loop-i.own_counts c.loop-i.some c.loop-i.invariant.2.held less F v.place-p.result v.place-p.new.store v.place-p.new.counts p).most in
-    (omega arith, rw (v.some-is ∙ v.grown-some.ensures) (omega (arith, most)), rw (members_more h i l, v.own-is, v.own_counts-is, v.some-is ∙ v.grown-some.ensures) g)
-    | else-counts-i v ↦     let F = column_at c.args.n c.args.store.now i in
-    let e : F ≡ equality c.args.n = (each_class_is c.args.n F (held_length h i l) (c.requires.3 F (column_in_lem h i l))).0 (sym (h.counted i l) ∙ v.if-counts-i.false) in
-    (omega arith, rw v.some-is (omega arith), rw (members_more h i l, v.own-is, v.own_counts-is, v.some-is) (gathered_same c.loop-i.invariant.2 F e)) ]
+    elim c.if-counts-i.branch [
+      | then-counts-i v ↦
+          let s = (goal.at.loop-i-preserved c).Start in
+          let m = c.args.m in
+          let r = v.gathered-column.result in
+          let F = take m r in
+          let G = column_at c.args.n c.args.store.now i in
+          let k : length F ≡ m = length_of s r v.gathered-column.ensures.0 in
+          let f : points_on_plots (take c.args.n c.args.points.now) F ≡ G = is_member s r v.gathered-column.ensures.0 i v.gathered-column.ensures.1 in
+          let p = placed_on m c.loop-i.own c.loop-i.some F F v.place-p.result v.place-p.new.store v.place-p.new.counts refl k v.place-p.ensures in
+          let g = gathered_more c.requires.1 c.loop-i.invariant.2 less F G k f (c.requires.3 G (column_in_lem h i l)) v.place-p.result v.place-p.new.store v.place-p.new.counts p in
+          let most = (after_placed m c.loop-i.own c.loop-i.own_counts c.loop-i.some c.loop-i.invariant.2.held less F v.place-p.result v.place-p.new.store v.place-p.new.counts p).most in
+          (omega arith, rw (v.some-is ∙ v.grown-some.ensures) (omega (arith, most)), rw (members_more h i l, v.own-is, v.own_counts-is, v.some-is ∙ v.grown-some.ensures) g)
+      | else-counts-i v ↦ let F = column_at c.args.n c.args.store.now i in
+          let e : F ≡ equality c.args.n = (each_class_is c.args.n F (held_length h i l) (c.requires.3 F (column_in_lem h i l))).0 (sym (h.counted i l) ∙ v.if-counts-i.false) in
+          (omega arith, rw v.some-is (omega arith), rw (members_more h i l, v.own-is, v.own_counts-is, v.some-is) (gathered_same c.loop-i.invariant.2 F e))
+    ]
 
 pub shape_of-own : goal.shape_of-own
 shape_of-own c = c.loop-i.invariant.2.held.room ∙ sym c.requires.5
 
 pub returns : goal.returns
 returns c =
-            let S = members_of c.args.n c.args.store.now c.args.size in
+    let S = members_of c.args.n c.args.store.now c.args.size in
     let e : take c.loop-i.i S ≡ S = take_all c.loop-i.i S (omega (arith, size_members c.requires.0)) in
     rw e at c.loop-i.invariant.2

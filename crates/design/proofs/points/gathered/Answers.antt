@@ -1,5 +1,5 @@
 use mathlib.Core.Path.{◌≡◌, refl, sym, ◌∙◌}
-use Prim.Native.Nat.{◌+◌, ◌-◌, ◌*◌}
+use Prim.Native.Nat.{◌+◌, ◌*◌}
 use native.Mathlib.Nat.{not-suc-le-zero}
 use native.Mathlib.Omega.{arith}
 use lib.ListN.{get_or, drop, length-set}
@@ -16,19 +16,19 @@ loop-u-init c = (omega arith, refl, λ v h. absurd (not-suc-le-zero h))
 
 pub overflow_cast-x : goal.overflow_cast-x
 overflow_cast-x c =
-            omega (arith, in_range c.args.n c.args.points.now c.requires.3 c.loop-u.u (omega arith))
+    omega (arith, in_range c.args.n c.args.points.now c.requires.3 c.loop-u.u (omega arith))
 
 pub overflow_sub-x : goal.overflow_sub-x
 overflow_sub-x c =
-            omega (arith, in_range c.args.n c.args.points.now c.requires.3 c.loop-u.u (omega arith))
+    omega (arith, in_range c.args.n c.args.points.now c.requires.3 c.loop-u.u (omega arith))
 
 pub bounds-column-x : goal.bounds-column-x
 bounds-column-x c =
-            omega (arith, in_range c.args.n c.args.points.now c.requires.3 c.loop-u.u (omega arith))
+    omega (arith, in_range c.args.n c.args.points.now c.requires.3 c.loop-u.u (omega arith))
 
 pub loop-u-preserved : goal.loop-u-preserved
 loop-u-preserved c =
-            let n = c.args.n in
+    let n = c.args.n in
     let p = c.args.points.now in
     let store = c.args.store.now in
     let u = c.loop-u.u in
@@ -38,5 +38,5 @@ loop-u-preserved c =
 
 pub returns : goal.returns
 returns c =
-            let e : c.loop-u.u ≡ c.args.n = omega arith in
+    let e : c.loop-u.u ≡ c.args.n = omega arith in
     (c.loop-u.invariant.1, gathered_plots c.args.n c.args.points.now (column_at c.args.n c.args.store.now c.args.i) c.loop-u.column c.requires.3 (column_length c.args.n c.args.store.now c.args.i c.requires.0 c.requires.1 c.requires.2) (rw e at c.loop-u.invariant.2))

@@ -16,7 +16,7 @@ use Rattle.design.proofs.points.meet_member.Goals as goal
 
 pub returns : goal.returns
 returns c =
-            let a = c.args in
+    let a = c.args in
     let n = a.n in
     let store = a.store.now in
     let P = column_at n store a.i in
@@ -25,7 +25,7 @@ returns c =
     let l_p = column_length n store a.i c.requires.0 c.requires.1 c.requires.2 in
     let zeros : List ℕ = replicate 240 0 in
     let same : on_common infimum c.member.result.now M ≡ infimum P (take n M) = ap (λ (X : Column). on_common infimum X M) c.member.ensures ∙ common_front n P M c.requires.0 l_p lM in
-    let wide = length_infimum' n P (take n M) l_p (length-take-le n M (omega arith)) in  record {
+    let wide = length_infimum' n P (take n M) l_p (length-take-le n M (omega arith)) in record {
       answer = c.infimum-m.ensures.answer ∙ ap classes same;
       met = ap (take n) c.infimum-m.ensures.numbers ∙ ap (λ (X : Column). take n (overlay zeros X)) same ∙ take_overlay zeros (infimum P (take n M)) n wide;
     }

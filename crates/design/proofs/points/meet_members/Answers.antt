@@ -1,5 +1,5 @@
 use mathlib.Core.Path.{◌≡◌, ap, ◌∙◌}
-use Prim.Native.Nat.{◌-◌, ◌<◌}
+use Prim.Native.Nat.{◌<◌}
 use native.Mathlib.Omega.{arith}
 use lib.ListN.{take}
 use Rattle.rules.proofs.ClassCount.{classes_most}
@@ -12,7 +12,7 @@ use Rattle.design.proofs.points.meet_members.Goals.{else-counts-i, then-counts-i
 
 pub loop-i-init : goal.loop-i-init
 loop-i-init c =
-        let a = c.args in
+    let a = c.args in
     (omega arith, met_none a.n c.requires.0.some (take a.n a.points.now) (column_at a.n a.store.now) (Parts a.n a.counts.now) c.requires.1)
 
 pub bounds-counts-i : goal.bounds-counts-i
@@ -20,7 +20,7 @@ bounds-counts-i c = omega (arith, c.requires.0.few)
 
 pub overflow_cast-counts : goal.overflow_cast-counts
 overflow_cast-counts c =
-            let a = c.args in
+    let a = c.args in
     let h = c.requires.0 in
     let i = c.loop-i.i in
     let F = column_at a.n a.store.now i in
@@ -29,12 +29,12 @@ overflow_cast-counts c =
 
 pub meet_member-m-requires : goal.meet_member-m-requires
 meet_member-m-requires c =
-        let h = c.requires.0 in
+    let h = c.requires.0 in
     (h.most, h.room, omega (arith, h.few))
 
 pub loop-i-preserved : goal.loop-i-preserved
 loop-i-preserved c =
-            let a = c.args in
+    let a = c.args in
     let n = a.n in
     let i = c.loop-i.i in
     let h = c.requires.0 in
@@ -48,8 +48,8 @@ loop-i-preserved c =
 
 pub returns : goal.returns
 returns c =
-        let e : c.loop-i.i ≡ c.args.size = omega arith in
-     record {
+    let e : c.loop-i.i ≡ c.args.size = omega arith in
+    record {
       points = c.loop-i.invariant.1.0;
       coarser = rw e at c.loop-i.invariant.1.1;
     }

@@ -25,23 +25,23 @@ loop-u-init c = (omega arith, refl, refl)
 
 pub overflow_cast-x : goal.overflow_cast-x
 overflow_cast-x c =
-            omega (arith, in_range c.args.n c.args.points.now c.requires.3 c.loop-u.u (omega arith))
+    omega (arith, in_range c.args.n c.args.points.now c.requires.3 c.loop-u.u (omega arith))
 
 pub overflow_sub-x : goal.overflow_sub-x
 overflow_sub-x c =
-            omega (arith, in_range c.args.n c.args.points.now c.requires.3 c.loop-u.u (omega arith))
+    omega (arith, in_range c.args.n c.args.points.now c.requires.3 c.loop-u.u (omega arith))
 
 pub overflow_add-column : goal.overflow_add-column
 overflow_add-column c =
-            omega (arith, in_range c.args.n c.args.points.now c.requires.3 c.loop-u.u (omega arith))
+    omega (arith, in_range c.args.n c.args.points.now c.requires.3 c.loop-u.u (omega arith))
 
 pub bounds-own-at : goal.bounds-own-at
 bounds-own-at c =
-            omega (arith, in_range c.args.n c.args.points.now c.requires.3 c.loop-u.u (omega arith))
+    omega (arith, in_range c.args.n c.args.points.now c.requires.3 c.loop-u.u (omega arith))
 
 pub loop-u-preserved : goal.loop-u-preserved
 loop-u-preserved c =
-            let p = c.args.points.now in
+    let p = c.args.points.now in
     let own = c.args.own.now in
     let u = c.loop-u.u in
     let column = c.loop-u.column in

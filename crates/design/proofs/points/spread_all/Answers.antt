@@ -1,6 +1,6 @@
 use mathlib.Core.Path.{◌≡◌, refl, sym, ap, ap₂, ◌∙◌}
 use mathlib.Core.List.{List}
-use Prim.Native.Nat.{ℕ, ◌+◌, ◌-◌, ◌*◌, ◌≤◌}
+use Prim.Native.Nat.{ℕ, ◌+◌, ◌*◌, ◌≤◌}
 use native.Mathlib.Nat.{not-suc-le-zero}
 use native.Mathlib.Omega.{arith}
 use lib.ListN.{length, take}
@@ -29,7 +29,7 @@ loop-i-init c = (omega arith, c.requires.2, λ k h. absurd (not-suc-le-zero h))
 
 pub spread-column-requires : goal.spread-column-requires
 spread-column-requires c =
-        (c.requires.0, c.requires.1, omega arith, c.requires.4)
+    (c.requires.0, c.requires.1, omega arith, c.requires.4)
 
 pub slice_bounds-put-end : goal.slice_bounds-put-end
 slice_bounds-put-end c = sym (length_made (goal.at.slice_bounds-put-end c).After-spread-column)
@@ -42,8 +42,8 @@ put-requires c =
 
 pub loop-i-preserved : goal.loop-i-preserved
 loop-i-preserved c =
-        let w = (goal.at.loop-i-preserved c).After-spread-column in
-            let n = c.args.n in
+    let w = (goal.at.loop-i-preserved c).After-spread-column in
+    let n = c.args.n in
     let i = c.loop-i.i in
     let F = made w in
     let e : c.put.new.store ≡ paste c.loop-i.store (240 * i) F n = c.put.ensures ∙ ap₂ (λ (X : Column) (k : ℕ). paste c.loop-i.store (240 * i) X k) w.spread-column.ensures (length_made w) in
@@ -60,8 +60,8 @@ shape_of-store c = c.loop-i.invariant.1 ∙ sym c.requires.2
 
 pub returns : goal.returns
 returns c =
-        let e : c.loop-i.i ≡ c.args.size = omega arith in
-     record {
+    let e : c.loop-i.i ≡ c.args.size = omega arith in
+    record {
       room = c.loop-i.invariant.1;
       members = rw e at c.loop-i.invariant.2;
     }

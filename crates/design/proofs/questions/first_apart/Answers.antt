@@ -1,6 +1,6 @@
 use mathlib.Core.Path.{◌≡◌, refl, sym, ◌∙◌}
 use mathlib.Core.Bool.{Bool, true, false}
-use Prim.Native.Nat.{ℕ, ◌+◌, ◌-◌, ◌<◌}
+use Prim.Native.Nat.{ℕ, ◌+◌, ◌<◌}
 use native.Mathlib.Omega.{arith}
 use borrow.Author.Rules.{rules}
 use Rattle.design.specs.Search.{partner, first_place, second_place, first_pair_of}
@@ -23,23 +23,23 @@ loop-j-init c =
 
 pub overflow_cast-order : goal.overflow_cast-order
 overflow_cast-order c =
-            let p = c.pairs in
+    let p = c.pairs in
     omega (arith, c.requires.1 p.i (omega arith))
 
 pub overflow_cast-order-in-loop-j : goal.overflow_cast-order-in-loop-j
 overflow_cast-order-in-loop-j c =
-            omega (arith, c.requires.1 c.loop-j.j (omega arith))
+    omega (arith, c.requires.1 c.loop-j.j (omega arith))
 
 pub marked-requires : goal.marked-requires
 marked-requires c =
-            let p = c.pairs in
+    let p = c.pairs in
     let i : p.i < c.args.size = omega arith in
     let j : c.loop-j.j < c.args.size = omega arith in
     (search rules, c.requires.1 p.i i, c.requires.1 c.loop-j.j j)
 
 pub loop-j-preserved : goal.loop-j-preserved
 loop-j-preserved c =
-        let p = c.pairs in
+    let p = c.pairs in
     let s = c.args in
     let t : ℕ → ℕ → Bool = test s.order.now s.marks.now in
     let e : t p.i c.loop-j.j ≡ true = sym c.marked.ensures ∙ c.if-not-marked.false in
@@ -47,7 +47,7 @@ loop-j-preserved c =
 
 pub pairs-preserved : goal.pairs-preserved
 pairs-preserved c =
-        let p = c.pairs in
+    let p = c.pairs in
     let s = c.args in
     let t : ℕ → ℕ → Bool = test s.order.now s.marks.now in
     let none : partner t s.size p.i ≡ 0 = c.loop-j.invariant.4 ∙ from_end (t p.i) c.loop-j.j s.size (omega arith) in
@@ -65,7 +65,7 @@ returns-after-pairs c =
 pub returns-then-not-marked : goal.returns-then-not-marked
 unfolding first_pair_of
 returns-then-not-marked c =
-        let p = c.pairs in
+    let p = c.pairs in
     let s = c.args in
     let t : ℕ → ℕ → Bool = test s.order.now s.marks.now in
     let e : t p.i c.loop-j.j ≡ false = sym c.marked.ensures ∙ c.if-not-marked.true in

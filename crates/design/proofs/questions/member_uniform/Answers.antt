@@ -41,4 +41,4 @@ returns-then-k-n c =
 pub returns : goal.returns
 returns c =
     let l = (goal.at.returns c).After-largest-k in
-        c.uniform.ensures ∙ ap (λ (X : Column). uniform (length (plots_of X)) (plots_of X)) l.member-column.ensures ∙ uniform_part (n l) (F l) c.requires.1 (long l)
+    c.uniform.ensures ∙ ap (λ (X : Column). uniform (length (plots_of X)) (plots_of X)) l.member-column.ensures ∙ uniform_part (n l) (F l) c.requires.1 (long l)

@@ -8,7 +8,7 @@ use Rattle.design.proofs.replicates.column_classes.Goals as goal
 
 pub overflow_cast-result : goal.overflow_cast-result
 overflow_cast-result c =
-        let zeros : List ℕ = replicate 240 0 in
+    let zeros : List ℕ = replicate 240 0 in
     let m = column_numbered c.args.n c.args.c c.args.levels.now zeros c.column_numbers.new.out c.column_numbers.result
     c.requires.0 (omega (arith, c.requires.0, c.requires.1)) c.column_numbers.ensures.answer c.column_numbers.ensures.numbers in
     omega (arith, m.few)

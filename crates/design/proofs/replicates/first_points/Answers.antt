@@ -108,7 +108,7 @@ returns-then-size-eq-TOO_MANY c = unlisted c.too_many-then-size-eq-TOO_MANY.ensu
 pub spread_all-requires : goal.spread_all-requires
 spread_all-requires c =
     let q = (goal.at.spread_all-requires c).After-close-size in
-        let w = work q c.if-size-eq-TOO_MANY.false in
+    let w = work q c.if-size-eq-TOO_MANY.false in
     (c.requires.1, w.held.room, c.requires.7, w.held.few, ranged c.requires.9 c.requires.1)
 
 pub close_family-requires : goal.close_family-requires

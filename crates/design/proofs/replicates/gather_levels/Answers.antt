@@ -1,6 +1,6 @@
 use mathlib.Core.Path.{◌≡◌, sym, ap, ◌∙◌}
 use mathlib.Core.List.{List}
-use Prim.Native.Nat.{ℕ, ◌+◌, ◌-◌, ◌*◌, ◌≤◌}
+use Prim.Native.Nat.{ℕ, ◌+◌, ◌*◌, ◌≤◌}
 use native.Mathlib.Nat.{not-suc-le-zero}
 use native.Mathlib.Omega.{arith}
 use lib.ListN.{length, take}
@@ -16,14 +16,14 @@ loop-c-init c = (omega arith, c.requires.3, λ k h. absurd (not-suc-le-zero h))
 
 pub gathered_level-column-requires : goal.gathered_level-column-requires
 gathered_level-column-requires c =
-        (c.requires.0, omega arith, omega arith, c.requires.4, c.requires.5 c.loop-c.c (omega arith))
+    (c.requires.0, omega arith, omega arith, c.requires.4, c.requires.5 c.loop-c.c (omega arith))
 
 pub put_level-requires : goal.put_level-requires
 put_level-requires c = (c.gathered_level-column.ensures.0, omega arith, omega arith)
 
 pub loop-c-preserved : goal.loop-c-preserved
 loop-c-preserved c =
-                    let own = c.loop-c.own in
+    let own = c.loop-c.own in
     let i = c.loop-c.c in
     let F = c.gathered_level-column.result in
     let l = c.gathered_level-column.ensures.0 in
@@ -40,8 +40,8 @@ shape_of-own c = c.loop-c.invariant.1 ∙ sym c.requires.3
 
 pub returns : goal.returns
 returns c =
-        let e : c.loop-c.c ≡ c.args.d = omega arith in
-     record {
+    let e : c.loop-c.c ≡ c.args.d = omega arith in
+    record {
       room = c.loop-c.invariant.1;
       columns = rw e at c.loop-c.invariant.2;
     }

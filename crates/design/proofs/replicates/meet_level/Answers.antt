@@ -37,7 +37,7 @@ slice_bounds-infimum-end c = sym (made (goal.at.slice_bounds-infimum-end c).Afte
 pub returns : goal.returns
 returns c =
     let w = (goal.at.returns c).After-column_numbers in
-        let a = c.args in
+    let a = c.args in
     let n = a.n in
     let F = column w in
     let M = a.points.now in
@@ -47,7 +47,7 @@ returns c =
     let zeros : List ℕ = replicate 240 0 in
     let same : on_common infimum (take n w.column_numbers.new.out) M ≡ infimum F (take n M) =
     ap (λ (X : Column). on_common infimum X M) (made w).numbers ∙ common_front n (number F) M c.requires.0 (made w).numbered_plots lM
-    ∙ infimum_number n F (take n M) l_f front in  record {
+    ∙ infimum_number n F (take n M) l_f front in record {
       answer = c.infimum-m.ensures.answer ∙ ap classes same;
       met = ap (take n) c.infimum-m.ensures.numbers ∙ ap (λ (X : Column). take n (overlay zeros X)) same ∙ take_overlay zeros (infimum F (take n M)) n (length_infimum' n F (take n M) l_f front);
     }

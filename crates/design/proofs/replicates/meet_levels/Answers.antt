@@ -1,5 +1,5 @@
 use mathlib.Core.Path.{◌≡◌}
-use Prim.Native.Nat.{◌+◌, ◌-◌}
+use Prim.Native.Nat.{◌+◌}
 use native.Mathlib.Omega.{arith}
 use lib.ListN.{take}
 use Rattle.factor.proofs.Lent.{length_part}
@@ -9,7 +9,7 @@ use Rattle.design.proofs.replicates.meet_levels.Goals as goal
 
 pub loop-c-init : goal.loop-c-init
 loop-c-init c =
-        let a = c.args in
+    let a = c.args in
     (omega arith, met_none a.n c.requires.0 (take a.n a.points.now) (column a.n a.levels.now) Each c.requires.4)
 
 pub meet_level-m-requires : goal.meet_level-m-requires
@@ -17,7 +17,7 @@ meet_level-m-requires c = (omega arith, omega arith)
 
 pub loop-c-preserved : goal.loop-c-preserved
 loop-c-preserved c =
-            let a = c.args in
+    let a = c.args in
     let n = a.n in
     let levels = a.levels.now in
     let i = c.loop-c.c in
@@ -25,8 +25,8 @@ loop-c-preserved c =
 
 pub returns : goal.returns
 returns c =
-            let e : c.loop-c.c ≡ c.args.d = omega arith in
-     record {
+    let e : c.loop-c.c ≡ c.args.d = omega arith in
+    record {
       points = c.loop-c.invariant.1.0;
       coarser = λ k h. c.loop-c.invariant.1.1 k (rw e h) tt;
     }

@@ -1,5 +1,5 @@
 use mathlib.Core.Path.{◌≡◌, refl, ap, ◌∙◌}
-use Prim.Native.Nat.{◌+◌, ◌*◌, ◌-◌, ◌<◌}
+use Prim.Native.Nat.{◌+◌, ◌*◌, ◌<◌}
 use native.Mathlib.Numerals.{add-one}
 use native.Mathlib.Omega.{arith}
 use lib.ListN.{length, length-set}
@@ -11,7 +11,7 @@ loop-u-init c = let a = c.args in (omega arith, refl, paste-zero a.own.now (240 
 
 pub loop-u-preserved : goal.loop-u-preserved
 loop-u-preserved c =
-        let s = c.args in
+    let s = c.args in
     let d = s.own.now in
     let u = c.loop-u.u in
     let h : 240 * s.c + u < length d = omega arith in
@@ -23,6 +23,6 @@ shape_of-own c = c.loop-u.invariant.1
 
 pub returns : goal.returns
 returns c =
-        let e : c.loop-u.u ≡ 240 = omega arith in
+    let e : c.loop-u.u ≡ 240 = omega arith in
     let a = c.args in
     c.loop-u.invariant.2 ∙ ap (paste a.own.now (240 * a.c) a.column.now) e

@@ -1,6 +1,6 @@
 use mathlib.Core.Path.{◌≡◌, refl, sym, ap, ◌∙◌}
 use mathlib.Core.List.{List}
-use Prim.Native.Nat.{ℕ, ◌+◌, ◌*◌, ◌-◌}
+use Prim.Native.Nat.{ℕ, ◌+◌, ◌*◌}
 use native.Mathlib.Numerals.{add-one}
 use native.Mathlib.Omega.{arith}
 use lib.ListN.{length, get_or, drop, set, length-set}
@@ -16,7 +16,7 @@ loop-u-init c =
 
 pub loop-u-preserved : goal.loop-u-preserved
 loop-u-preserved c =
-        let s = c.args in
+    let s = c.args in
     let d = s.family.now in
     let F = column_at s.n s.store.now s.i in
     let u = c.loop-u.u in
@@ -35,6 +35,6 @@ shape_of-family c = c.loop-u.invariant.1
 
 pub returns : goal.returns
 returns c =
-        let s = c.args in
+    let s = c.args in
     let e : c.loop-u.u ≡ s.n = omega arith in
     c.loop-u.invariant.2 ∙ ap (paste s.family.now (240 * s.p) (column_at s.n s.store.now s.i)) e

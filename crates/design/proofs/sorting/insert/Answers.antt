@@ -11,7 +11,7 @@ loop-k-init c = (omega arith, omega arith, shift_start c.args.order.now c.args.i
 
 pub loop-k-preserved : goal.loop-k-preserved
 loop-k-preserved c =
-        let s = c.args in
+    let s = c.args in
     let o = s.order.now in
     let k = c.loop-k.k in
     let l : s.i < length o = omega arith in
@@ -19,7 +19,7 @@ loop-k-preserved c =
 
 pub returns : goal.returns
 returns c =
-        let s = c.args in
+    let s = c.args in
     let o = s.order.now in
     let l : s.i < length o = omega arith in
     let e : c.loop-k.k ≡ s.p = omega arith in

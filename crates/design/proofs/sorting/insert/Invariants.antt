@@ -1,6 +1,6 @@
 -- `insert` meets its contract: the entries from `k` on are shifted.
 use mathlib.Core.Path.{◌≡◌}
-use Prim.Native.Nat.{◌-◌, ◌≤◌}
+use Prim.Native.Nat.{◌≤◌}
 use Rattle.design.proofs.Order.{shifted}
 use Rattle.design.proofs.sorting.insert.Given as goal
 

@@ -1,6 +1,6 @@
 use mathlib.Core.Path.{◌≡◌, refl, ap, ◌∙◌}
 use mathlib.Core.List.{List}
-use Prim.Native.Nat.{ℕ, ◌*◌, ◌-◌}
+use Prim.Native.Nat.{ℕ, ◌*◌}
 use native.Mathlib.Omega.{arith}
 use lib.ListN.{length, get_or}
 use lib.Seq.{paste, length-paste}
@@ -16,15 +16,15 @@ loop-p-init c = (omega arith, refl, refl)
 
 pub overflow_cast-order : goal.overflow_cast-order
 overflow_cast-order c =
-        omega (arith, c.requires.5 c.loop-p.p (omega arith))
+    omega (arith, c.requires.5 c.loop-p.p (omega arith))
 
 pub copy_member-requires : goal.copy_member-requires
 copy_member-requires c =
-            (c.requires.0, c.requires.1, c.requires.5 c.loop-p.p (omega arith), omega arith, omega arith)
+    (c.requires.0, c.requires.1, c.requires.5 c.loop-p.p (omega arith), omega arith, omega arith)
 
 pub loop-p-preserved : goal.loop-p-preserved
 loop-p-preserved c =
-            let s = c.args in
+    let s = c.args in
     let p = c.loop-p.p in
     let F = column_at s.n s.store.now (get_or s.order.now p 0) in
     let small = c.requires.5 p (omega arith) in
@@ -40,6 +40,6 @@ shape_of-family c = c.loop-p.invariant.1
 
 pub returns : goal.returns
 returns c =
-        let s = c.args in
+    let s = c.args in
     let e : c.loop-p.p ≡ s.size = omega arith in
     rw e at c.loop-p.invariant.2

@@ -37,19 +37,19 @@ order c = c.first_family-closed.result.order
 pub judge_treatments-requires : goal.judge_treatments-requires
 judge_treatments-requires c =
     let f = (goal.at.judge_treatments-requires c).After-first_family-closed in
-        let numbered = first_numbered c.args.n c.args.k (columns f) (on f) c.args.treatment_family.now (after f) (marks f) (order f) f.first_family-closed.result.size c.requires.1 c.requires.8 f.first_family-closed.ensures in
+    let numbered = first_numbered c.args.n c.args.k (columns f) (on f) c.args.treatment_family.now (after f) (marks f) (order f) f.first_family-closed.result.size c.requires.1 c.requires.8 f.first_family-closed.ensures in
     let tells = first_tells c.args.n c.args.k (columns f) (on f) c.args.treatment_family.now (after f) (marks f) (order f) f.first_family-closed.result.size c.requires.1 c.requires.8 f.first_family-closed.ensures in
     (c.requires.0, c.requires.1, c.requires.6, λ d. (numbered d, tells d), search rules)
 
 pub returns : goal.returns
 returns c =
-        let f = (goal.at.returns c).After-first_family-closed in
-        let n = c.args.n in
+    let f = (goal.at.returns c).After-first_family-closed in
+    let n = c.args.n in
     let P = members_of n c.args.plot.now c.args.held in
     let held = first_held n c.args.k (columns f) (on f) c.args.treatment_family.now (after f) (marks f) (order f) f.first_family-closed.result.size c.requires.1 c.requires.8 f.first_family-closed.ensures in
     let on_p = members_plots n c.args.plot.now c.args.held c.requires.1 (omega (arith, c.requires.6.room, c.requires.6.few)) in
     let covered = first_covered n c.args.k (columns f) (on f) c.args.treatment_family.now (after f) (marks f) (order f) f.first_family-closed.result.size c.requires.1 c.requires.8 P on_p c.requires.7 f.first_family-closed.ensures in
-     record {
+    record {
       answer = c.judge_treatments.ensures.answer ∙ ap (λ (x : Closing). full_numbers_of (question11 n P x)) held;
       buffer = c.judge_treatments.ensures.buffer ∙ ap (λ (x : Closing). treatment_buffer (after f) (question11 n P x)) held ∙ covered;
     }

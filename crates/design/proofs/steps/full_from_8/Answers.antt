@@ -77,7 +77,7 @@ unfolding AcceptedHere
 full_from_11-requires c =
     let q = (goal.at.full_from_11-requires c).In-Accepted in
     let f = (goal.at.full_from_11-requires c).After-judge_plots-answer in
-        let n = c.args.n in
+    let n = c.args.n in
     let on = column_length n c.args.levels.now c.args.c 0 c.requires.1 c.requires.6 (omega (arith, c.requires.2)) in
     let w = goes_numbered n (columns_from n c.args.levels.now 0 c.args.c) on (memory f) q.in-Accepted.held c.requires.1 f.close_plot_family-closed.ensures.tables.room f.close_plot_family-closed.ensures.family (accepted-here q) in
     (c.requires.0, c.requires.1, c.requires.3, c.requires.4, c.requires.5, c.requires.6, w.0, w.1, c.requires.8, search rules)
@@ -85,11 +85,11 @@ full_from_11-requires c =
 pub returns-in-Refused : goal.returns-in-Refused
 unfolding plot_numbers full_numbers written LikeTheRules LeftPlots
 returns-in-Refused c =
-        let f = (goal.at.returns-in-Refused c).After-judge_plots-answer in
-        let n = c.args.n in
+    let f = (goal.at.returns-in-Refused c).After-judge_plots-answer in
+    let n = c.args.n in
     let e = c.in-Refused.ensures in
     let alone = plot_alone n (closed_in n (memory f) f.close_plot_family-closed.result.size) in
-    let r = with_refused n (treatments f) (answered f) (refused_not n (treatments f) (answered f) _ e refl) in  record {
+    let r = with_refused n (treatments f) (answered f) (refused_not n (treatments f) (answered f) _ e refl) in record {
       answer = refused_numbers n (treatments f) (answered f) _ e refl alone ∙ ap full_numbers_of (like-the-rules f);
       plots = left-plots f;
       treatments = ap (written c.args.treatment_family.now 0) (sym (ap (λ (y : Answer). y.treatment) r ∙ alone)) ∙ ap (treatment_buffer c.args.treatment_family.now) (like-the-rules f);
@@ -98,11 +98,11 @@ returns-in-Refused c =
 pub returns-in-Accepted : goal.returns-in-Accepted
 unfolding AcceptedHere LikeTheRules LeftPlots
 returns-in-Accepted c =
-        let q = (goal.at.returns-in-Accepted c).In-Accepted in
+    let q = (goal.at.returns-in-Accepted c).In-Accepted in
     let f = (goal.at.returns-in-Accepted c).After-judge_plots-answer in
-        let n = c.args.n in
+    let n = c.args.n in
     let g = accepted-here q in
-    let w = ap (λ (P : Family). question11 n P (treatments f)) g.members ∙ sym (with_accepted n (treatments f) (answered f) g.accepted) ∙ like-the-rules f in  record {
+    let w = ap (λ (P : Family). question11 n P (treatments f)) g.members ∙ sym (with_accepted n (treatments f) (answered f) g.accepted) ∙ like-the-rules f in record {
       answer = c.full_from_11.ensures.answer ∙ ap full_numbers_of w;
       plots = left-plots f;
       treatments = c.full_from_11.ensures.buffer ∙ ap (treatment_buffer c.args.treatment_family.now) w;

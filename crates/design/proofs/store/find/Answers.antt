@@ -1,6 +1,6 @@
 use mathlib.Core.Path.{◌≡◌, refl, sym, ap, ◌∙◌}
 use mathlib.Core.Bool.{true, false}
-use Prim.Native.Nat.{◌-◌, ◌≤◌, ◌<◌}
+use Prim.Native.Nat.{◌≤◌, ◌<◌}
 use native.Mathlib.Omega.{arith}
 use lib.ListN.{length}
 use Rattle.rules.specs.Factor.{Column}
@@ -17,7 +17,7 @@ loop-i-init c = (omega arith, refl, omega arith)
 
 pub returns-then-alike : goal.returns-then-alike
 returns-then-alike c =
-            let F = c.args.column.now in
+    let F = c.args.column.now in
     let S = members_of (length F) c.args.store.now c.args.size in
     let m : member_at S c.loop-i.i ≡ column_at (length F) c.args.store.now c.loop-i.i = member_is (length F) c.requires.0.most c.args.store.now c.args.size c.loop-i.i (omega arith) in
     let e : alike (member_at S c.loop-i.i) F ≡ true = ap (λ (G : Column). alike G F) (m ∙ sym c.member.ensures) ∙ sym c.alike.ensures ∙ c.if-alike.true in
@@ -27,7 +27,7 @@ returns-then-alike c =
 
 pub loop-i-preserved : goal.loop-i-preserved
 loop-i-preserved c =
-            let F = c.args.column.now in
+    let F = c.args.column.now in
     let S = members_of (length F) c.args.store.now c.args.size in
     let l : length S ≡ c.args.size = length_members (length F) c.requires.0.most c.args.store.now c.args.size in
     let k : c.loop-i.i < length S = omega arith in
@@ -38,7 +38,7 @@ loop-i-preserved c =
 
 pub returns : goal.returns
 returns c =
-            let F = c.args.column.now in
+    let F = c.args.column.now in
     let S = members_of (length F) c.args.store.now c.args.size in
     let l : length S ≡ c.args.size = length_members (length F) c.requires.0.most c.args.store.now c.args.size in
     let k : length S ≤ c.loop-i.i = omega arith in

@@ -1,5 +1,5 @@
 use mathlib.Core.Path.{◌≡◌, refl}
-use Prim.Native.Nat.{◌+◌, ◌*◌, ◌-◌, ◌<◌}
+use Prim.Native.Nat.{◌+◌, ◌*◌, ◌<◌}
 use native.Mathlib.Numerals.{add-one}
 use native.Mathlib.Omega.{arith}
 use lib.ListN.{length, length-set}
@@ -11,7 +11,7 @@ loop-u-init c = (omega arith, refl, paste-zero c.args.store.now (240 * c.args.i)
 
 pub loop-u-preserved : goal.loop-u-preserved
 loop-u-preserved c =
-        let s = c.args in
+    let s = c.args in
     let d = s.store.now in
     let u = c.loop-u.u in
     let h : 240 * s.i + u < length d = omega arith in
@@ -23,5 +23,5 @@ shape_of-store c = c.loop-u.invariant.1
 
 pub returns : goal.returns
 returns c =
-        let e : c.loop-u.u ≡ length c.args.column.now = omega arith in
+    let e : c.loop-u.u ≡ length c.args.column.now = omega arith in
     rw (← e) c.loop-u.invariant.2

@@ -35,12 +35,12 @@ slice_bounds-extend-end c = sym (made (goal.at.slice_bounds-extend-end c).After-
 pub extend-requires : goal.extend-requires
 extend-requires c =
     let w = (goal.at.extend-requires c).After-column_numbers in
-        (subst (λ (m : ℕ). Room m c.args.lengths.now) (sym (made w).lent_plots) c.requires.0, c.requires.1, c.requires.2, c.requires.4)
+    (subst (λ (m : ℕ). Room m c.args.lengths.now) (sym (made w).lent_plots) c.requires.0, c.requires.1, c.requires.2, c.requires.4)
 
 pub returns : goal.returns
 returns c =
-        let w = (goal.at.returns c).After-column_numbers in
-        let k = c.args.k in  record {
+    let w = (goal.at.returns c).After-column_numbers in
+    let k = c.args.k in record {
       kept = (subst (λ (m : ℕ). Room m c.extend.new.lengths) (made w).lent_plots c.extend.ensures.kept.0, c.extend.ensures.kept.1);
       extends = λ Cs i. subst (λ (m : ℕ). Infima m c.extend.new.infima c.extend.new.lengths c.extend.result (extended k (column w) Cs)) (made w).lent_plots
           (c.extend.ensures.extends (column w) Cs (sym (made w).numbers) (subst (λ (m : ℕ). Infima m c.args.infima.now c.args.lengths.now c.args.total Cs) (sym (made w).lent_plots) i));

@@ -68,11 +68,11 @@ loop-c-init c =
 
 pub extend_by-total-requires : goal.extend_by-total-requires
 extend_by-total-requires c =
-                (c.loop-c.invariant.4.room, doubled_room 64 c.loop-c.c c.loop-c.total c.loop-c-test.true c.loop-c.invariant.1, c.requires.4, omega arith, omega (arith, doubled_room (length c.loop-c.infima / 240) c.loop-c.c c.loop-c.total c.loop-c-test.true c.loop-c.invariant.2))
+    (c.loop-c.invariant.4.room, doubled_room 64 c.loop-c.c c.loop-c.total c.loop-c-test.true c.loop-c.invariant.1, c.requires.4, omega arith, omega (arith, doubled_room (length c.loop-c.infima / 240) c.loop-c.c c.loop-c.total c.loop-c-test.true c.loop-c.invariant.2))
 
 pub loop-c-preserved : goal.loop-c-preserved
 loop-c-preserved c =
-                    let n = c.args.n in
+    let n = c.args.n in
     let k = c.args.k in
     let d = c.args.d in
     let levels = c.args.levels.now in
@@ -91,8 +91,8 @@ shape_of-infima c = c.loop-c.invariant.3 ∙ same (goal.at.shape_of-infima c).Af
 
 pub returns : goal.returns
 returns c =
-            let e : c.loop-c.c ≡ 0 = omega arith in
-     record {
+    let e : c.loop-c.c ≡ 0 = omega arith in
+    record {
       few = (c.loop-c.invariant.4.few, c.loop-c.invariant.4.fits);
       columns = c.loop-c.invariant.4.columns ∙ last_all c.args.n c.args.k c.args.first c.args.d c.args.levels.now c.loop-c.c e;
     }

@@ -1,6 +1,6 @@
 -- `fill_infima` meets its contract: after each turn the infima are those of the choices of the columns from the last to the one at `c`.
 use mathlib.Core.Path.{◌≡◌}
-use Prim.Native.Nat.{◌-◌, ◌/◌, ◌≤◌}
+use Prim.Native.Nat.{◌/◌, ◌≤◌}
 use lib.ListN.{length}
 use Rattle.design.specs.Treatments.{Infima}
 use Rattle.design.proofs.Choosing.{doubled, last_of}

@@ -28,21 +28,21 @@ placed c = subst (λ (S : List Column). AllPlaced c.args.n S c.place_choices-sta
 pub place_choices-start-requires : goal.place_choices-start-requires
 unfolding members_of columns_from
 place_choices-start-requires c =
-        let n = c.args.n in
+    let n = c.args.n in
     let store = c.args.store.now in
     let zeros : List ℕ = replicate 32 0 in
     (c.requires.2, c.requires.3, c.requires.4, omega arith, c.requires.5, begun_none n store zeros (held_none n store zeros c.requires.0 c.requires.1 c.requires.7 (length-replicate {A = ℕ} 32 0)))
 
 pub returns-then-start-eq-TOO_MANY : goal.returns-then-start-eq-TOO_MANY
 returns-then-start-eq-TOO_MANY c =
-        unlisted c.too_many.ensures (all_over c.if-start-eq-TOO_MANY.true (placed (goal.at.returns-then-start-eq-TOO_MANY c).After-place_choices-start)) refl
+    unlisted c.too_many.ensures (all_over c.if-start-eq-TOO_MANY.true (placed (goal.at.returns-then-start-eq-TOO_MANY c).After-place_choices-start)) refl
 
 pub close_family-requires : goal.close_family-requires
 close_family-requires c =
-        let p = (goal.at.close_family-requires c).After-place_choices-start in
+    let p = (goal.at.close_family-requires c).After-place_choices-start in
     (work_begun false (begun_own (all_on c.if-start-eq-TOO_MANY.false (placed p))) p.requires.8, zero-le, p.requires.6)
 
 pub returns : goal.returns
 returns c =
-            let p = (goal.at.returns c).After-place_choices-start in
+    let p = (goal.at.returns c).After-place_choices-start in
     c.close_family.ensures (generators p) (work_begun false (all_on c.if-start-eq-TOO_MANY.false (placed p)) p.requires.8)

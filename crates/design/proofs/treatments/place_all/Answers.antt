@@ -13,21 +13,21 @@ use Rattle.design.proofs.treatments.place_all.Goals as goal
 pub loop-e-init : goal.loop-e-init
 unfolding columns_from
 loop-e-init c =
-        let n = c.args.n in
+    let n = c.args.n in
     let store = c.args.store.now in
     let none : c.args.total - c.args.total ≡ 0 = omega arith in
     (omega arith, subst (λ (k : ℕ). Begun n (columns_from n c.args.infima.now c.args.total k ++ members_of n store c.args.size) store c.args.counts.now c.args.size) (sym none) c.requires.0)
 
 pub place_one-p-requires : goal.place_one-p-requires
 place_one-p-requires c =
-            let e = c.loop-e.e in
+    let e = c.loop-e.e in
     let less : e - 1 < c.args.total = omega arith in
     let held = c.loop-e.invariant.1.held in
     (held, omega arith, omega arith, c.requires.3 (column_at c.args.n c.args.infima.now (e - 1)) (column_member c.args.n held.most c.args.infima.now (e - 1) c.args.total less))
 
 pub returns-then-p-eq-MEMBERS : goal.returns-then-p-eq-MEMBERS
 returns-then-p-eq-MEMBERS c =
-                let n = c.args.n in
+    let n = c.args.n in
     let infima = c.args.infima.now in
     let e = c.loop-e.e in
     let total = c.args.total in
@@ -41,7 +41,7 @@ grown-now-requires c = c.loop-e.invariant.1.held.few
 
 pub loop-e-preserved : goal.loop-e-preserved
 loop-e-preserved c =
-                let n = c.args.n in
+    let n = c.args.n in
     let infima = c.args.infima.now in
     let e = c.loop-e.e in
     let total = c.args.total in
@@ -62,7 +62,7 @@ shape_of-store c = c.loop-e.invariant.1.held.room ∙ sym c.requires.0.held.room
 pub returns : goal.returns
 unfolding members_of
 returns c =
-            let n = c.args.n in
+    let n = c.args.n in
     let infima = c.args.infima.now in
     let S = members_of n c.args.store.now c.args.size in
     let e : c.loop-e.e ≡ 0 = omega arith in

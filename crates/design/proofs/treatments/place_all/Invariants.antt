@@ -1,5 +1,4 @@
 -- `place_all` meets its contract: after each turn the members are the columns so far.
-use mathlib.Core.List.Memᴰ
 use mathlib.Core.List.{◌++◌}
 use Prim.Native.Nat.{◌-◌, ◌≤◌}
 use Rattle.rules.specs.Family.{columns_from, members_of}

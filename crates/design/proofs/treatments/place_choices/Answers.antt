@@ -9,9 +9,9 @@ use Rattle.design.proofs.treatments.place_choices.Goals as goal
 
 pub place_infima-requires : goal.place_infima-requires
 place_infima-requires c =
-            let few : c.args.d ≤ 3 = omega (arith, c.if-d-lt-FEW_COLUMNS.true) in
+    let few : c.args.d ≤ 3 = omega (arith, c.if-d-lt-FEW_COLUMNS.true) in
     (c.requires.0, c.requires.1, c.requires.2, c.requires.3, c.requires.4, inl (few, le_of_eq (sym (length-replicate {A = ℕ} 1920 0))), c.requires.5)
 
 pub place_infima-requires-2 : goal.place_infima-requires-2
 place_infima-requires-2 c =
-        (c.requires.0, c.requires.1, c.requires.2, c.requires.3, c.requires.4, inr (le_of_eq (sym (length-replicate {A = ℕ} 15360 0))), c.requires.5)
+    (c.requires.0, c.requires.1, c.requires.2, c.requires.3, c.requires.4, inr (le_of_eq (sym (length-replicate {A = ℕ} 15360 0))), c.requires.5)

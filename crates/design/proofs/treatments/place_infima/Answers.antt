@@ -13,7 +13,7 @@ fill_infima-total-requires c = (c.requires.6.held.some, c.requires.6.held.most, 
 
 pub place_all-requires : goal.place_all-requires
 place_all-requires c =
-            let n = c.args.n in (
+    let n = c.args.n in (
       c.requires.6,
       c.fill_infima-total.ensures.few.1,
       c.fill_infima-total.ensures.few.0,
@@ -22,5 +22,5 @@ place_all-requires c =
 
 pub returns : goal.returns
 returns c =
-                let n = c.args.n in
+    let n = c.args.n in
     subst (λ (S : List Column). AllPlaced n (S ++ members_of n c.args.store.now c.args.size) c.place_all.new.store c.place_all.new.counts c.place_all.result) c.fill_infima-total.ensures.columns c.place_all.ensures

@@ -29,13 +29,12 @@ length-is c =
 
 pub place-requires : goal.place-requires
 place-requires c =
-    let w = (goal.at.place-requires c).After-largest-k in
-    (
+    let w = (goal.at.place-requires c).After-largest-k in (
       held_on c.args.n c.args.store.now c.args.counts.now c.args.size (lent w) (column w) (is w) (length-is w) c.requires.0,
       w.largest-k.ensures ∙ ap largest (is w) ∙ largest_classes (column w) c.requires.3 ∙ ap classes (sym (is w)),
     )
 
 pub returns : goal.returns
 returns c =
-        let w = (goal.at.returns c).After-largest-k in
-        placed_on c.args.n c.args.store.now c.args.size (lent w) (column w) c.place.result c.place.new.store c.place.new.counts (is w) (length-is w) c.place.ensures
+    let w = (goal.at.returns c).After-largest-k in
+    placed_on c.args.n c.args.store.now c.args.size (lent w) (column w) c.place.result c.place.new.store c.place.new.counts (is w) (length-is w) c.place.ensures

@@ -17,23 +17,23 @@ pair c = first_pair (orthogonal c.args.n) 1 (members_of c.args.n c.args.treatmen
 
 pub returns-then-at-ne0 : goal.returns-then-at-ne0
 returns-then-at-ne0 c =
-        let s = (goal.at.returns-then-at-ne0 c).Start in
+    let s = (goal.at.returns-then-at-ne0 c).Start in
     let n = s.args.n in
     let P = members_of n s.args.plot_family.now s.args.plot in
     let S = members_of n s.args.treatment_family.now s.args.size in
-    let t = told_12 P S n (pair s) (λ z. c.if-at-ne0.true (s.requires.4 ∙ z)) in  record {
+    let t = told_12 P S n (pair s) (λ z. c.if-at-ne0.true (s.requires.4 ∙ z)) in record {
       answer = c.treatments_refused.ensures ∙ full_refusing_is 12 s.requires.4 s.requires.5 (sym (length_members n s.requires.1 s.args.plot_family.now s.args.plot)) (sym (length_members n s.requires.1 s.args.treatment_family.now s.args.size)) ∙ sym t.numbers;
       buffer = sym (written_again n s.requires.1 s.args.treatment_family.now s.args.size (omega (arith, s.requires.3.room, s.requires.3.few))) ∙ sym (told_buffer s.args.treatment_family.now t);
     }
 
 pub returns : goal.returns
 returns c =
-            let s = (goal.at.returns c).Start in
+    let s = (goal.at.returns c).Start in
     let n = s.args.n in
     let P = members_of n s.args.plot_family.now s.args.plot in
     let S = members_of n s.args.treatment_family.now s.args.size in
     let e = passed_12 P S n (pair s) (sym s.requires.4 ∙ c.if-at-ne0.false) in
-     record {
+    record {
       answer = c.from_13.ensures.answer ∙ ap full_numbers_of (sym e);
       buffer = c.from_13.ensures.buffer ∙ ap (treatment_buffer s.args.treatment_family.now) (sym e);
     }

@@ -75,18 +75,18 @@ left c =
 
 pub returns-then-at-ne0 : goal.returns-then-at-ne0
 returns-then-at-ne0 c =
-        let w = (goal.at.returns-then-at-ne0 c).After-cross-crossed in
-    let t = told_13 (plots w) (treatments w) (pair w) (λ z. c.if-at-ne0.true ((places w).0 ∙ z)) in  record {
+    let w = (goal.at.returns-then-at-ne0 c).After-cross-crossed in
+    let t = told_13 (plots w) (treatments w) (pair w) (λ z. c.if-at-ne0.true ((places w).0 ∙ z)) in record {
       answer = c.treatments_refused.ensures ∙ full_refusing_is 13 (places w).0 (places w).1 (plot-size w) (treatment-size w) ∙ sym t.numbers;
       buffer = left w ∙ sym (told_buffer w.args.treatment_family.now t);
     }
 
 pub returns-then-last-eq-TOO_MANY : goal.returns-then-last-eq-TOO_MANY
 returns-then-last-eq-TOO_MANY c =
-        let e = (goal.at.returns-then-last-eq-TOO_MANY c).Else-at-ne0 in
+    let e = (goal.at.returns-then-last-eq-TOO_MANY c).Else-at-ne0 in
     let w = (goal.at.returns-then-last-eq-TOO_MANY c).After-cross-crossed in
     let over = placing_over w.args.n (products only_supremum (plots w) (treatments w)) (store w) (counts w) w.cross-crossed.result.size c.if-last-eq-TOO_MANY.true (placed e) in
-    let t = told_14_over (plots w) (treatments w) (final_treatment_family (plots w) (treatments w)) (final_over (plots w) (treatments w) over) in  record {
+    let t = told_14_over (plots w) (treatments w) (final_treatment_family (plots w) (treatments w)) (final_over (plots w) (treatments w) over) in record {
       answer = c.treatments_refused-then-last-eq-TOO_MANY.ensures ∙ full_refusing_is 14 refl refl (plot-size w) (treatment-size w) ∙ sym t.numbers ∙ ap full_numbers_of (sym (asked e));
       buffer = left w ∙ sym (told_buffer w.args.treatment_family.now t) ∙ ap (treatment_buffer w.args.treatment_family.now) (sym (asked e));
     }
@@ -113,7 +113,7 @@ write-requires c =
 pub returns : goal.returns
 unfolding full_numbers
 returns c =
-        let e = (goal.at.returns c).Else-last-eq-TOO_MANY in
+    let e = (goal.at.returns c).Else-last-eq-TOO_MANY in
     let e1 = (goal.at.returns c).Else-at-ne0 in
     let w = (goal.at.returns c).After-cross-crossed in
     let n = w.args.n in
@@ -121,7 +121,7 @@ returns c =
     let b = found e in
     let R = final_treatment_family (plots w) (treatments w) in
     let many = final_size (plots w) (treatments w) n (store w) (counts w) size b in
-    let t = told_14_on (plots w) (treatments w) R (subst (λ (k : ℕ). k ≤ 32) many b.held.few) in  record {
+    let t = told_14_on (plots w) (treatments w) R (subst (λ (k : ℕ). k ≤ 32) many b.held.few) in record {
       answer = full_accepting_is (plot-size w) many ∙ sym t.numbers ∙ ap full_numbers_of (sym (asked e1));
       buffer = c.write.ensures
           ∙ ap (written w.args.treatment_family.now 0)

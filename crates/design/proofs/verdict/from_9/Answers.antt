@@ -15,7 +15,7 @@ use Rattle.design.proofs.verdict.from_9.Goals as goal
 pub returns-then-unequal-ne0 : goal.returns-then-unequal-ne0
 unfolding plot_numbers
 returns-then-unequal-ne0 c =
-        let n = c.args.n in
+    let n = c.args.n in
     let P = members_of n c.args.family.now c.args.size in
     let len : length P ≡ c.args.size = length_members n c.requires.most c.args.family.now c.args.size in
     let e = c.first_unequal-unequal.ensures in
@@ -24,7 +24,7 @@ returns-then-unequal-ne0 c =
 pub returns-then-first-ne0 : goal.returns-then-first-ne0
 unfolding plot_numbers apart_at
 returns-then-first-ne0 c =
-            let n = c.args.n in
+    let n = c.args.n in
     let P = members_of n c.args.family.now c.args.size in
     let p : Places = first_pair (orthogonal n) 1 P in
     let len : length P ≡ c.args.size = length_members n c.requires.most c.args.family.now c.args.size in
@@ -36,7 +36,7 @@ returns-then-first-ne0 c =
 pub returns : goal.returns
 unfolding plot_numbers apart_at
 returns c =
-            let n = c.args.n in
+    let n = c.args.n in
     let P = members_of n c.args.family.now c.args.size in
     let p : Places = first_pair (orthogonal n) 1 P in
     let len : length P ≡ c.args.size = length_members n c.requires.most c.args.family.now c.args.size in

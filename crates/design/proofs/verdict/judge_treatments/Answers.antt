@@ -14,23 +14,23 @@ use Rattle.design.proofs.verdict.judge_treatments.Goals as goal
 pub returns-then-size-eq-TOO_MANY : goal.returns-then-size-eq-TOO_MANY
 unfolding written
 returns-then-size-eq-TOO_MANY c =
-            let n = c.args.n in
+    let n = c.args.n in
     let P = members_of n c.args.plot_family.now c.args.plot in
     let first = c.args.treatment_family.now in
-    let t = told_11 n P (closed_in n first c.args.closed.size) (held_over n first c.args.closed.size c.if-size-eq-TOO_MANY.true) in  record {
+    let t = told_11 n P (closed_in n first c.args.closed.size) (held_over n first c.args.closed.size c.if-size-eq-TOO_MANY.true) in record {
       answer = c.treatments_refused.ensures ∙ full_refusing_is 11 refl refl (sym (length_members n c.requires.1 c.args.plot_family.now c.args.plot)) refl ∙ sym t.numbers;
       buffer = sym (told_buffer first t);
     }
 
 pub first_apart-pair-requires : goal.first_apart-pair-requires
 first_apart-pair-requires c =
-        let w = c.requires.3 c.if-size-eq-TOO_MANY.false in
+    let w = c.requires.3 c.if-size-eq-TOO_MANY.false in
     (w.0.few, w.1.places)
 
 pub from_12-requires : goal.from_12-requires
 unfolding apart_at
 from_12-requires c =
-                let w = c.requires.3 c.if-size-eq-TOO_MANY.false in (
+    let w = c.requires.3 c.if-size-eq-TOO_MANY.false in (
       c.requires.0,
       c.requires.1,
       c.requires.2,
@@ -42,11 +42,11 @@ from_12-requires c =
 
 pub returns : goal.returns
 returns c =
-                let n = c.args.n in
+    let n = c.args.n in
     let P = members_of n c.args.plot_family.now c.args.plot in
     let first = c.args.treatment_family.now in
     let q = passed_11 n P (closed_in n first c.args.closed.size) (members_of n first c.args.closed.size) (held_on n first c.args.closed.size c.if-size-eq-TOO_MANY.false) in
-     record {
+    record {
       answer = c.from_12.ensures.answer ∙ ap full_numbers_of (sym q);
       buffer = c.from_12.ensures.buffer ∙ ap (treatment_buffer first) (sym q);
     }
