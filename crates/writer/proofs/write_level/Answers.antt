@@ -1,5 +1,6 @@
 -- `write_level`: the tab, unless it is the first level of its line, and the level.
 use mathlib.Core.List.{[], ◌∷◌}
+use native.Mathlib.Omega.{arith}
 use Rattle.rules.specs.Lists.{decimal_of}
 use Rattle.decimal.proofs.Writing.{wrote_as, wrote_then}
 use Rattle.writer.proofs.Rows.{first_field, later_field}
@@ -14,4 +15,4 @@ pub returns : goal.returns
 returns c =
     let a = c.args in
     let d = decimal_of a.level in
-    wrote_as a.out.now a.at (later_field a.i d c.if-i-eq0.false) (wrote_then a.out.now a.at (9 ∷ []) d (c.write_byte-next.ensures.answer, c.write_byte-next.ensures.bytes) (c.write_decimal-2.ensures.answer, c.write_decimal-2.ensures.bytes))
+    wrote_as a.out.now a.at (later_field a.i d (omega arith)) (wrote_then a.out.now a.at (9 ∷ []) d (c.write_byte-next.ensures.answer, c.write_byte-next.ensures.bytes) (c.write_decimal-2.ensures.answer, c.write_decimal-2.ensures.bytes))

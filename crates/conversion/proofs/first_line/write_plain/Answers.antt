@@ -1,8 +1,8 @@
-use Prim.Native.Nat.{◌+◌, ◌<◌}
+use Prim.Native.Nat.{ℕ, ◌+◌, ◌-◌, ◌<◌}
 use mathlib.Core.Path.{refl, sym, ap, ◌∙◌}
-use mathlib.Core.List.{[], ◌∷◌, ◌++◌}
+use mathlib.Core.List.{List, [], ◌∷◌, ◌++◌}
 use native.Mathlib.Omega.{arith}
-use lib.ListN.{length, drop}
+use lib.ListN.{length, take, drop}
 use Rattle.rules.specs.Sheet.{newline, has}
 use Rattle.rules.specs.Parents.{without_parent}
 use Rattle.decimal.specs.Writing.{Wrote}
@@ -14,7 +14,7 @@ use Rattle.conversion.specs.Plain.{plain_text}
 use Rattle.sheet.proofs.FirstByte.{rest_taken}
 use Rattle.conversion.proofs.FirstLine.{plain_last, plain_on}
 use Rattle.conversion.proofs.first_line.write_plain.Goals as goal
-use Rattle.conversion.proofs.first_line.write_plain.Goals.{After-end_of-e, After-out-then-text-e-eq10-1, After-write_field-next}
+use Rattle.conversion.proofs.first_line.write_plain.Goals.{After-end_of-e, After-write_field-next}
 
 -- the field at hand ends inside the text
 ends : (c : After-end_of-e) → c.end_of-e.result < length c.args.text.now
@@ -28,10 +28,8 @@ field-written c =
     wrote_as l.out l.next (ap without_parent (field_cut d.args.text.now l.at d.end_of-e.result d.end_of-e.ensures)) c.write_field-next.ensures
 
 -- the rest of the text is written as it stands
-rest-written : (c : After-out-then-text-e-eq10-1) → Wrote c.write_field-next.new.out c.write_field-next.result (drop c.end_of-e.result c.args.text.now) c.write_bytes.new.out c.write_bytes.result
-rest-written c =
-    let f = c in
-    wrote_as f.write_field-next.new.out f.write_field-next.result (rest_taken c.end_of-e.result c.args.text.now) (c.write_bytes.ensures.answer, c.write_bytes.ensures.bytes)
+rest-written : (t before after : List ℕ) (e next place : ℕ) → Wrote before next (take (length t - e) (drop e t)) after place → Wrote before next (drop e t) after place
+rest-written t before after e next place w = wrote_as before next (rest_taken e t) w
 
 pub loop-out-init : goal.loop-out-init
 loop-out-init c = (c.requires, refl, (refl, refl))
@@ -53,7 +51,7 @@ shape_of-out-then-text-e-eq10 c =
     let f = (goal.at.shape_of-out-then-text-e-eq10 c).After-write_field-next in
     let l = c.loop-out in
     let t = c.args.text.now in
-    wrote_length f.write_field-next.new.out f.write_field-next.result (drop c.end_of-e.result t) (rest-written (goal.at.shape_of-out-then-text-e-eq10 c).After-out-then-text-e-eq10-1) ∙ wrote_length l.out l.next (without_parent (field_of (drop l.at t))) (field-written f) ∙ l.invariant.1
+    wrote_length f.write_field-next.new.out f.write_field-next.result (drop c.end_of-e.result t) (rest-written c.args.text.now c.write_field-next.new.out c.write_bytes.new.out c.end_of-e.result c.write_field-next.result c.write_bytes.result (c.write_bytes.ensures.answer, c.write_bytes.ensures.bytes)) ∙ wrote_length l.out l.next (without_parent (field_of (drop l.at t))) (field-written f) ∙ l.invariant.1
 
 pub returns-then-text-e-eq10 : goal.returns-then-text-e-eq10
 returns-then-text-e-eq10 c =
@@ -64,7 +62,7 @@ returns-then-text-e-eq10 c =
     let t = a.text.now in
     let e = d.end_of-e.result in
     let left = rest_then a.out.now 0 (plain_text t) l.out l.next (without_parent (field_of (drop l.at t))) (drop e t) (plain_last t l.at e d.end_of-e.ensures (ends d) c.if-text-e-eq10.true) (field-written f) l.invariant.2 in
-    let w = rest-written (goal.at.returns-then-text-e-eq10 c).After-out-then-text-e-eq10-1 in
+    let w = rest-written c.args.text.now c.write_field-next.new.out c.write_bytes.new.out c.end_of-e.result c.write_field-next.result c.write_bytes.result (c.write_bytes.ensures.answer, c.write_bytes.ensures.bytes) in
     (w.0 ∙ left.0, w.1 ∙ left.1)
 
 pub overflow_add-at : goal.overflow_add-at

@@ -16,7 +16,7 @@ returns-then-x-eq10 c =
 
 pub loop-at-preserved : goal.loop-at-preserved
 loop-at-preserved c =
-    let e = field_on c.args.text.now c.loop-at.at (omega arith) c.if-x-eq9.false c.if-x-eq10.false in
+    let e = field_on c.args.text.now c.loop-at.at (omega arith) (omega arith) (omega arith) in
     omega (arith, ap length e)
 
 pub returns : goal.returns

@@ -19,5 +19,5 @@ returns-then-x-lt48 c =
 pub returns : goal.returns
 returns c =
     let x = c.args.x in
-    let e : isLetter x ≡ false = sym c.letter.ensures ∙ c.if-letter.false in
+    let e : isLetter x ≡ false = cc in
     rw (e, le-leb 48 x c.if-x-lt48.false)

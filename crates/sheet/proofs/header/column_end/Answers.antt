@@ -40,7 +40,7 @@ loop-i-init c =
     let mark : is_mark (get_or a.text.now a.start 0) ≡ true = sym c.is_mark.ensures ∙ c.if-not-is_mark.false in
     let first : isLetter (get_or a.text.now (a.start + 2) 0) ≡ true = sym c.letter.ensures ∙ c.if-not-letter.false in
     let second : letter_or_digit (get_or a.text.now (a.start + 3) 0) ≡ true = sym c.letter_or_digit.ensures ∙ c.if-not-letter_or_digit.false in
-    (omega arith, omega arith, letters_start a.text.now a.start (omega arith) mark c.if-text-start-ne58.false first second)
+    (omega arith, omega arith, letters_start a.text.now a.start (omega arith) mark (omega arith) first second)
 
 pub returns-then-rest-i : goal.returns-then-rest-i
 returns-then-rest-i c =

@@ -1,6 +1,7 @@
 -- `sheet::header::read_header` meets its contract.
 use mathlib.Core.Path.{◌≡◌, sym, ◌∙◌}
 use mathlib.Core.Bool.{true}
+use Rattle.rules.specs.Sheet.{names_differ, header}
 use Rattle.sheet.specs.Answers.{markable}
 use Rattle.sheet.proofs.HeaderLaws.{headed_no, headed_yes, told, refuse_marks, refuse_names, accept, found, found_line, not_found}
 use Rattle.sheet.proofs.header.read_header.Goals as goal
@@ -27,5 +28,5 @@ pub returns : goal.returns
 returns c =
     let d = (goal.at.returns c).Else-end-eq0 in
     let t = d.args.text.now in
-    found_line t d.marks-h.result d.marks-h.ensures (seen d)
-    ∙ sym (headed_yes t (accept t (seen d) (sym c.names_differ.ensures ∙ c.if-not-names_differ.false)))
+    let differ : names_differ (header t) ≡ true = cc in
+    found_line t d.marks-h.result d.marks-h.ensures (seen d) ∙ sym (headed_yes t (accept t (seen d) differ))

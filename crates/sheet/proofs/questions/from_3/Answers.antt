@@ -11,7 +11,7 @@ use Rattle.sheet.specs.Answers.{first_line, failing}
 use Rattle.sheet.proofs.HeaderLaws.{headed_yes}
 use Rattle.sheet.proofs.QuestionLaws.{headed_none, headed_some, refused_3, fields_some, fields_few, columns_placed, later_failed, later_lines_lem, later_read, later_stored}
 use Rattle.sheet.proofs.questions.from_3.Goals as goal
-use Rattle.sheet.proofs.questions.from_3.Goals.{Else-at-eq0, Else-refusal-ne0}
+use Rattle.sheet.proofs.questions.from_3.Goals.{Else-at-eq0}
 
 -- question 3 said yes
 module _ (c : Else-at-eq0) where
@@ -26,10 +26,6 @@ module _ (c : Else-at-eq0) where
 
   is : h ≡ first_line text
   is = c.read_header-h.ensures ∙ headed_yes text yes
-
--- questions 4 and 5 said yes
-none : (c : Else-refusal-ne0) → failing c.judge-later.result ≡ 0
-none c = sym c.failed-refusal.ensures ∙ c.if-refusal-ne0.false
 
 pub returns-then-at-eq0 : goal.returns-then-at-eq0
 unfolding levels_after
@@ -61,17 +57,17 @@ returns-then-refusal-ne0 c =
 
 pub store-requires : goal.store-requires
 store-requires c =
-    let o = (goal.at.store-requires c).Else-refusal-ne0 in
-    let j = o.judge-later in
+    let j = c.judge-later in
+    let none : failing j.result ≡ 0 = cc in
     let d = (goal.at.store-requires c).Else-at-eq0 in
-    (columns_placed (text d) (yes d) (h d) (is d) _ (omega arith), later_lines_lem (text d) (yes d) (h d) (is d) j.result j.ensures (none o))
+    (columns_placed (text d) (yes d) (h d) (is d) _ (omega arith), later_lines_lem (text d) (yes d) (h d) (is d) j.result j.ensures none)
 
 pub returns : goal.returns
 returns c =
-    let o = (goal.at.returns c).Else-refusal-ne0 in
-    let j = o.judge-later in
+    let j = c.judge-later in
+    let none : failing j.result ≡ 0 = cc in
     let d = (goal.at.returns c).Else-at-eq0 in
     let levels = d.args.levels.now in record {
-      result_value = sym (later_read (text d) (yes d) (h d) (is d) j.result j.ensures (none o));
-      levels_after = c.store.ensures ∙ later_stored (text d) (yes d) (h d) (is d) j.result j.ensures (none o) levels;
+      result_value = sym (later_read (text d) (yes d) (h d) (is d) j.result j.ensures none);
+      levels_after = c.store.ensures ∙ later_stored (text d) (yes d) (h d) (is d) j.result j.ensures none levels;
     }
