@@ -23,4 +23,4 @@ returns c =
     let f = c.args.field.now in
     let p = c.place_of-s in
     c.is_name.ensures ∙ ap is_name (rest_taken (p.result + 1) f ∙ ap (λ (k : ℕ). drop (k + 1) f) p.ensures)
-    ∙ sym (form_name f (omega (arith, p.ensures)) c.if-field-ne112.false)
+    ∙ sym (form_name f (omega (arith, p.ensures)) (omega arith))

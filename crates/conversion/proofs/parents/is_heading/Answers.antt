@@ -21,4 +21,4 @@ pub returns : goal.returns
 returns c =
     let f = c.args.field.now in
     let x = c.args.name.now in
-    c.same_bytes.ensures ∙ ap (λ (g : List ℕ). same_bytes g x) (rest_taken 2 f) ∙ sym (heading_name f x (omega arith) c.if-field-ne112.false c.if-field-ne58.false)
+    c.same_bytes.ensures ∙ ap (λ (g : List ℕ). same_bytes g x) (rest_taken 2 f) ∙ sym (heading_name f x (omega arith) (omega arith) (omega arith))
