@@ -11,8 +11,8 @@ use limits::{Level, PLOTS};
 // Asks questions 3 to 5 of the text, and writes where the answers are yes. The table is as long as question 1 asks.
 pub fn from_3(text: &[u8], levels: &mut [Level]) -> Reading
     requires { table_cells ≤ length levels.old }
-    ensures result_value { outcome_of result ≡ reading_from3 most_level text.now }
-    ensures levels_after { levels.new ≡ levels_after (reading_from3 most_level text.now) text.now levels.old }
+    ensures answer { outcome_of result ≡ reading_from3 most_level text.now }
+    ensures table { levels.new ≡ levels_after (reading_from3 most_level text.now) text.now levels.old }
 {
     let h = header::read_header(text);
     let at = h.end;

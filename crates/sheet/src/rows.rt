@@ -73,8 +73,8 @@ fn store_row(
     levels: &mut [Level],
 ) -> usize
     requires { Store (take n columns.now) n (length levels.old) × (u < most_plots) × (row_there n (drop start text.now) ≡ true) }
-    ensures value { result ≡ start + suc (length (up_to newline (drop start text.now))) }
-    ensures levels_after { levels.new ≡ with_plot (take n columns.now) u (fields (up_to newline (drop start text.now))) levels.old }
+    ensures next { result ≡ start + suc (length (up_to newline (drop start text.now))) }
+    ensures table { levels.new ≡ with_plot (take n columns.now) u (fields (up_to newline (drop start text.now))) levels.old }
 {
     let mut at = start;
     for i in 0..n {

@@ -34,6 +34,6 @@ returns c =
     let s = c.args in
     let e = text_fits s.text.now s.levels.now (omega arith) (omega arith) (omega arith) in
     let r = c.from_3.ensures in
-    let answer = r.result_value ∙ sym e in
-    let table = r.levels_after ∙ ap (λ (o : Outcome). levels_after o s.text.now s.levels.now) (sym e) in
+    let answer = r.answer ∙ sym e in
+    let table = r.table ∙ ap (λ (o : Outcome). levels_after o s.text.now s.levels.now) (sym e) in
     record { answer = answer; table = table; older = older_kept s.text.now s.levels.now _ _ answer table }

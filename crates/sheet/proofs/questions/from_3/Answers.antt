@@ -33,8 +33,8 @@ returns-then-at-eq0 c =
     let t = c.args.text.now in
     let e = refused_3 t (headed_none t c.read_header-h.result c.read_header-h.ensures c.if-at-eq0.true) in
     record {
-      result_value = rw e;
-      levels_after = rw e;
+      answer = rw e;
+      table = rw e;
     }
 
 pub overflow_add-n : goal.overflow_add-n
@@ -51,8 +51,8 @@ returns-then-refusal-ne0 c =
     let q = c.failed-refusal.ensures in
     let e : reading_from3 most_level (text d) ≡ refused c.failed-refusal.result = later_failed (text d) (yes d) (h d) (is d) j.result j.ensures (λ z. c.if-refusal-ne0.true (q ∙ z)) ∙ ap refused (sym q) in
     record {
-      result_value = rw e;
-      levels_after = rw e;
+      answer = rw e;
+      table = rw e;
     }
 
 pub store-requires : goal.store-requires
@@ -68,6 +68,6 @@ returns c =
     let none : failing j.result ≡ 0 = cc in
     let d = (goal.at.returns c).Else-at-eq0 in
     let levels = d.args.levels.now in record {
-      result_value = sym (later_read (text d) (yes d) (h d) (is d) j.result j.ensures none);
-      levels_after = c.store.ensures ∙ later_stored (text d) (yes d) (h d) (is d) j.result j.ensures none levels;
+      answer = sym (later_read (text d) (yes d) (h d) (is d) j.result j.ensures none);
+      table = c.store.ensures ∙ later_stored (text d) (yes d) (h d) (is d) j.result j.ensures none levels;
     }

@@ -26,8 +26,8 @@ loop-u-preserved c =
     let m = c.loop-u.invariant.2 in
     let w = c.store_row-at.ensures in (
       omega arith,
-      ap length w.levels_after ∙ length_with_plot (take a.n a.columns.now) c.loop-u.u (fields (up_to 10 (drop c.loop-u.at a.text.now))) c.loop-u.levels ∙ c.loop-u.invariant.1,
-      more_turn (take a.n a.columns.now) a.n c.loop-u.u a.plots a.text.now c.loop-u.at c.loop-u.levels _ m (omega arith) _ _ w.value w.levels_after,
+      ap length w.table ∙ length_with_plot (take a.n a.columns.now) c.loop-u.u (fields (up_to 10 (drop c.loop-u.at a.text.now))) c.loop-u.levels ∙ c.loop-u.invariant.1,
+      more_turn (take a.n a.columns.now) a.n c.loop-u.u a.plots a.text.now c.loop-u.at c.loop-u.levels _ m (omega arith) _ _ w.next w.table,
     )
 
 pub shape_of-levels : goal.shape_of-levels

@@ -114,6 +114,6 @@ returns c =
     let m : a.n - c.loop-i.i ≡ 0 = omega arith in
     let l = rw m at c.loop-i.invariant.2 in
     record {
-      value = l.1;
-      levels_after = l.0;
+      next = l.1;
+      table = l.0;
     }
