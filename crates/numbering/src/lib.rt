@@ -53,10 +53,9 @@ fn look_up(
 }
 
 // Numbers the first `stop` plots of a column of levels by first appearance, in one walk that also counts their classes; answers how many
-// there are. Class c has its label and the class before it in its bucket; `last` has the latest class of each bucket. C can call it too, so
-// that numbering is compared and timed alone.
-#[unsafe(no_mangle)]
-pub extern "C" fn number_levels(levels: &[Level], stop: usize, out: &mut [u8; PLOTS]) -> usize
+// there are. Class c has its label and the class before it in its bucket; `last` has the latest class of each bucket. C calls it through the
+// crate numbering_c, so that numbering is compared and timed alone.
+pub fn number_levels(levels: &[Level], stop: usize, out: &mut [u8; PLOTS]) -> usize
     ensures answer { result ≡ classes (take stop (plots_of levels.now)) }
     ensures numbers { out.new ≡ overlay out.old (number (take stop (plots_of levels.now))) }
 {
