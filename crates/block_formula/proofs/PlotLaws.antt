@@ -12,7 +12,6 @@ use lib.ListN.{length, get_or, take, drop}
 use lib.Seq.{get_or-drop, drop-cons, drop-length, take-suc, take_all, paste}
 use borrow.Author.Tests.{leb-true, leb-false}
 use Rattle.rules.specs.Limits.{most_plots, most_columns}
-use Rattle.rules.specs.Lists.{tabulate}
 use Rattle.rules.specs.Factor.{Column}
 use Rattle.rules.specs.Family.{members_of}
 use Rattle.rules.specs.Formula.{Formula, names_of, counts_of, plot_count, column_of, seen, columns_of}

@@ -1,4 +1,6 @@
 // Block formulas become sheets: questions 6, 17 and 18.
+#![tactic(auto)]
+
 ghost use Rattle.std.specs.Prelude.{◌≡◌, true, ◌≤◌, length};
 ghost use Rattle.rules.specs.Limits.{most_text};
 ghost use Rattle.rules.specs.SheetText.{sheet_buffer};

@@ -1,11 +1,8 @@
 -- `expand`: 6, and whether the text is a formula, are asked first.
--- Assumes nothing.
 use Prim.Native.Nat.{ℕ}
 use mathlib.Core.Path.{◌≡◌, refl, sym, ap, ◌∙◌, subst}
 use mathlib.Core.List.{List}
 use native.Mathlib.Omega.{arith}
-use borrow.Author.Rules.{rules}
-use borrow.Author.Tests.{not-true, not-false}
 use lib.ListN.{length, take}
 use Rattle.rules.specs.SheetText.{sheet_buffer}
 use Rattle.rules.specs.Formula.{formula_sheet, Planned}
@@ -16,8 +13,7 @@ use Rattle.writer.specs.declared.Writing.{Writing}
 use Rattle.writer.specs.declared.Writing.TheVariants.{Refused}
 use Rattle.block_formula.specs.Answers.{HoldsPlanned}
 use Rattle.block_formula.proofs.AnswerLaws.{short_6, unreadable_17}
-use Rattle.block_formula.proofs.expand.Statement.{statement}
-use Rattle.block_formula.proofs.expand.Tie as tie
+use Rattle.block_formula.proofs.expand.Goals as goal
 
 -- the last clause follows from the others
 whole : (text out after : List ℕ) (r : Writing) → (writing_numbers r ≡ answer_numbers (formula_sheet text (length out))) × (after ≡ sheet_buffer out (formula_sheet text (length out)))
@@ -27,43 +23,26 @@ whole text out after r p = (
   (p.1, λ e levels b h k. subst (λ (t : List ℕ). Planned text t levels b) (sym (ap (take (length (formula_sheet text (length out)).sheet)) p.1 ∙ buffer_sheet out (formula_sheet text (length out)))) (formula_planned text (length out) levels b e h k)),
 )
 
-returns : tie.Need-returns
+pub returns-then-out-lt-TEXT : goal.returns-then-out-lt-TEXT
 unfolding writing_numbers answer_numbers
+returns-then-out-lt-TEXT c =
+    let a = c.args in
+    let t = a.formula.now in
+    let whole = whole t a.out.now a.out.now (Refused 6) (rw (short_6 t (length a.out.now) (omega arith)) (refl, refl)) in record { answer = whole.0; sheet = whole.1.0; planned = whole.1.1 }
+
+pub returns-then-not-is_readable : goal.returns-then-not-is_readable
+unfolding writing_numbers answer_numbers
+returns-then-not-is_readable c =
+    let a = c.args in
+    let t = a.formula.now in
+    let whole = whole t a.out.now a.out.now (Refused 17) (rw (unreadable_17 t (length a.out.now) (omega arith) (sym c.is_readable.ensures ∙ c.if-not-is_readable.true)) (refl, refl)) in record { answer = whole.0; sheet = whole.1.0; planned = whole.1.1 }
+
+pub expand_readable-requires : goal.expand_readable-requires
+expand_readable-requires c =
+    (omega arith, sym c.is_readable.ensures ∙ c.if-not-is_readable.false)
+
+pub returns : goal.returns
 returns c =
-    let a = c.before.before.before.args in
-    let t = a.formula.now in
-    whole t a.out.now a.out.now (Refused 6) (rw (short_6 t (length a.out.now) (omega arith)) (refl, refl))
-
-is-readable-requires : tie.Need-is-readable-requires
-is-readable-requires c κs = search rules
-
-returns-2 : tie.Need-returns-2
-unfolding writing_numbers answer_numbers
-returns-2 c =
-    let a = c.before.before.before.before.before.args in
-    let t = a.formula.now in
-    whole t a.out.now a.out.now (Refused 17) (rw (unreadable_17 t (length a.out.now) (omega arith) (sym c.before.is-readable.ensures ∙ not-true _ c.if2.true)) (refl, refl))
-
-expand-readable-requires : tie.Need-expand-readable-requires
-expand-readable-requires c κs =
-    (omega arith, sym c.before.before.is-readable.ensures ∙ not-false _ c.before.if2.false)
-
-same_length : tie.Need-same-length
-same_length c = search rules
-
-returns-3 : tie.Need-returns-3
-returns-3 c =
-    let a = c.before.before.before.before.before.before.before.before.before.args in
-    let k = c.before.before.expand-readable in
-    whole a.formula.now a.out.now k.new.1.0 k.result k.ensures
-
-pub expand_spec : {M : Type 1} → statement M
-expand_spec =
-    tie.close
-    (tie.spec
-    returns
-    is-readable-requires
-    returns-2
-    expand-readable-requires
-    same_length
-    returns-3)
+    let a = c.args in
+    let k = c.expand_readable in
+    let whole = whole a.formula.now a.out.now k.new.out k.result (k.ensures.answer, k.ensures.sheet) in record { answer = whole.0; sheet = whole.1.0; planned = whole.1.1 }
