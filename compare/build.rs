@@ -1,5 +1,5 @@
 //! Links the archive of the proved planner and that of its numbering alone: from the folder RACHDOUM_LIB (a relative path begins at the
-//! repository's root), or from where `rt staticlib rachdoum` and `rt staticlib numbering` leave them.
+//! repository's root), or from target/staticlib, where `scripts/make rachdoum numbering` leaves them.
 
 use std::path::PathBuf;
 

@@ -12,7 +12,7 @@
  * `rachdoum_convert` 52 kB, `rachdoum_plot_design` 37 kB, `rachdoum_formula` 34 kB, `rachdoum_name` 12 kB, `rachdoum_compare` 10 kB, the
  * others less than 4 kB. Only the reading of a formula calls itself, at most once a byte.
  *
- * Build the archive with `rt staticlib rachdoum` and link target/staticlib/librachdoum.a. */
+ * Build the archive with `scripts/make rachdoum` and link target/staticlib/librachdoum.a. */
 #ifndef RACHDOUM_H
 #define RACHDOUM_H
 

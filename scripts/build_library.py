@@ -6,6 +6,8 @@ What the prover says goes to target/plan.log, how far it is to standard error. E
 """
 import fcntl
 import os
+import re
+import shutil
 import signal
 import subprocess
 import sys
@@ -18,6 +20,9 @@ LIBRARY = TARGET / "librachdoum.so"
 ARCHIVE = TARGET / "staticlib" / "librachdoum.a"
 LOG = TARGET / "plan.log"
 NAME = "rachdoum"
+FOLDER = ROOT / "crates" / NAME
+BEGINS = re.compile(r"^rt: chose --jobs \d+ for (\w+)$", re.MULTILINE)
+FAILS = re.compile(r"^rt: the library (\w+) did not build", re.MULTILINE)
 
 
 class Failed(Exception):
@@ -44,39 +49,42 @@ def shown(path):
 def listed():
     """The crates of crates.txt, each with those of them that it depends on."""
     lines = (line.split("#")[0].split(":") for line in (ROOT / "crates.txt").read_text().splitlines())
-    found = {line[0].strip(): line[1].split() for line in lines if len(line) == 2}
+    # (a static library has that word after its name)
+    found = {line[0].split()[0]: line[1].split() for line in lines if len(line) == 2}
     return {name: [other for other in needed if other in found] for name, needed in found.items()}
 
 
-def rounds(crates, jobs):
-    """The crates that the library stands on, as rt takes them: side by side where none needs another, so many at a time."""
-    level = {}
+def order(crates):
+    """The library and the crates that it stands on, as rt takes them: each after those that it needs."""
+    found = []
 
     def visit(name):
-        if name not in level:
-            level[name] = 1 + max((visit(other) for other in crates[name]), default=0)
-        return level[name]
+        if name not in found:
+            for other in crates[name]:
+                visit(other)
+            found.append(name)
 
     visit(NAME)
-    found = []
-    for number in sorted(set(level.values())):
-        names = [name for name in level if level[name] == number]
-        found += [names[at : at + jobs] for at in range(0, len(names), jobs)]
     return found
+
+
+def parts(name):
+    """The code, the rules and the proofs of a crate, folders and files; of all crates where the name is `*`."""
+    for part in ("src", "specs", "proofs"):
+        for folder in (ROOT / "crates").glob(f"{name}/{part}"):
+            yield folder
+            yield from folder.rglob("*")
 
 
 def newest_source():
     """When the newest source was changed, as `plan` looks for it, in nanoseconds."""
-    found = [ROOT / "crates.txt", ROOT / "crates"]
-    found += [path for path in (ROOT / "crates").rglob("*") if "must-fail" not in path.parts]
-    return max(path.stat().st_mtime_ns for path in found)
+    return max(path.stat().st_mtime_ns for path in (ROOT / "crates.txt", *parts("*")))
 
 
 def proved(name):
     """Whether a crate looks as it was when it was last proved."""
-    stamp = TARGET / "stamp" / name
-    found = (path for part in ("src", "specs", "proofs") for path in (ROOT / "crates" / name / part).rglob("*"))
-    return stamp.exists() and all(path.stat().st_mtime <= stamp.stat().st_mtime for path in found)
+    stamp = ROOT / "crates" / name / "out" / "rlib" / "stamp"
+    return stamp.exists() and all(path.stat().st_mtime <= stamp.stat().st_mtime for path in parts(name))
 
 
 def expected(name):
@@ -85,57 +93,37 @@ def expected(name):
 
 
 class Progress:
-    """How far the proofs are, by what rt leaves of each crate in target/log."""
+    """How far the proofs are, by what rt says in the log: it names a crate when it begins with it, and takes one after the other."""
 
     def __init__(self, crates):
-        jobs = os.environ.get("RT_JOBS", "")
-        self.rounds = rounds(crates, int(jobs) if jobs.isdecimal() and int(jobs) else min(4, os.cpu_count() or 1))
-        self.names = [name for names in self.rounds for name in names]
+        self.names = order(crates)
         self.seconds = {}
         for name in self.names:
             again = name == NAME or not proved(name) or any(self.seconds[other] for other in crates[name])
             self.seconds[name] = expected(name) if again else 0
-        self.began, self.took, self.told = {}, {}, set()
+        self.began, self.took = {}, {}
         self.start = time.time()
         self.terminal, self.drawn = sys.stderr.isatty(), ""
 
-    def word(self, name):
-        """What rt left of this run: '' before it begins, 'failed' as long as it is not proved, 'proved'."""
-        path = TARGET / "log" / f"{name}.res"
-        try:
-            return path.read_text().strip() if path.stat().st_mtime >= self.start - 0.01 else ""
-        except OSError:
-            return ""
-
-    def unchanged(self, name):
-        try:
-            return "unchanged since" in (TARGET / "log" / f"{name}.out").read_text(errors="replace")
-        except OSError:
-            return False
-
     def look(self):
-        """Sees which crates have begun and which are proved, and tells of those that are new."""
+        """Sees which crates have begun and so which are proved, and tells of those that are new."""
         now = time.time()
-        for name in self.names:
-            word = "failed" if name == NAME and NAME in self.began else self.word(name)
-            if word and name not in self.began:
+        for name in BEGINS.findall(LOG.read_text(errors="replace")):
+            if name in self.seconds and name not in self.began:
+                # Those before it are proved, or nothing has changed in them: these rt passes over, and names none.
+                for other in self.names[: self.names.index(name)]:
+                    self.took.setdefault(other, max(1, now - self.began[other]) if other in self.began else 0)
                 self.began[name] = now
-            if word == "proved" and name not in self.took:
-                self.took[name] = 0 if self.unchanged(name) else max(1, now - self.began[name])
-            # One that is unchanged is passed over within a second, and not told of.
-            if name in self.began and self.took.get(name, now - self.began[name]) >= 1:
                 self.tell(name)
         if self.terminal:
-            proving = [name for name in self.names if name in self.told and name not in self.took]
+            proving = [name for name in self.began if name not in self.took]
             spent = int(now - self.start)
             self.line(f"{', '.join(proving) or 'looking'}: {spent // 60}:{spent % 60:02} so far, {self.to_go()} to go")
 
     def tell(self, name):
-        if name not in self.told:
-            self.told.add(name)
-            self.line("")
-            number = f"{list(self.began).index(name) + 1:2} of {len(self.names)}"
-            say(f"{number} {name:10} {self.to_go():>12} to go: {title(name)}")
+        self.line("")
+        number = f"{self.names.index(name) + 1:2} of {len(self.names)}"
+        say(f"{number} {name:10} {self.to_go():>12} to go: {title(name)}")
 
     def line(self, text):
         """On a terminal, a line that the next one takes the place of."""
@@ -151,23 +139,22 @@ class Progress:
         told = [name for name in spent if spent[name] > (0 if name in self.took else self.seconds[name])]
         # The first half minute says little of how slow this machine is.
         pace = (30 + sum(spent[name] for name in told)) / (30 + sum(self.seconds[name] for name in told))
-        left = 0
-        for names in self.rounds:
-            still = [name for name in names if name not in self.took]
-            left += max((max(1, pace * self.seconds[name] - spent.get(name, 0)) for name in still), default=0)
+        still = [name for name in self.names if name not in self.took]
+        left = sum(max(1, pace * self.seconds[name] - spent.get(name, 0)) for name in still)
         return f"about {round(left / 60)} min" if left >= 90 else f"about {max(10, round(left, -1)):.0f} s"
 
 
 def title(name):
     """What a crate is about: the first sentence of its source."""
-    first = (ROOT / "crates" / name / "src" / "lib.rt").read_text(errors="replace").split("\n")[0]
+    lines = (ROOT / "crates" / name / "src" / "lib.rt").read_text(errors="replace").split("\n")
+    first = next((line for line in lines if line.startswith("//")), "")
     return first.lstrip("/ ").split(". ")[0].rstrip(".")
 
 
-def run(words, log, progress=None):
+def run(words, log, folder=ROOT, progress=None):
     """Runs a command in a process group of its own, which ends with this program. Answers its exit status."""
     child = subprocess.Popen(
-        words, cwd=ROOT, stdin=subprocess.DEVNULL, stdout=log, stderr=subprocess.STDOUT, start_new_session=True
+        words, cwd=folder, stdin=subprocess.DEVNULL, stdout=log, stderr=subprocess.STDOUT, start_new_session=True
     )
     try:
         while child.poll() is None:
@@ -185,21 +172,21 @@ def run(words, log, progress=None):
             child.wait()
 
 
-def prove(words, log, progress):
-    """Has rt do something; where it fails, finds in the log at what."""
-    if run(words, log, progress) == 0:
+def prove(log, progress):
+    """Has rt prove the library and what it stands on, and make the archive; where it fails, finds in the log at what."""
+    words = ["rt", "lib"]
+    if run(words, log, FOLDER, progress) == 0:
         return
-    lines = [line for line in LOG.read_text(errors="replace").splitlines() if line.startswith("rt: ")]
-    names = [line.split()[1] for line in lines if "NOT PROVED (" in line]
+    said = LOG.read_text(errors="replace")
+    names = FAILS.findall(said) or ([NAME] if "\nlogic=not-proved" in said else [])
     if names:
         raise Failed(f"not proved: {', '.join(names)}")
-    raise Failed(lines[-1] if lines and " proved" not in lines[-1] else f"{' '.join(words)}")
+    raise Failed(" ".join(words))
 
 
 def build():
     """Proves, makes the archive and links it. The library appears whole or not at all."""
-    crates = listed()
-    progress = Progress(crates)
+    progress = Progress(listed())
     when = newest_source()
     count = len(progress.names)
     if not LIBRARY.exists():
@@ -207,10 +194,9 @@ def build():
     else:
         say(f"the sources have changed: what stands on them is proved again (log: {shown(LOG)})")
     with open(LOG, "w") as log:
-        # The crates below the library side by side; then the library itself, one by one.
-        prove(["rt", "check", *crates[NAME]], log, progress)
-        progress.began[NAME] = time.time()
-        prove(["rt", "staticlib", NAME], log, progress)
+        prove(log, progress)
+        ARCHIVE.parent.mkdir(exist_ok=True)
+        shutil.copyfile(FOLDER / "out" / ARCHIVE.name, ARCHIVE)
         fresh = TARGET / f".librachdoum.{os.getpid()}.so"
         try:
             words = ["cc", "-shared", "-o", fresh, "-Wl,--whole-archive", ARCHIVE, "-Wl,--no-whole-archive"]

@@ -4,7 +4,7 @@
 set -u
 cd "$(dirname "$0")/.." || exit 1
 program=${1:-target/bin/convert}
-[[ $# -gt 0 || -x $program ]] || rt check convert || exit 1
+[[ $# -gt 0 || -x $program ]] || scripts/make convert || exit 1
 . tests/parts/program.sh
 begin convert "$program"
 

@@ -34,12 +34,12 @@ installed() {
 
 # old ARCHIVE: there is none, or a source is newer
 old() {
-  [[ ! -e $1 || -n $(find crates.txt crates -name must-fail -prune -o -newer "$1" -print -quit) ]]
+  [[ ! -e $1 || -n $(find crates.txt crates/*/{src,specs,proofs} -newer "$1" -print -quit 2>/dev/null) ]]
 }
 
 archive=${RACHDOUM_LIB:-target/staticlib}/librachdoum.a
 if [[ -z ${RACHDOUM_LIB:-} ]] && old "$archive"; then
-  step 'archive' rt staticlib rachdoum
+  step 'archive' scripts/make rachdoum
 fi
 step 'shared library built' \
   cc -shared -o "$work/librachdoum.so" -Wl,--whole-archive "$archive" -Wl,--no-whole-archive

@@ -141,8 +141,8 @@ quiet_import() {
 }
 
 if [[ -z ${RACHDOUM_LIB:-} ]]; then
-  step 'archive' rt staticlib rachdoum
-  step 'archive of numbering alone' rt staticlib numbering
+  step 'archive' scripts/make rachdoum
+  step 'archive of numbering alone' scripts/make numbering
   RACHDOUM_LIB=$PWD/target/staticlib
 fi
 export RACHDOUM_LIB

@@ -4,7 +4,7 @@
 set -u
 cd "$(dirname "$0")/.." || exit 1
 program=${1:-target/bin/skeleton}
-[[ $# -gt 0 || -x $program ]] || rt check skeleton || exit 1
+[[ $# -gt 0 || -x $program ]] || scripts/make skeleton || exit 1
 . tests/parts/program.sh
 begin skeleton "$program"
 

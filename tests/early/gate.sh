@@ -35,6 +35,11 @@ stand_in 1 '"7 passed, 0 failed"'
 verdict 'rt ci ends with a status of its own' 1 '7 passed, 1 failed'
 stand_in 0 '"7 passed, 0 failed" "and more"'
 verdict 'the last line has another form' 1 '0 passed, 1 failed'
+edits='rt: ok; handles allowed: none; must-fail edits: 3 refused'
+stand_in 0 "'$edits; every proof was done in this run' '7 passed, 0 failed'"
+verdict 'no edit is bad' 0 '7 passed, 0 failed'
+stand_in 0 "'$edits, 1 bad; every proof was done in this run' '7 passed, 0 failed'"
+verdict 'an edit is bad' 1 '7 passed, 1 failed'
 stand_in 0 '"7 passed, 0 failed"'
 echo 'exit 1' >"$work/gate/tests/red.sh"
 verdict 'a test beside it fails' 1 '7 passed, 1 failed'
@@ -44,11 +49,25 @@ echo 'exit 1' >"$work/gate/tests/early/red.sh"
 verdict 'an early test fails' 1 '8 passed, 1 failed'
 echo 'exit 0' >"$work/gate/tests/early/red.sh"
 verdict 'an early test passes' 0 '9 passed, 0 failed'
+# an older program gives way to what rt ci built
+mkdir -p "$work/gate/crates/made/src" "$work/gate/crates/made/out" "$work/gate/target/bin"
+touch "$work/gate/crates/made/src/main.rt"
+echo new >"$work/gate/crates/made/out/made"
+echo old >"$work/gate/target/bin/made"
+echo '[[ -x target/bin/made && $(cat target/bin/made) == new ]]' >"$work/gate/tests/red.sh"
+verdict 'the programs that rt ci built are tested' 0 '9 passed, 0 failed'
+rm "$work/gate/crates/made/out/made"
+echo '[[ ! -e target/bin/made ]]' >"$work/gate/tests/red.sh"
+verdict 'a program that rt ci did not build is not there' 0 '9 passed, 0 failed'
 
-# refused NAME: the real gate must refuse the repository in $work/repo
+# refused NAME WORDS: the real gate must refuse the repository in $work/repo, for a reason that it gives in these words
 refused() {
   if (cd "$work/repo" && rt ci >"$work/log" 2>&1); then
     echo "gate: $1 was taken"
+    bad=1
+  elif ! grep -qF -- "$2" "$work/log"; then
+    echo "gate: $1 was refused for something else"
+    cat "$work/log"
     bad=1
   fi
 }
@@ -65,7 +84,7 @@ fresh() {
 
 # law PROOF: the one law, with this proof
 law() {
-  printf 'use mathlib.Core.Path.{_≡_, refl}\nuse Prim.Native.Nat.{ℕ, _+_}\n%s\npub law : _≡_ {A = ℕ} (1 + 1) 2\nlaw = %s\n' "${2:-}" "$1" >"$work/repo/crates/small/specs/Law.antt"
+  printf 'use Rattle.std.specs.Prelude.{◌≡◌, ◌+◌, refl}\n%s\npub law : 1 + 1 ≡ 2\nlaw = %s\n' "${2:+$'\n'$2$'\n'}" "$1" >"$work/repo/crates/small/specs/Law.antt"
 }
 
 fresh
@@ -77,16 +96,29 @@ fi
 fresh
 mkdir -p "$work/repo/crates/unlisted/src"
 echo '// No function.' >"$work/repo/crates/unlisted/src/lib.rt"
-refused 'a crate folder that crates.txt does not list'
+refused 'a crate folder that crates.txt does not list' 'no check reads'
 fresh
 law '?'
-refused 'a hole in a proof'
+refused 'a hole in a proof' '`law` is not admitted: has-holes'
 fresh
-law 'chosen' 'axiom chosen : _≡_ {A = ℕ} (1 + 1) 2'
-refused 'an axiom in a proof'
+law 'chosen' 'axiom chosen : 1 + 1 ≡ 2'
+refused 'an axiom in a proof' '`chosen` is not admitted: axiom'
 fresh
-sed -i 's/(1 + 1) 2$/(1 + 1) 3/' "$work/repo/crates/small/specs/Law.antt"
-refused 'a changed outcome'
+sed -i 's/1 + 1 ≡ 2$/1 + 1 ≡ 3/' "$work/repo/crates/small/specs/Law.antt"
+refused 'a changed outcome' 'expected type `1 + 1 ≡ 3`'
+
+# The real one takes an edit that cannot be applied, and `test` does not.
+fresh
+mkdir "$work/repo/crates/small/must-fail"
+printf 'file: specs/Law.antt\nold: 1 + 1 ≡ 4\nnew: 1 + 1 ≡ 3\n' >"$work/repo/crates/small/must-fail/odd.edit"
+cp -R "$here/test" "$here/scripts" "$work/repo"
+out=$(cd "$work/repo" && ./test 2>&1)
+status=$?
+if [[ $status -ne 1 || $(tail -n 1 <<<"$out") != '1 passed, 1 failed' ]]; then
+  echo "gate: an edit that cannot be applied: status $status"
+  echo "$out"
+  bad=1
+fi
 
 [ $bad -eq 0 ] && echo 'gate: red where it must be'
 exit $bad

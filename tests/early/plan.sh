@@ -31,16 +31,17 @@ ln -s "$(python3 -c 'import sys; print(sys.executable)')" "$tools/python3"
 cat >"$tools/rt" <<'END'
 #!/bin/sh
 echo "$*" >>"$WORK/calls"
-mkdir -p target/log target/staticlib
+[ "${PWD##*/}" = rachdoum ] || exit 3
 [ ! -e "$WORK/slow" ] || { sleep 600 & echo $! >"$WORK/sleeper"; wait; }
 while [ -e "$WORK/hold" ]; do sleep 0.05; done
-[ "$1" != check ] || { echo failed >target/log/small.res; sleep 0.3; }
-[ ! -e "$WORK/fail" ] || { echo 'rt: small NOT PROVED (exit 1, 0 s)'; echo 'rt: FAILED: small'; exit 1; }
-[ "$1" != "$(cat "$WORK/broken" 2>/dev/null)" ] || { echo 'error: a broken kit'; exit 2; }
-case $1 in
-check) echo proved >target/log/small.res; echo 'rt: small proved (1 s)' ;;
-staticlib) cp "$WORK/archive" target/staticlib/librachdoum.a ;;
-esac
+echo 'rt: chose --jobs 2 for small'
+sleep 0.3
+[ ! -e "$WORK/fail" ] || { echo 'rt: the library small did not build, so nothing above it was checked'; exit 1; }
+echo 'logic=proved functions=0'
+echo 'rt: chose --jobs 2 for rachdoum'
+[ ! -e "$WORK/fail-own" ] || { echo 'logic=not-proved'; exit 1; }
+[ ! -e "$WORK/broken" ] || { echo 'error: a broken kit'; exit 2; }
+mkdir -p out && cp "$WORK/archive" out/librachdoum.a
 END
 chmod +x "$tools/rt"
 export WORK=$work
@@ -50,7 +51,7 @@ repo=$work/repo
 mkdir -p "$repo/examples" "$repo/python/rachdoum" "$repo/crates/small/src" "$repo/crates/small/must-fail" "$repo/crates/rachdoum/src"
 cp "$here/plan" "$here/test" "$repo"
 cp -R "$here/scripts" "$repo/scripts"
-printf 'small:\nother: small\nrachdoum: small io\n' >"$repo/crates.txt"
+printf 'small:\nother: small\nrachdoum staticlib: small io\n' >"$repo/crates.txt"
 echo '// A small crate. It has no function.' >"$repo/crates/small/src/lib.rt"
 echo '// The entries.' >"$repo/crates/rachdoum/src/lib.rt"
 : >"$repo/python/rachdoum/__init__.py"
@@ -92,9 +93,10 @@ cd "$repo" || exit 1
 library=target/librachdoum.so
 
 run ./plan
-ended 0 'plan examples/huts.sheet 42' 2 && [[ $(sed -n 1p "$work/calls") == 'check small' ]] &&
-  [[ $(sed -n 2p "$work/calls") == 'staticlib rachdoum' ]] && grep -q '^plan: .*once: 2 crates, about ' "$work/err" &&
-  grep -q '^plan:  1 of 2 small .* to go: A small crate$' "$work/err" && grep -q 'small proved' target/plan.log
+ended 0 'plan examples/huts.sheet 42' 1 && [[ $(cat "$work/calls") == lib ]] &&
+  grep -q '^plan: .*once: 2 crates, about ' "$work/err" && grep -q '^plan:  1 of 2 small .* to go: A small crate$' "$work/err" &&
+  grep -q '^plan:  2 of 2 rachdoum .* to go: The entries$' "$work/err" && grep -q '^logic=proved' target/plan.log &&
+  cmp -s "$work/archive" target/staticlib/librachdoum.a
 verdict 'the first call builds'
 run ./plan
 ended 0 'plan examples/huts.sheet 42' 0 && [[ ! -s $work/err ]]
@@ -136,8 +138,13 @@ ended 0 'plan examples/huts.sheet 42' 0
 verdict 'a new edit asks for no build'
 touch crates/small/src/lib.rt
 run ./plan
-ended 0 'plan examples/huts.sheet 42' 2 && grep -q '^plan: the sources have changed' "$work/err"
+ended 0 'plan examples/huts.sheet 42' 1 && grep -q '^plan: the sources have changed' "$work/err"
 verdict 'a changed source is proved again'
+sleep 0.05
+touch crates/rachdoum/out/librachdoum.a crates/small
+run ./plan
+ended 0 'plan examples/huts.sheet 42' 0
+verdict 'what rt keeps asks for no build'
 touch -d '+1 hour' crates/small/src/lib.rt
 run ./plan
 run ./plan
@@ -150,15 +157,20 @@ run ./plan
 ended 2 '' 1 && [[ $(tail -n 1 "$work/err") == 'plan: the build failed: not proved: small (log: target/plan.log)' && ! -e $library ]]
 verdict 'a proof that fails'
 rm "$work/fail"
-echo staticlib >"$work/broken"
+touch "$work/fail-own"
 run ./plan
-ended 2 '' 2 && [[ $(tail -n 1 "$work/err") == 'plan: the build failed: rt staticlib rachdoum (log: target/plan.log)' && ! -e $library ]]
+ended 2 '' 1 && [[ $(tail -n 1 "$work/err") == 'plan: the build failed: not proved: rachdoum (log: target/plan.log)' && ! -e $library ]]
+verdict 'a proof of the library itself that fails'
+rm "$work/fail-own"
+touch "$work/broken"
+run ./plan
+ended 2 '' 1 && [[ $(tail -n 1 "$work/err") == 'plan: the build failed: rt lib (log: target/plan.log)' && ! -e $library ]]
 verdict 'an archive that fails'
 rm "$work/broken"
 cp "$work/archive" "$work/good"
 echo 'no archive' >"$work/archive"
 run ./plan
-ended 2 '' 2 && [[ $(tail -n 1 "$work/err") == 'plan: the build failed: cc cannot link the library (log: target/plan.log)' ]] &&
+ended 2 '' 1 && [[ $(tail -n 1 "$work/err") == 'plan: the build failed: cc cannot link the library (log: target/plan.log)' ]] &&
   [[ -z $(find target -name '*.so') ]]
 verdict 'a library that cannot be linked'
 cp "$work/good" "$work/archive"
@@ -172,6 +184,8 @@ interrupt() {
     ./plan >"$work/out" 2>"$work/err" &
   local plan=$!
   until_so test -s "$work/sleeper"
+  # (it may still be about to wait for the prover)
+  sleep 0.5
   kill "-$1" "$plan"
   wait "$plan"
   status=$?
@@ -204,7 +218,7 @@ rm "$work/hold"
 wait "$first"
 wait "$second"
 status=$?
-ended 0 'plan examples/huts.sheet 42' 2 && cmp -s "$work/out" "$work/other" && says 'plan: another call builds the library: waiting for it'
+ended 0 'plan examples/huts.sheet 42' 1 && cmp -s "$work/out" "$work/other" && says 'plan: another call builds the library: waiting for it'
 verdict 'two calls at once build once'
 
 # What is missing. The library is there, so only a changed source asks for the prover.
@@ -251,7 +265,7 @@ installs() {
   rm -f "$library" "$tools/cc" "$work/installed"
   touch "$work/$1"
   run ./plan
-  ended 0 'plan examples/huts.sheet 42' 2 && [[ $(head -n 1 "$work/err") == 'plan: installing gcc (log: '*'/target/needs.log)' ]] &&
+  ended 0 'plan examples/huts.sheet 42' 1 && [[ $(head -n 1 "$work/err") == 'plan: installing gcc (log: '*'/target/needs.log)' ]] &&
     [[ $(tr '\n' ';' <"$work/installed") == "$2" ]]
   verdict "root installs what is missing, lists $1"
 }
