@@ -1,20 +1,20 @@
 -- Laws of the lines of the table: line by line, member by member.
 -- Assumes nothing.
 use mathlib.Core.Path.{◌≡◌, refl, sym, ap, ap₂, ◌∙◌}
-use mathlib.Core.Bool.{Bool, true, false, not, ◌||◌, ◌&&◌}
+use mathlib.Core.Bool.{Bool, true, false, ◌||◌}
 use mathlib.Core.List.{List, [], ◌∷◌, ◌++◌, append_assoc, append-nil}
-use Prim.Native.Nat.{ℕ, zero, suc, ◌+◌, ◌-◌, ◌*◌, ◌<◌, ◌≤◌}
+use Prim.Native.Nat.{ℕ, zero, suc, ◌+◌, ◌*◌, ◌<◌, ◌≤◌}
 use native.Mathlib.Nat.{not-suc-le-zero, le_of_suc-le-suc}
 use native.Mathlib.Numerals.{add-one}
 use native.Mathlib.Omega.{arith}
 use lib.Dec.{eqb, ltb}
 use lib.IntN.{ℤ, pos, negsuc}
-use lib.ListN.{length, get_or, take, drop, length-append, drop_of_length-le}
+use lib.ListN.{length, get_or, take, drop, drop_of_length-le}
 use lib.Seq.{drop-cons, append_snoc, take-suc, get_or-take, length-take-le}
-use borrow.Author.Tests.{lt-ltb, eqb-true, eqb-false, eq-eqb, ne_eqb}
+use borrow.Author.Tests.{lt-ltb, eq-eqb, ne_eqb}
 use Rattle.rules.proofs.Lists.{length_tabulate, get_d_tabulate}
 use Rattle.rules.specs.Lists.{decimal_of}
-use Rattle.rules.specs.Table.{Row, refused_row, word_all, word_stratum, word_source, word_df, row_bytes, rows_bytes, signed, is_zero, source_rows, residual_rows, stratum_rows, strata_rows, word_total, word_residual}
+use Rattle.rules.specs.Table.{Row, refused_row, word_all, row_bytes, rows_bytes, signed, is_zero, source_rows, residual_rows, stratum_rows, strata_rows, word_total, word_residual}
 use Rattle.table.specs.Names.{name_in, names_in, among, residual_of, table_of}
 
 -- a line of three fields, field by field

@@ -190,10 +190,18 @@ module _ (n : ℕ) (some : 1 ≤ n) (few : n ≤ 240) (a : Answer) (t : Tells n 
     accepted_in u v f g = rw (f, g) accepted_holds
 
     -- and its lines are those of an accepted sheet
+    accepted_families : (u v : List ℕ) → u ≡ plot_buffer b a → v ≡ treatment_buffer c a
+        → accepted_rows text n levels (members_of n u x.plot) (members_of n v x.treatment) ≡ accepted_rows text n levels a.plot a.treatment
+    accepted_families u v f g =
+        ap₂ (accepted_rows text n levels) (ap (λ (y : List ℕ). members_of n y x.plot) f ∙ members_plot) (ap (λ (y : List ℕ). members_of n y x.treatment) g ∙ members_treatment)
+
+    accepted_design : accepted_rows text n levels a.plot a.treatment ≡ design_rows text n levels a
+    unfolding design_rows
+    accepted_design = sym (ap (λ (k : ℕ). elim k [ zero ↦ accepted_rows text n levels a.plot a.treatment | suc y ↦ design_refused_row text n levels a ∷ [] ]) none)
+
     pub accepted_rows_lem : (u v : List ℕ) → u ≡ plot_buffer b a → v ≡ treatment_buffer c a
         → accepted_rows text n levels (members_of n u x.plot) (members_of n v x.treatment) ≡ design_rows text n levels a
-    unfolding design_rows
-    accepted_rows_lem u v f g = rw (f, g) (rw (none, design_rows, members_plot, members_treatment))
+    accepted_rows_lem u v f g = accepted_families u v f g ∙ accepted_design
 
   -- a refused design has its one line
   pub refused_rows : (x : FullNumbers) → x ≡ full_numbers_of a → x.accepted ≡ false → (q i j : ℕ) → q ≡ x.refusal → i ≡ x.first → j ≡ x.second

@@ -1,4 +1,6 @@
 // The printed table of a sheet.
+#![tactic(auto)]
+
 ghost use Rattle.std.specs.Prelude.{◌≡◌, ◌≤◌, length};
 ghost use Rattle.rules.specs.Limits.{most_members, name_bytes};
 ghost use Rattle.rules.specs.Table.{table_text, skeleton_table, table_buffer, first_kind, second_kind};
