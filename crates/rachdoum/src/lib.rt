@@ -1,5 +1,7 @@
 // The entries as functions that C, Rust and Python call. Each answers the number of the refusal, 0 for none, and writes its
 // numbers whole into `answer`, 0 where there is none.
+#![tactic(auto)]
+
 ghost use Rattle.std.specs.Prelude.{◌≡◌, [], ◌∷◌, length};
 ghost use Rattle.rules.specs.Sheet.{reading, levels_after};
 ghost use Rattle.rules.specs.Design.{plot_design, plot_buffer, full_design, treatment_buffer};
