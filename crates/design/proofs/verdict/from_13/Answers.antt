@@ -1,7 +1,7 @@
 -- `verdict::from_13` meets its contract: a plot member and a treatment member that are not orthogonal, or too many suprema, or the final treatment family.
 use mathlib.Core.Path.{◌≡◌, refl, sym, ap, ◌∙◌, subst}
 use mathlib.Core.List.{List}
-use Prim.Native.Nat.{ℕ, ◌≤◌}
+use Prim.Native.Nat.{ℕ, ◌≤◌, ◌<◌}
 use native.Mathlib.Omega.{arith}
 use Rattle.rules.specs.Factor.{orthogonal}
 use Rattle.rules.specs.Family.{Family, members_of, written}
@@ -18,7 +18,7 @@ use Rattle.design.proofs.Order.{sorted_columns}
 use Rattle.design.proofs.Rewriting.{written_again}
 use Rattle.design.proofs.Suprema.{placing_over, placing_begun, final_over, final_listed, final_size, sorted_below}
 use Rattle.design.proofs.verdict.from_13.Goals as goal
-use Rattle.design.proofs.verdict.from_13.Goals.{After-cross-crossed, Else-at-ne0, Else-last-eq-TOO_MANY}
+use Rattle.design.proofs.verdict.from_13.Goals.{After-cross-crossed, Else-at-ne0}
 
 -- the plot members
 abbrev plots : After-cross-crossed → Family
@@ -62,10 +62,10 @@ asked : (c : Else-at-ne0) → let w = (goal.at.Else-at-ne0 c).After-cross-crosse
 asked c = let w = (goal.at.Else-at-ne0 c).After-cross-crossed in passed_13 (plots w) (treatments w) (pair w) (sym (places w).0 ∙ c.if-at-ne0.false)
 
 -- the suprema are the members found
-found : (c : Else-last-eq-TOO_MANY) → let w = (goal.at.Else-last-eq-TOO_MANY c).After-cross-crossed in Begun w.args.n (products only_supremum (plots w) (treatments w)) (store w) (counts w) w.cross-crossed.result.size
-found c =
-    let w = (goal.at.Else-last-eq-TOO_MANY c).After-cross-crossed in
-    placing_begun w.args.n (products only_supremum (plots w) (treatments w)) (store w) (counts w) w.cross-crossed.result.size c.if-last-eq-TOO_MANY.false (placed (goal.at.Else-last-eq-TOO_MANY c).Else-at-ne0)
+found : (c : Else-at-ne0) → (c.cross-crossed.result.size ≡ 33 → ⊥) → let w = (goal.at.Else-at-ne0 c).After-cross-crossed in Begun w.args.n (products only_supremum (plots w) (treatments w)) (store w) (counts w) w.cross-crossed.result.size
+found c d =
+    let w = (goal.at.Else-at-ne0 c).After-cross-crossed in
+    placing_begun w.args.n (products only_supremum (plots w) (treatments w)) (store w) (counts w) w.cross-crossed.result.size d (placed c)
 
 -- the first family is left where it stands
 left : (c : After-cross-crossed) → c.args.treatment_family.now ≡ written c.args.treatment_family.now 0 (treatments c)
@@ -81,26 +81,35 @@ returns-then-at-ne0 c =
       buffer = left w ∙ sym (told_buffer w.args.treatment_family.now t);
     }
 
-pub returns-then-last-eq-TOO_MANY : goal.returns-then-last-eq-TOO_MANY
-returns-then-last-eq-TOO_MANY c =
-    let e = (goal.at.returns-then-last-eq-TOO_MANY c).Else-at-ne0 in
-    let w = (goal.at.returns-then-last-eq-TOO_MANY c).After-cross-crossed in
-    let over = placing_over w.args.n (products only_supremum (plots w) (treatments w)) (store w) (counts w) w.cross-crossed.result.size c.if-last-eq-TOO_MANY.true (placed e) in
-    let t = told_14_over (plots w) (treatments w) (final_treatment_family (plots w) (treatments w)) (final_over (plots w) (treatments w) over) in record {
-      answer = c.treatments_refused-then-last-eq-TOO_MANY.ensures ∙ full_refusing_is 14 refl refl (plot-size w) (treatment-size w) ∙ sym t.numbers ∙ ap full_numbers_of (sym (asked e));
-      buffer = left w ∙ sym (told_buffer w.args.treatment_family.now t) ∙ ap (treatment_buffer w.args.treatment_family.now) (sym (asked e));
-    }
+-- 33 members found are too many
+over : (c : Else-at-ne0) → c.cross-crossed.result.size ≡ 33 → let w = (goal.at.Else-at-ne0 c).After-cross-crossed in 32 < length (final_treatment_family (plots w) (treatments w))
+over c e =
+    let w = (goal.at.Else-at-ne0 c).After-cross-crossed in
+    final_over (plots w) (treatments w) (placing_over w.args.n (products only_supremum (plots w) (treatments w)) (store w) (counts w) w.cross-crossed.result.size e (placed c))
+
+pub returns-then-last-eq-TOO_MANY-clause-answer : goal.returns-then-last-eq-TOO_MANY-clause-answer
+returns-then-last-eq-TOO_MANY-clause-answer c =
+    let e = (goal.at.returns-then-last-eq-TOO_MANY-clause-answer c).Else-at-ne0 in
+    let w = (goal.at.returns-then-last-eq-TOO_MANY-clause-answer c).After-cross-crossed in
+    let t = told_14_over (plots w) (treatments w) (final_treatment_family (plots w) (treatments w)) (over e c.if-last-eq-TOO_MANY.true) in
+    c.treatments_refused-then-last-eq-TOO_MANY.ensures ∙ full_refusing_is 14 refl refl (plot-size w) (treatment-size w) ∙ sym t.numbers ∙ ap full_numbers_of (sym (asked e))
+
+pub returns-then-last-eq-TOO_MANY-clause-buffer : goal.returns-then-last-eq-TOO_MANY-clause-buffer
+returns-then-last-eq-TOO_MANY-clause-buffer c =
+    let e = (goal.at.returns-then-last-eq-TOO_MANY-clause-buffer c).Else-at-ne0 in
+    let w = (goal.at.returns-then-last-eq-TOO_MANY-clause-buffer c).After-cross-crossed in
+    let t = told_14_over (plots w) (treatments w) (final_treatment_family (plots w) (treatments w)) (over e c.if-last-eq-TOO_MANY.true) in
+    left w ∙ sym (told_buffer w.args.treatment_family.now t) ∙ ap (treatment_buffer w.args.treatment_family.now) (sym (asked e))
 
 pub sort-order-requires : goal.sort-order-requires
 sort-order-requires c =
-    let b = found (goal.at.sort-order-requires c).Else-last-eq-TOO_MANY in
+    let b = found (goal.at.sort-order-requires c).Else-at-ne0 c.if-last-eq-TOO_MANY.false in
     (b.held, b.distinct)
 
 pub write-requires : goal.write-requires
 write-requires c =
-    let e = (goal.at.write-requires c).Else-last-eq-TOO_MANY in
     let w = (goal.at.write-requires c).After-cross-crossed in
-    let b = found e in
+    let b = found (goal.at.write-requires c).Else-at-ne0 c.if-last-eq-TOO_MANY.false in
     let order = c.sort-order.ensures in (
       b.held.most,
       b.held.room,
@@ -113,19 +122,18 @@ write-requires c =
 pub returns : goal.returns
 unfolding full_numbers
 returns c =
-    let e = (goal.at.returns c).Else-last-eq-TOO_MANY in
-    let e1 = (goal.at.returns c).Else-at-ne0 in
+    let e = (goal.at.returns c).Else-at-ne0 in
     let w = (goal.at.returns c).After-cross-crossed in
     let n = w.args.n in
     let size = w.cross-crossed.result.size in
-    let b = found e in
+    let b = found e c.if-last-eq-TOO_MANY.false in
     let R = final_treatment_family (plots w) (treatments w) in
     let many = final_size (plots w) (treatments w) n (store w) (counts w) size b in
     let t = told_14_on (plots w) (treatments w) R (subst (λ (k : ℕ). k ≤ 32) many b.held.few) in record {
-      answer = full_accepting_is (plot-size w) many ∙ sym t.numbers ∙ ap full_numbers_of (sym (asked e1));
+      answer = full_accepting_is (plot-size w) many ∙ sym t.numbers ∙ ap full_numbers_of (sym (asked e));
       buffer = c.write.ensures
           ∙ ap (written w.args.treatment_family.now 0)
           (sorted_columns n b.held.most (store w) size c.sort-order.result b.held.few c.sort-order.ensures ∙ final_listed (plots w) (treatments w) n (store w) (counts w) size b)
           ∙ sym (told_buffer w.args.treatment_family.now t)
-          ∙ ap (treatment_buffer w.args.treatment_family.now) (sym (asked e1));
+          ∙ ap (treatment_buffer w.args.treatment_family.now) (sym (asked e));
     }
