@@ -16,7 +16,7 @@ use Rattle.rules.specs.Relation.{member_at}
 use Rattle.rules.specs.Design.{Answer, full_design, plot_buffer, treatment_buffer}
 use Rattle.rules.specs.Sheet.{Outcome, read, refused, question3, reading, levels_after}
 use Rattle.rules.specs.Naming.{Kind, plot, treatment, name_at, name_on}
-use Rattle.rules.specs.Table.{Row, accepted_rows, design_refused_row, design_rows, outcome_rows, table_rows, table_text, skeleton_table, empty_table, rows_bytes, dash, place_name, strata_rows, first_kind, second_kind, family_of, refused_row, names_from}
+use Rattle.rules.specs.Table.{Row, accepted_rows, design_refused_row, design_rows, outcome_rows, table_rows, table_text, skeleton_table, table_buffer, empty_table, rows_bytes, dash, place_name, strata_rows, first_kind, second_kind, family_of, refused_row, names_from}
 use Rattle.rules.specs.Degrees.{degrees}
 use Rattle.rules.specs.Strata.{stratum, residuals, strata}
 use Rattle.rules.proofs.Buffer.{member_is, length_members}
@@ -29,6 +29,8 @@ use Rattle.rules.proofs.Made.{Tells, Placed, plot_back, plot_buffer_length, trea
 use Rattle.design.specs.Answers.{FullNumbers, full_numbers_of}
 use Rattle.naming.specs.Answers.{starting_with}
 use Rattle.strata.specs.Answers.{Analysis, with_degrees}
+use Rattle.table.specs.declared.Printed.TheVariants.{Refused}
+use Rattle.table.specs.Answers.{print_numbers, print_numbers_of}
 use Rattle.table.specs.Names.{Nameable, placed_name, table_of}
 use Rattle.table.specs.Designs.{Accepted, buffer_for, placed_row, named_rows}
 
@@ -258,6 +260,14 @@ module _ (text : List ℕ) where
   pub table_short : (m : ℕ) → m < 32768 → skeleton_table text m ≡ record { refusal = 6; text = [] }
   unfolding skeleton_table
   table_short m h = rw (lt-leb 32768 m h, skeleton_table)
+
+  -- what is answered and left where the buffer is too short
+  pub short_numbers : (m : ℕ) → m < 32768 → print_numbers (Refused 6) ≡ print_numbers_of (skeleton_table text m)
+  unfolding print_numbers print_numbers_of
+  short_numbers m h = rw (table_short m h)
+
+  pub short_buffer : (out : List ℕ) → length out < 32768 → out ≡ table_buffer out (skeleton_table text (length out))
+  short_buffer out h = rw (table_short (length out) h)
 
   pub table_whole : (m : ℕ) → 32768 ≤ m → skeleton_table text m ≡ record { refusal = 0; text = table_text text }
   unfolding skeleton_table

