@@ -33,4 +33,5 @@ slice_bounds-points-end c = omega (arith, c.meet_levels-m.ensures.points.on, len
 pub first_points-requires : goal.first_points-requires
 first_points-requires c =
     let u = (goal.at.first_points-requires c).After-uniform in
-    (c.requires.0, c.requires.1, c.requires.2, c.requires.3, c.requires.4, c.requires.5, c.requires.6, c.requires.7, c.requires.8, c.meet_levels-m.ensures.points, even u (c.if-not-uniform.false), c.meet_levels-m.ensures.coarser)
+    let e : c.uniform.result ≡ true = assumption in
+    (c.requires.0, c.requires.1, c.requires.2, c.requires.3, c.requires.4, c.requires.5, c.requires.6, c.requires.7, c.requires.8, c.meet_levels-m.ensures.points, even u e, c.meet_levels-m.ensures.coarser)
