@@ -89,7 +89,7 @@ def proved(name):
 
 def expected(name):
     """About how many seconds the proof of a crate takes: seen on one machine, it grows with the length of the code."""
-    return 3 + sum(path.stat().st_size for path in (ROOT / "crates" / name / "src").rglob("*.rt")) / 650
+    return 10 + sum(path.stat().st_size for path in (ROOT / "crates" / name / "src").rglob("*.rt")) / 900
 
 
 class Progress:
