@@ -11,17 +11,20 @@ use borrow.Author.Tests.{le-leb, lt-leb, leb-true}
 use Rattle.rules.specs.Limits.{most_plots, most_columns, most_text, most_formula}
 use Rattle.rules.specs.Sheet.{within, names_differ}
 use Rattle.rules.specs.Family.{columns_from, members_of}
-use Rattle.rules.specs.SheetText.{no_sheet}
-use Rattle.rules.specs.Formula.{Formula, names_of, counts_of, plot_count, columns_of, header_of, operators, items, Written, IsFormula, Parsed, nothing, parsed, formula_at, whole, formula_of, question18, question17, formula_sheet}
+use Rattle.rules.specs.SheetText.{no_sheet, sheet_buffer}
+use Rattle.rules.specs.Formula.{Formula, Planned, names_of, counts_of, plot_count, columns_of, header_of, operators, items, Written, IsFormula, Parsed, nothing, parsed, formula_at, whole, formula_of, question18, question17, formula_sheet}
 use Rattle.rules.proofs.Numbering.{by_cases}
 use Rattle.rules.proofs.Members.{clash}
 use Rattle.rules.proofs.Sheet.{and_left, and_right, and_false}
 use Rattle.rules.proofs.Grammar.{Begins, some, formula_begins}
-use Rattle.rules.proofs.Formula.{counts_names, written_good, plots_some, answered_18}
+use Rattle.rules.proofs.Formula.{counts_names, written_good, plots_some, answered_18, formula_planned}
+use Rattle.rules.proofs.SheetText.{buffer_sheet}
+use Rattle.writer.specs.Answers.{writing_numbers, answer_numbers}
+use Rattle.writer.specs.declared.Writing.TheVariants.{Refused}
 use Rattle.writer.specs.Rows.{columns_at}
 use Rattle.block_formula.specs.Text.{to_end, readable}
 use Rattle.block_formula.specs.Plots.{columns_in}
-use Rattle.block_formula.specs.Answers.{Within}
+use Rattle.block_formula.specs.Answers.{Within, HoldsPlanned}
 use Rattle.block_formula.proofs.NestingLaws.{seen_text_lem}
 use Rattle.block_formula.proofs.PlotLaws.{columns_are}
 
@@ -30,6 +33,22 @@ use Rattle.block_formula.proofs.PlotLaws.{columns_are}
 pub short_6 : (text : List ℕ) (outLength : ℕ) → outLength < most_text → formula_sheet text outLength ≡ no_sheet 6
 unfolding formula_sheet
 short_6 text outLength h = rw (lt-leb most_text outLength h, formula_sheet)
+
+-- what is answered and left where the buffer is too short
+pub short_numbers : (text : List ℕ) (m : ℕ) → m < 32768 → writing_numbers (Refused 6) ≡ answer_numbers (formula_sheet text m)
+unfolding writing_numbers answer_numbers
+short_numbers text m h = rw (short_6 text m h)
+
+pub short_sheet : (text out : List ℕ) → length out < 32768 → out ≡ sheet_buffer out (formula_sheet text (length out))
+short_sheet text out h = rw (short_6 text (length out) h)
+
+-- the last clause follows from the others
+pub planned_by : (text out after : List ℕ) → after ≡ sheet_buffer out (formula_sheet text (length out)) → HoldsPlanned text (length out) after
+planned_by text out after p e levels b h k =
+    subst (λ (t : List ℕ). Planned text t levels b) (sym (ap (take (length (formula_sheet text (length out)).sheet)) p ∙ buffer_sheet out (formula_sheet text (length out)))) (formula_planned text (length out) levels b e h k)
+
+pub short_planned : (text out : List ℕ) → length out < 32768 → HoldsPlanned text (length out) out
+short_planned text out h = planned_by text out out (short_sheet text out h)
 
 -- ---- 17
 

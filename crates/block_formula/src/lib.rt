@@ -25,6 +25,7 @@ const HEADINGS: usize = 2 + 3 * FORMULA;
 const NUMBERS: [u8; COLUMNS] = [0, 1, 2, 3, 4, 5];
 
 // Writes the sheet of a formula. A refusal writes nothing.
+#[tactic(auto, using(crate::proofs::AnswerLaws::short_numbers, crate::proofs::AnswerLaws::short_sheet, crate::proofs::AnswerLaws::short_planned))]
 pub fn expand(formula: &[u8], out: &mut [u8]) -> Writing
     ensures answer { writing_numbers result ≡ answer_numbers (formula_sheet formula.now (length out.old)) }
     ensures sheet { out.new ≡ sheet_buffer out.old (formula_sheet formula.now (length out.old)) }

@@ -105,4 +105,4 @@ item_end-returns t c =
     let x = a.text.now in
     let inner = formula_at a.steps operators in
     let open_is = ap (end_in (length x)) (item_open x a.at inner (omega arith) c.if-text-at-ne40.false) in
-    sym (open_is ∙ closed_yes x (a.at + 1) (inner (drop (a.at + 1) x)) (formula_begins a.steps operators (drop (a.at + 1) x)) c.formula_end-e.result c.formula_end-e.ensures c.if-e-eq0.false (omega arith) c.if-text-e-ne41.false)
+    sym (open_is ∙ closed_yes x (a.at + 1) (inner (drop (a.at + 1) x)) (formula_begins a.steps operators (drop (a.at + 1) x)) c.formula_end-e.result c.formula_end-e.ensures c.if-e-eq0.false (omega arith) (omega arith))
