@@ -1,5 +1,5 @@
 -- The text written is within its buffer, by the table's promise.
-use Rattle.std.proofs.Common.{◌≡◌, ℕ, ◌≤◌, List, arith, length, drop, take, sym, ap, length-append, length-take-le}
+use Rattle.std.proofs.Common.{◌≡◌, ℕ, ◌≤◌, List, arith, length, drop, sym, ap, length-append, length-take-le}
 use Rattle.rules.specs.Table.{skeleton_table, table_buffer}
 use Rattle.table.specs.declared.Printed.TheVariants.{Text}
 use Rattle.table.specs.Answers.{PrintNumbers, print_numbers, print_numbers_of}
