@@ -65,7 +65,8 @@ fails() {
   for one in $(each_of "$2"); do
     grep -qE "^fn $one: no proof: .*\`search\` did not prove" "$1" && return
   done
-  grep -E "^(\./)?$(proof_of "$2")/[A-Za-z]*\.antt:[0-9]+:[0-9]+: error" "$1" | grep -qvE "$misfit"
+  # What is missing may stand in the line after.
+  sed -z 's/\n  has no / has no /g' "$1" | grep -aE "^(\./)?$(proof_of "$2")/[A-Za-z]*\.antt:[0-9]+:[0-9]+: error" | grep -qvE "$misfit"
 }
 
 # law_fails LOG LAW: the law, in the file of proofs/ that has it, is refused or rests on one that is
@@ -90,9 +91,11 @@ fit() {
   (
     cd "$1/crates/$crate" || exit
     rt check --generated "$1/new" --start "$one" --allow-holes >/dev/null 2>&1
+    rt check --generated "$1/new/names" --old-names >/dev/null 2>&1
     mv src edited
     cp -a "$top/crates/$crate/src" src
     rt check --generated "$1/old" --start "$one" --allow-holes >/dev/null 2>&1
+    rt check --generated "$1/old/names" --old-names >/dev/null 2>&1
     rm -rf src
     mv edited src
     find proofs -regextype posix-extended -regex "$(proof_of "$3")/[A-Za-z]*\.antt" -exec python3 "$top/tests/parts/places.py" "$1/old" "$1/new" {} +
