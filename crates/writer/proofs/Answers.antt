@@ -10,11 +10,12 @@ use lib.ListN.{length, drop}
 use Rattle.rules.specs.SheetText.{SheetAnswer, sheet_buffer}
 use Rattle.rules.specs.Table.{rows_bytes, refused_row, dash}
 use Rattle.rules.proofs.Members.{clash}
+use Rattle.std.specs.Prelude.{Result, Ok, Err}
+use Rattle.refusal.specs.declared.Refusal.{Refusal}
+use Rattle.refusal.specs.Numbers.{number_of}
 use Rattle.decimal.specs.Writing.{Wrote, place_after, written}
 use Rattle.decimal.proofs.Writing.{wrote_as, written_all, place_all}
 use Rattle.writer.specs.Answers.{SheetNumbers, writing_numbers, answer_numbers, answer_text, Printed}
-use Rattle.writer.specs.declared.Writing.{Writing}
-use Rattle.writer.specs.declared.Writing.TheVariants.{Written, Refused}
 
 module _ (a : SheetAnswer) where
   text_0 : a.refusal ≡ 0 → answer_text a ≡ a.sheet
@@ -52,11 +53,11 @@ module _ (a : SheetAnswer) where
         some (suc x) z = ap (λ (y : ℕ). rows_bytes (refused_row y dash dash ∷ [])) (ap (λ (n : SheetNumbers). n.refusal) e ∙ z) ∙ sym (text_refused x z)
 
   -- an entry that writes a sheet, and then what is printed for its answer
-  pub answer_printed : (w : Writing) (out mid : List ℕ) {after : List ℕ} {r : ℕ} → length a.sheet ≤ length out → writing_numbers w ≡ answer_numbers a → mid ≡ sheet_buffer out a → Printed w mid after r
+  pub answer_printed : (w : Result ℕ Refusal) (out mid : List ℕ) {after : List ℕ} {r : ℕ} → length a.sheet ≤ length out → writing_numbers w ≡ answer_numbers a → mid ≡ sheet_buffer out a → Printed w mid after r
       → Wrote out 0 (answer_text a) after r
   unfolding writing_numbers
-  answer_printed (Written m) out mid fits e k p = let s = sheet_printed out mid m fits e k in (p.0 ∙ s.0, p.1 ∙ s.1)
-  answer_printed (Refused q) out mid fits e k p =
-      let kept = refused_kept q e out mid k in
-      let text : List ℕ = rows_bytes (refused_row q dash dash ∷ []) in
-      wrote_as out 0 (refused_printed q e) (p.0 ∙ ap (λ (o : List ℕ). place_after o 0 text) kept, p.1 ∙ ap (λ (o : List ℕ). written o 0 text) kept)
+  answer_printed (Ok m) out mid fits e k p = let s = sheet_printed out mid m fits e k in (p.0 ∙ s.0, p.1 ∙ s.1)
+  answer_printed (Err q) out mid fits e k p =
+      let kept = refused_kept (number_of q) e out mid k in
+      let text : List ℕ = rows_bytes (refused_row (number_of q) dash dash ∷ []) in
+      wrote_as out 0 (refused_printed (number_of q) e) (p.0 ∙ ap (λ (o : List ℕ). place_after o 0 text) kept, p.1 ∙ ap (λ (o : List ℕ). written o 0 text) kept)

@@ -8,13 +8,6 @@ ghost use Rattle.writer.specs.Rows.{columns_at, line_bytes, field_bytes, table_s
 use decimal::{write_byte, write_bytes, write_decimal};
 use limits::Level;
 
-// What an entry that writes a sheet answers: how many bytes the sheet has, or the number of the question that failed.
-#[derive(Clone, Copy)]
-pub enum Writing {
-    Written(usize),
-    Refused(u32),
-}
-
 // Writes a level, with a tab before it unless it is the first of its line.
 fn write_level(level: Level, i: usize, out: &mut [u8], at: usize) -> usize
     ensures { Wrote out.old at (field_bytes i (decimal_of level)) out.new result }
