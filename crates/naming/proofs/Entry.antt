@@ -31,8 +31,9 @@ use Rattle.naming.specs.declared.Kind.{Kind}
 use Rattle.naming.specs.declared.Kind.TheVariants.{Plot, Treatment}
 use Rattle.naming.specs.Answers.{kind_of, look_of, CountedIn, look_fits, member_fits, name_by, naming_by, starting_with, name_numbers, name_numbers_of}
 use Rattle.naming.specs.Columns.{InTable, own_of, looked_of, own_names, look_names}
-use Rattle.naming.specs.declared.Named.{Named}
-use Rattle.naming.specs.declared.Named.TheVariants.{Written, Refused}
+use Rattle.std.specs.Prelude.{Result, Ok, Err}
+use Rattle.refusal.specs.declared.Refusal.{Refusal}
+use Rattle.refusal.specs.Numbers.{number_of}
 
 -- ---- the columns looked at
 
@@ -176,16 +177,16 @@ named_for kind counts text levels F place room q c h e =
     ∙ ap (λ (X : List ℕ). record { refusal = 0; name = X }) (take_all room W (omega (arith, f.room, counted_short kind counts text levels place F q c h)) ∙ counted_on text counts c kind levels place F)
 
 -- what an answer says of the enum and of the buffer
-pub answered : (r : Named) (out after : List ℕ) (a b : NameAnswer) → b ≡ a → (name_numbers r ≡ name_numbers_of a) × (after ≡ name_buffer out a) → (name_numbers r ≡ name_numbers_of b) × (after ≡ name_buffer out b)
+pub answered : (r : Result ℕ Refusal) (out after : List ℕ) (a b : NameAnswer) → b ≡ a → (name_numbers r ≡ name_numbers_of a) × (after ≡ name_buffer out a) → (name_numbers r ≡ name_numbers_of b) × (after ≡ name_buffer out b)
 answered r out after a b e w = rw e w
 
-pub accepting : (m : ℕ) (out after W : List ℕ) (b : NameAnswer) → b ≡ record { refusal = 0; name = W } → m ≡ length W → after ≡ starting_with W out → (name_numbers (Written m) ≡ name_numbers_of b) × (after ≡ name_buffer out b)
+pub accepting : (m : ℕ) (out after W : List ℕ) (b : NameAnswer) → b ≡ record { refusal = 0; name = W } → m ≡ length W → after ≡ starting_with W out → (name_numbers (Ok m) ≡ name_numbers_of b) × (after ≡ name_buffer out b)
 unfolding name_numbers name_numbers_of
 accepting m out after W b e l w = rw (e, l) (refl, w)
 
-pub refusing : (q : ℕ) (out : List ℕ) (b : NameAnswer) → 0 < q → b ≡ name_refused q → (name_numbers (Refused q) ≡ name_numbers_of b) × (out ≡ name_buffer out b)
+pub refusing : (q : Refusal) (out : List ℕ) (b : NameAnswer) → 0 < number_of q → b ≡ name_refused (number_of q) → (name_numbers (Err q) ≡ name_numbers_of b) × (out ≡ name_buffer out b)
 unfolding name_numbers name_numbers_of
-refusing q out b h e = rw (e, ne_eqb q 0 (λ z. omega arith)) (refl, refl)
+refusing q out b h e = rw (e, ne_eqb (number_of q) 0 (λ z. omega arith)) (refl, refl)
 
 -- ---- the entry's questions
 
@@ -220,16 +221,6 @@ module _ (kind : Rule) (text : List ℕ) (n : ℕ) (levels : List ℕ) (S : Fami
     pub naming_found : well_formed S ≡ true → naming_from7 kind text n levels S place ≡ record { refusal = 0; name = name_at kind text n levels S place }
     unfolding naming_from7
     naming_found f = rw (e, f, naming_from7)
-
--- a text of 1 to 32,768 bytes, and others
-pub short_text : (text : List ℕ) → length text < 1 → question2 text ≡ false
-short_text text h = rw (lt-leb 1 (length text) h)
-
-pub long_text : (text : List ℕ) → 32768 < length text → question2 text ≡ false
-long_text text h = rw (le-leb 1 (length text) (omega arith), lt-leb (length text) 32768 h)
-
-pub good_text : (text : List ℕ) → 1 ≤ length text → length text ≤ 32768 → question2 text ≡ true
-good_text text h k = rw (le-leb 1 (length text) h, le-leb (length text) 32768 k)
 
 -- what question 6 tells
 pub record Ranges (n size place tableLength familyLength nameLength : ℕ) : Type 0 where

@@ -4,4 +4,5 @@ pub mod SideWalks
 pub mod Tables
 pub mod Rules
 pub mod Members
+pub mod Ranges
 pub mod Entry

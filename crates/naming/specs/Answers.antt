@@ -1,6 +1,6 @@
 -- The enums of the entries, read by the rules' definitions, and what naming one member by itself answers.
 -- Assumes nothing.
-use Rattle.std.specs.Prelude.{Bool, true, false, ◌&&◌, List, ◌++◌, ◌≡◌, ℕ, eqb, leb, length, take, drop}
+use Rattle.std.specs.Prelude.{Bool, true, false, ◌&&◌, List, ◌++◌, ◌≡◌, ℕ, Result, Ok, Err, eqb, leb, length, take, drop}
 use Rattle.rules.specs.Limits.{most_columns, table_cells, name_bytes}
 use Rattle.rules.specs.Factor.{Column}
 use Rattle.rules.specs.Design.{plots_within}
@@ -8,13 +8,13 @@ use Rattle.rules.specs.Family.{columns_from, members_of}
 use Rattle.rules.specs.Sheet.{column_names, count_kind, header, plot_mark, treatment_mark, question3}
 use Rattle.rules.specs.Names.{name_of, bytes_of}
 use Rattle.rules.specs.Naming.{Kind as Rule, plot, treatment, first_column, NameAnswer, name_refused, naming_within, naming_from7, naming}
+use Rattle.refusal.specs.declared.Refusal.{Refusal}
+use Rattle.refusal.specs.Numbers.{number_of}
 use Rattle.sheet.specs.declared.Counts.{Counts}
 use Rattle.naming.specs.Columns.{own_of, looked_of, own_names, look_names}
 use Rattle.naming.specs.declared.columns.Look.{Look}
 use Rattle.naming.specs.declared.Kind.{Kind}
 use Rattle.naming.specs.declared.Kind.TheVariants.{Plot, Treatment}
-use Rattle.naming.specs.declared.Named.{Named}
-use Rattle.naming.specs.declared.Named.TheVariants.{Written, Refused}
 
 -- the kind that the caller states
 abbrev pub kind_of : Kind → Rule
@@ -83,10 +83,10 @@ pub record NameNumbers : Type 0 where
   pub refusal : ℕ
   pub size : ℕ
 
--- each case of the enum
-unfoldable pub name_numbers : Named → NameNumbers
-name_numbers (Written m) = record { accepted = true; refusal = 0; size = m }
-name_numbers (Refused q) = record { accepted = false; refusal = q; size = 0 }
+-- each case of the result
+unfoldable pub name_numbers : Result ℕ Refusal → NameNumbers
+name_numbers (Ok m) = record { accepted = true; refusal = 0; size = m }
+name_numbers (Err q) = record { accepted = false; refusal = number_of q; size = 0 }
 
 -- an answer of the rules
 unfoldable pub name_numbers_of : NameAnswer → NameNumbers

@@ -1,6 +1,6 @@
 -- The names of all members of a family: 160 bytes a member, and the length of each name.
 -- Assumes nothing.
-use Rattle.std.specs.Prelude.{Bool, true, false, ◌&&◌, List, [], ◌∷◌, ◌++◌, ℕ, zero, suc, ◌+◌, ◌*◌, ◌≤◌, eqb, leb, length, take, drop, set}
+use Rattle.std.specs.Prelude.{Bool, true, false, ◌&&◌, List, [], ◌∷◌, ◌++◌, ℕ, zero, suc, ◌+◌, ◌*◌, ◌≤◌, Result, Ok, Err, eqb, leb, length, take, drop, set}
 use Rattle.rules.specs.Limits.{most_members, family_bytes, name_bytes}
 use Rattle.rules.specs.Factor.{Column, classes}
 use Rattle.rules.specs.Family.{alike}
@@ -11,6 +11,8 @@ use Rattle.naming.specs.declared.columns.Look.{Look}
 use Rattle.naming.specs.declared.sides.Side.{Side}
 use Rattle.naming.specs.declared.sides.Side.TheVariants.{Coarser, Finer}
 use Rattle.naming.specs.Columns.{own_in, looked_in, own_names, look_names, side_of, listed_by}
+use Rattle.refusal.specs.declared.Refusal.{Refusal}
+use Rattle.refusal.specs.declared.Refusal.TheVariants.{Limits}
 use Rattle.naming.specs.declared.Kind.{Kind}
 use Rattle.sheet.specs.declared.Counts.{Counts}
 use Rattle.naming.specs.Answers.{starting_with, look_fits, name_by, look_of}
@@ -83,10 +85,10 @@ unfolding look_fits
 members_fit look size tableLength familyLength nameLength lengths =
     look_fits look tableLength && leb size most_members && leb family_bytes familyLength && leb (name_bytes * size) nameLength && leb size lengths
 
--- the question that fails where these are out of range: 6; 0 where they are in range
-abbrev pub refusal6 : Bool → ℕ
-refusal6 true = 0
-refusal6 false = 6
+-- the answer where these are in range, and where they are out of range: 6
+abbrev pub answer6 : Bool → Result Unit Refusal
+answer6 true = Ok tt
+answer6 false = Err Limits
 
 -- as much of a name as its 160 bytes hold; by columns of a first line of the form it is the name
 abbrev pub held : (ℕ → List ℕ) → ℕ → List ℕ

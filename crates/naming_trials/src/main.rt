@@ -2,7 +2,8 @@
 #![tactic(auto)]
 
 use limits::Level;
-use naming::{Kind, Named};
+use naming::Kind;
+use refusal::Refusal;
 use std::io;
 
 mod tables;
@@ -61,19 +62,18 @@ fn member(
 }
 
 // One answer: the name and the byte past it, or the refusal and the first byte of the buffer.
-fn show(rt: &impl Print, answer: Named, name: &[u8]) -> io::Result<()> {
+fn show(rt: &impl Print, answer: Result<usize, Refusal>, name: &[u8]) -> io::Result<()> {
     match answer {
-        Named::Written(m) => {
-            if m < name.len() {
-                let end = m + 1;
-                rt.write_all(&name[0..end])?;
+        Ok(length) => {
+            if let Some(shown) = name.get(..=length) {
+                rt.write_all(shown)?;
             }
         }
-        Named::Refused(q) => {
+        Err(refusal) => {
             rt.write_all(b"refused ")?;
-            rt.print(q as u64)?;
-            if 1 < name.len() {
-                rt.write_all(&name[0..1])?;
+            rt.print(refusal.number() as u64)?;
+            if let Some(first) = name.get(..1) {
+                rt.write_all(first)?;
             }
         }
     }
