@@ -1,6 +1,6 @@
 -- Signed sums over places, counted from 0.
 -- Assumes nothing.
-use Rattle.std.specs.Prelude.{◌≡◌, Bool, true, false, List, ℕ, zero, suc, ◌≤◌, eqb, ℤ, pos, ◌+ℤ◌, ◌-ℤ◌, nat_abs, get_or, replicate}
+use Rattle.std.specs.Prelude.{Bool, true, false, List, ℕ, zero, suc, ◌≤◌, eqb, ℤ, pos, ◌+ℤ◌, ◌-ℤ◌, nat_abs, get_or}
 use Rattle.rules.specs.Limits.{most_members}
 use Rattle.rules.specs.Lists.{tabulate, for_places}
 
@@ -25,6 +25,6 @@ residual_at own numbers places m p = get_or own p (pos 0) -ℤ sum_passing (λ t
 abbrev pub residuals_of : List ℤ → List ℤ → List ℕ → ℕ → ℕ → List ℤ
 residuals_of own numbers places m k = for_places (pos 0) (tabulate (residual_at own numbers places m) k)
 
--- small numbers of plot and treatment members, and an array of zeros
-abbrev pub Unsubtracted : ℕ → ℕ → List ℤ → List ℤ → List ℤ → Type 0
-Unsubtracted k m own numbers left = (k ≤ most_members) × (m ≤ most_members) × AllSmall own × AllSmall numbers × (left ≡ replicate most_members (pos 0))
+-- small numbers of plot and treatment members
+abbrev pub Unsubtracted : ℕ → ℕ → List ℤ → List ℤ → Type 0
+Unsubtracted k m own numbers = (k ≤ most_members) × (m ≤ most_members) × AllSmall own × AllSmall numbers

@@ -1,31 +1,30 @@
 // The words of a family's relation: bit j of word i is for member j, both from 0.
-ghost use Rattle.std.specs.Prelude.{◌≡◌, ◌<◌, get_or};
+ghost use Rattle.std.specs.Prelude.{◌≡◌, ◌<◌, Ok, get_or};
 ghost use Rattle.std.specs.Int.Count.{ones};
 ghost use Rattle.rules.specs.Limits.{most_members};
 ghost use Rattle.rules.specs.Factor.{finer};
 ghost use Rattle.rules.specs.Family.{members_of};
 ghost use Rattle.rules.specs.Lists.{tabulate, for_places, bit_at};
-ghost use Rattle.rules.specs.Relation.{coarser_words, relation_of, relation_refused};
+ghost use Rattle.rules.specs.Relation.{coarser_words, relation_of};
 ghost use Rattle.families.specs.Lent.{column_at};
 ghost use Rattle.strata.specs.Answers.{relation_in};
 ghost use Rattle.strata.specs.Lent.{Formed};
 ghost use Rattle.strata.specs.Words.{AllWords, CountedBefore, FinerFrom, WordAfter, WordsBefore, direct_word, finer_word};
 
-use crate::RelationReport;
 use crate::family::{member_classes, member_finer};
 use limits::MEMBERS;
 
-// The answer of question `q` where it fails.
-pub fn refused(q: u8) -> RelationReport
-    ensures { relation_in result ≡ relation_refused q }
-{
-    RelationReport {
-        refusal: q,
-        size: 0,
-        coarser: [0u32; MEMBERS],
-        direct: [0u32; MEMBERS],
-        counts: [0u32; MEMBERS],
-    }
+// Who is strictly coarser than whom: bit j - 1 of member i's word is for member j. All 0 past the size.
+#[derive(Clone, Copy)]
+pub struct Relation {
+    // the family's size
+    pub size: usize,
+    // the strictly coarser members
+    pub coarser: [u32; MEMBERS],
+    // of these the neighbours directly above
+    pub direct: [u32; MEMBERS],
+    // how many neighbours there are directly above
+    pub counts: [u32; MEMBERS],
 }
 
 // Whether bit `j` of a word is set.
@@ -157,15 +156,14 @@ fn bit_counts(words: &[u32; MEMBERS]) -> [u32; MEMBERS]
 }
 
 // The relation of a family that 15 accepts.
-pub fn report(family: &[u8], n: usize, size: usize) -> RelationReport
+pub fn report(family: &[u8], n: usize, size: usize) -> Relation
     requires { Formed n family.now size }
-    ensures { relation_in result ≡ relation_of n (members_of n family.now size) }
+    ensures { relation_in (Ok result) ≡ relation_of n (members_of n family.now size) }
 {
     let coarser = coarser_words(family, n, size);
     let direct = direct_words(&coarser);
     let counts = bit_counts(&direct);
-    RelationReport {
-        refusal: 0,
+    Relation {
         size,
         coarser,
         direct,

@@ -3,18 +3,38 @@ ghost use Rattle.std.specs.Prelude.{◌≡◌, not, ◌≤◌, ◌<◌, eqb, get
 ghost use Rattle.rules.specs.Limits.{most_members};
 ghost use Rattle.rules.specs.Factor.{every, classes, finer};
 ghost use Rattle.rules.specs.Lists.{word_of};
-ghost use Rattle.rules.specs.Strata.{question15, question16};
+ghost use Rattle.rules.specs.Strata.{question16};
 ghost use Rattle.families.specs.Lent.{column_at};
-ghost use Rattle.strata.specs.Answers.{analysis_in, analysis_from, Cleared, LentCleared, strata_places, all_placed};
+ghost use Rattle.strata.specs.Answers.{analysis_in, analysis_from, strata_places, all_placed};
 ghost use Rattle.strata.specs.Lent.{Formed};
 ghost use Rattle.strata.specs.Sums.{Unsubtracted, residuals_of};
 ghost use Rattle.strata.specs.Words.{CandidatesBefore, CandidatesAsked, PlacesAsked, candidate_word, below, coarsest, first_passing};
 
-use crate::degrees::{fill_by_words, fill_degrees, less};
+use crate::degrees;
+use crate::degrees::less;
 use crate::family::{member_classes, member_finer};
 use crate::order::{coarser_words, has};
-use families::well_formed;
 use limits::MEMBERS;
+use refusal::Refusal;
+
+// All 0 past the sizes.
+#[derive(Clone, Copy)]
+pub struct Strata {
+    // for each treatment member the place of its stratum, from 1
+    pub places: [usize; MEMBERS],
+    // for each plot member its residual degrees of freedom
+    pub residuals: [i64; MEMBERS],
+}
+
+// Strata, with the degrees of freedom that their residuals are found by. All 0 past the sizes.
+#[derive(Clone, Copy)]
+pub struct Analysis {
+    pub strata: Strata,
+    // the degrees of freedom of each plot member
+    pub totals: [i64; MEMBERS],
+    // and of each treatment member
+    pub degrees: [i64; MEMBERS],
+}
 
 // The place of the member with a class for each plot, which only the last can be; 32 where there is none.
 fn finest_place(family: &[u8], n: usize, size: usize) -> usize
@@ -176,43 +196,40 @@ fn stratum_word(places: &[usize; MEMBERS], size: usize, place: usize) -> u32
     word
 }
 
-// Writes what is left to each plot member when the numbers of the treatment members in its stratum are taken from its own, where there
-// are zeros.
-fn fill_residuals(
+// What is left to each plot member when the numbers of the treatment members in its stratum are taken from its own.
+fn residuals(
     own: &[i64; MEMBERS],
     plot_size: usize,
     numbers: &[i64; MEMBERS],
     places: &[usize; MEMBERS],
     treatment_size: usize,
-    left: &mut [i64; MEMBERS],
-)
-    requires { Unsubtracted plot_size treatment_size own.now numbers.now left.old }
-    ensures { left.new ≡ residuals_of own.now numbers.now places.now treatment_size plot_size }
+) -> [i64; MEMBERS]
+    requires { Unsubtracted plot_size treatment_size own.now numbers.now }
+    ensures { result ≡ residuals_of own.now numbers.now places.now treatment_size plot_size }
 {
+    let mut left = [0i64; MEMBERS];
     for p in 0..plot_size {
         let word = stratum_word(places, treatment_size, p + 1);
         let start = own[p];
         let number = less(start, word, numbers, treatment_size);
         left[p] = number;
     }
+    left
 }
 
-// From question 16 on, of families that 15 accepts. Nine parameters: two families with their sizes, and an array for each list answered.
-fn from_16(
+// From question 16 on, of families that 15 accepts.
+pub fn from_16(
     plot_family: &[u8],
     plot_size: usize,
     treatment_family: &[u8],
     treatment_size: usize,
     n: usize,
-    totals: &mut [i64; MEMBERS],
-    numbers: &mut [i64; MEMBERS],
-    places: &mut [usize; MEMBERS],
-    left: &mut [i64; MEMBERS],
-) -> u8
-    requires { Formed n plot_family.now plot_size × Formed n treatment_family.now treatment_size × Cleared totals.old numbers.old places.old left.old }
-    ensures { analysis_in result totals.new numbers.new places.new left.new ≡ analysis_from question16 n plot_family.now plot_size treatment_family.now treatment_size }
+) -> Result<Analysis, Refusal>
+    requires { Formed n plot_family.now plot_size × Formed n treatment_family.now treatment_size }
+    ensures { analysis_in result ≡ analysis_from question16 n plot_family.now plot_size treatment_family.now treatment_size }
 {
     let words = coarser_words(plot_family, n, plot_size);
+    let mut places = [0usize; MEMBERS];
     if !fill_places(
         plot_family,
         plot_size,
@@ -220,47 +237,16 @@ fn from_16(
         treatment_size,
         n,
         &words,
-        places,
+        &mut places,
     ) {
-        *places = [0usize; MEMBERS];
-        return 16;
+        return Err(Refusal::Stratum);
     }
-    fill_by_words(plot_family, n, plot_size, &words, totals);
-    fill_degrees(treatment_family, n, treatment_size, numbers);
-    fill_residuals(totals, plot_size, numbers, places, treatment_size, left);
-    0
-}
-
-// From question 15 on, once 6 is answered; the parameters as above.
-pub fn from_15(
-    plot_family: &[u8],
-    plot_size: usize,
-    treatment_family: &[u8],
-    treatment_size: usize,
-    n: usize,
-    totals: &mut [i64; MEMBERS],
-    numbers: &mut [i64; MEMBERS],
-    places: &mut [usize; MEMBERS],
-    left: &mut [i64; MEMBERS],
-) -> u8
-    requires { LentCleared n plot_family.now treatment_family.now totals.old numbers.old places.old left.old }
-    ensures { analysis_in result totals.new numbers.new places.new left.new ≡ analysis_from question15 n plot_family.now plot_size treatment_family.now treatment_size }
-{
-    if !well_formed(plot_family, n, plot_size) {
-        return 15;
-    }
-    if !well_formed(treatment_family, n, treatment_size) {
-        return 15;
-    }
-    from_16(
-        plot_family,
-        plot_size,
-        treatment_family,
-        treatment_size,
-        n,
+    let totals = degrees::by_words(plot_family, n, plot_size, &words);
+    let degrees = degrees::of_family(treatment_family, n, treatment_size);
+    let residuals = residuals(&totals, plot_size, &degrees, &places, treatment_size);
+    Ok(Analysis {
+        strata: Strata { places, residuals },
         totals,
-        numbers,
-        places,
-        left,
-    )
+        degrees,
+    })
 }

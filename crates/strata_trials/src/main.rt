@@ -58,7 +58,7 @@ fn trial(
     let mut family = [0u8; 7680];
     rt.write_all(title)?;
     trial_families::columns(&mut family, plots, digits);
-    show::whole(rt, &family, plots, size)
+    show::family(rt, &family, plots, size)
 }
 
 // A plot family and a treatment family.
@@ -112,12 +112,12 @@ fn example(
 fn refusals(rt: &impl Print) -> io::Result<()> {
     let family = [1u8; 7680];
     rt.write_all(b"refusals\n")?;
-    show::whole(rt, &family, 0, 1)?;
-    show::whole(rt, &family, 241, 1)?;
+    show::family(rt, &family, 0, 1)?;
+    show::family(rt, &family, 241, 1)?;
     show::family(rt, &family[..7679], 4, 1)?;
     show::family(rt, &family[..7679], 4, 0)?;
-    show::whole(rt, &family, 4, 0)?;
-    show::whole(rt, &family, 4, 33)?;
+    show::family(rt, &family, 4, 0)?;
+    show::family(rt, &family, 4, 33)?;
     trial(rt, b"twice\n", 4, 3, b"111111221122")?;
     trial(rt, b"unsorted\n", 4, 3, b"111111221112")?;
     trial(rt, b"numbers\n", 4, 3, b"111111221131")

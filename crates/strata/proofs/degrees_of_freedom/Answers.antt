@@ -1,41 +1,16 @@
--- `degrees_of_freedom` meets its contract: questions 6 and 15 are asked in turn.
-use mathlib.Core.Path.{◌≡◌, sym, ◌∙◌}
-use mathlib.Core.Bool.{true, false}
-use lib.ListN.{length}
-use Rattle.rules.specs.Family.{members_of, well_formed}
-use Rattle.rules.specs.Relation.{family_within}
-use Rattle.families.proofs.Lent.{formed_in_lem, within_limits_lem}
-use Rattle.strata.proofs.Lent.{formed_family}
-use Rattle.strata.proofs.Questions.{degrees_6, degrees_15, degrees_found_lem}
+-- `degrees_of_freedom` meets its contract: a family is accepted, or the first question whose answer is no is reported.
+use Rattle.std.proofs.Common.{ap, ◌∙◌, Err}
+use Rattle.std.proofs.lemmas.Result.{err_from_is_err_and}
+use Rattle.strata.proofs.Questions.{degrees_no, degrees_yes}
 use Rattle.strata.proofs.degrees_of_freedom.Goals as goal
 
-pub returns-then-not-within : goal.returns-then-not-within
-unfolding family_within
-returns-then-not-within c =
-    let a = c.args in
-    let e : family_within a.plots a.family.now ≡ false = sym c.within.ensures ∙ c.if-not-within.true in
-    c.refused.ensures ∙ sym (degrees_6 a.plots a.family.now a.size e)
-
-pub returns-then-not-well_formed : goal.returns-then-not-well_formed
-unfolding family_within
-returns-then-not-well_formed c =
-    let a = c.args in
-    let e : family_within a.plots a.family.now ≡ true = sym c.within.ensures ∙ c.if-not-within.false in
-    let w = within_limits_lem a.plots (length a.family.now) e in
-    let f : well_formed (members_of a.plots a.family.now a.size) ≡ false = sym (c.well_formed-2.ensures ∙ formed_in_lem a.plots a.family.now a.size w.few_plots w.long) ∙ c.if-not-well_formed.true in
-    c.refused-then-not-well_formed.ensures ∙ sym (degrees_15 a.plots a.family.now a.size e f)
-
-pub report-requires : goal.report-requires
-report-requires c =
-    let a = c.args in
-    let w = within_limits_lem a.plots (length a.family.now) (sym c.within.ensures ∙ c.if-not-within.false) in
-    formed_family a.plots a.family.now a.size w (sym (c.well_formed-2.ensures ∙ formed_in_lem a.plots a.family.now a.size w.few_plots w.long) ∙ c.if-not-well_formed.false)
+pub returns-in_err-family : goal.returns-in_err-family
+returns-in_err-family c =
+    let p = err_from_is_err_and c.from_residual.result c.from_residual.ensures.1 in
+    degrees_no c.args.plots c.args.family.now c.args.size _ c.from_residual.result (p.1 ∙ ap Err p.2) c.in_err-family.ensures.err
 
 pub returns : goal.returns
-unfolding family_within
 returns c =
     let a = c.args in
-    let e : family_within a.plots a.family.now ≡ true = sym c.within.ensures ∙ c.if-not-within.false in
-    let w = within_limits_lem a.plots (length a.family.now) e in
-    let f : well_formed (members_of a.plots a.family.now a.size) ≡ true = sym (c.well_formed-2.ensures ∙ formed_in_lem a.plots a.family.now a.size w.few_plots w.long) ∙ c.if-not-well_formed.false in
-    c.report.ensures ∙ sym (degrees_found_lem a.plots a.family.now a.size e f)
+    let o = c.in_ok-family.ensures.ok in
+    degrees_yes a.plots a.family.now a.size _ (rw (o.0, o.1, o.2) at c.of_family.ensures) o.3

@@ -20,12 +20,12 @@ use Rattle.strata.specs.Sums.{AllSmall, sum_passing}
 use Rattle.strata.proofs.Lent.{accepted_members, size_members}
 use Rattle.strata.proofs.Sums.{small_fits, small_take, small_places}
 use Rattle.strata.proofs.DegreeTurns.{few_classes, small_degrees, degree_turn}
-use Rattle.strata.proofs.degrees.fill_by_words.Goals as goal
+use Rattle.strata.proofs.degrees.by_words.Goals as goal
 
 pub loop-i-init : goal.loop-i-init
 loop-i-init c =
     let a = c.args in
-    (omega arith, c.requires.2 ∙ places_start (pos 0) (degrees a.n (members_of a.n a.family.now a.size)))
+    (omega arith, places_start (pos 0) (degrees a.n (members_of a.n a.family.now a.size)))
 
 pub member_classes-own-requires : goal.member_classes-own-requires
 member_classes-own-requires c =

@@ -11,12 +11,12 @@ use Rattle.strata.specs.Sums.{sum_passing, residual_at}
 use Rattle.strata.proofs.Fill.{up_start, up_step, up_end}
 use Rattle.strata.proofs.Sums.{small_fits}
 use Rattle.strata.proofs.StratumLaws.{residual_turn, residual_fits}
-use Rattle.strata.proofs.stratum.fill_residuals.Goals as goal
+use Rattle.strata.proofs.stratum.residuals.Goals as goal
 
 pub loop-p-init : goal.loop-p-init
 loop-p-init c =
     let a = c.args in
-    (omega arith, c.requires.4 ∙ up_start (pos 0) (residual_at a.own.now a.numbers.now a.places.now a.treatment_size) a.plot_size)
+    (omega arith, up_start (pos 0) (residual_at a.own.now a.numbers.now a.places.now a.treatment_size) a.plot_size)
 
 pub less-number-requires : goal.less-number-requires
 less-number-requires c =
