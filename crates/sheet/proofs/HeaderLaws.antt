@@ -4,6 +4,7 @@ use mathlib.Core.Path.{◌≡◌, refl, sym, ap, ◌∙◌}
 use mathlib.Core.Bool.{Bool, true, false, ◌&&◌}
 use mathlib.Core.List.{List, [], ◌∷◌, ◌++◌}
 use mathlib.Core.Logic.{◌⊎◌, ⊎_elim}
+use Rattle.std.specs.Prelude.{Some, None}
 use Prim.Native.Nat.{ℕ, suc, ◌+◌, ◌-◌, ◌≤◌, ◌<◌}
 use native.Mathlib.Omega.{arith}
 use native.Mathlib.Nat.{zero-add, add-zero}
@@ -17,7 +18,7 @@ use Rattle.rules.proofs.Sheet.{and_false, and_left, and_right, fields_some, kind
 use Rattle.rules.proofs.Members.{clash}
 use Rattle.rules.proofs.Numbering.{by_cases}
 use Rattle.sheet.specs.Walk.{field_of, column_there}
-use Rattle.sheet.specs.Answers.{padded, no_header, markable, marked, first_line, headed}
+use Rattle.sheet.specs.Answers.{padded, markable, marked, first_line, headed}
 use Rattle.sheet.specs.declared.header.Header.{Header}
 use Rattle.sheet.proofs.Stops.{AtTab, AtNewline, AtEnd, Stop, at_tab, at_newline, at_end, stop, field_byte, field_part, field_next}
 use Rattle.sheet.proofs.ColumnLaws.{Column, column_long}
@@ -108,12 +109,12 @@ module _ (f : Field) (p t : ℕ) (e : is_column f ≡ true) where
         takes = λ F. rw (k.0, add-one, columns_after);
       }
 
-marked_no : (at p t : ℕ) (cs xs : List ℕ) → markable p t xs ≡ false → marked at p t cs xs ≡ no_header
+marked_no : (at p t : ℕ) (cs xs : List ℕ) → markable p t xs ≡ false → marked at p t cs xs ≡ None
 unfolding marked
 marked_no at p t cs xs e = rw (e, marked)
 
 marked_yes : (at p t : ℕ) (cs xs : List ℕ) → markable p t xs ≡ true
-    → marked at p t cs xs ≡ record { end = at + suc (length (up_to 10 xs)); plot_columns = p + count_kind 112 (header xs); treatment_columns = t + count_kind 116 (header xs); columns = padded (cs ++ columns_after p t (header xs)) }
+    → marked at p t cs xs ≡ Some (record { end = at + suc (length (up_to 10 xs)); plot_columns = p + count_kind 112 (header xs); treatment_columns = t + count_kind 116 (header xs); columns = padded (cs ++ columns_after p t (header xs)) })
 unfolding marked
 marked_yes at p t cs xs e = rw (e, marked)
 
@@ -123,7 +124,7 @@ markable_no p t xs e = rw (e, and_false (has 10 xs))
 
 module _ (text : List ℕ) (at p t : ℕ) (cs : List ℕ) where
   -- no column, or one that nothing ends
-  pub marks_off : column_there (drop at text) ≡ false → marked at p t cs (drop at text) ≡ no_header
+  pub marks_off : column_there (drop at text) ≡ false → marked at p t cs (drop at text) ≡ None
   unfolding column_there all markable header
   marks_off n = marked_no at p t cs (drop at text) (go (stop (drop at text)))
     where
@@ -141,7 +142,7 @@ module _ (text : List ℕ) (at p t : ℕ) (cs : List ℕ) where
     in_text = omega (arith, k.ended)
 
     -- one too many of its kind
-    pub marks_over : (6 < p') ⊎ (6 < t') → marked at p t cs (drop at text) ≡ no_header
+    pub marks_over : (6 < p') ⊎ (6 < t') → marked at p t cs (drop at text) ≡ None
     unfolding markable
     marks_over h =
         marked_no at p t cs (drop at text)
@@ -156,7 +157,7 @@ module _ (text : List ℕ) (at p t : ℕ) (cs : List ℕ) where
             (λ l. rw (q, m.treatments F, lt-leb (t' + count_kind 116 F) 6 (omega arith)) (and_false (has 10 (drop at text) && all is_column (field_of (drop at text) ∷ F) && leb (p + count_kind 112 (field_of (drop at text) ∷ F)) 6)))
             h
 
-    pub marks_last : get_or text e 0 ≡ 10 → p' ≤ 6 → t' ≤ 6 → marked at p t cs (drop at text) ≡ record { end = e + 1; plot_columns = p'; treatment_columns = t'; columns = padded (cs ++ c ∷ []) }
+    pub marks_last : get_or text e 0 ≡ 10 → p' ≤ 6 → t' ≤ 6 → marked at p t cs (drop at text) ≡ Some (record { end = e + 1; plot_columns = p'; treatment_columns = t'; columns = padded (cs ++ c ∷ []) })
     unfolding markable all count_kind columns_after
     marks_last b hp ht =
         let r = newline_here text at e d in_text b in
@@ -285,11 +286,11 @@ pub record Step (f : Field) (p t : ℕ) (r : List ℕ) (p' t' : ℕ) (r' : List 
 
 -- ---- question 3
 
-pub headed_no : (text : List ℕ) → question3 text ≡ false → headed text ≡ no_header
+pub headed_no : (text : List ℕ) → question3 text ≡ false → headed text ≡ None
 unfolding headed
 headed_no text e = rw (e, headed)
 
-pub headed_yes : (text : List ℕ) → question3 text ≡ true → headed text ≡ first_line text
+pub headed_yes : (text : List ℕ) → question3 text ≡ true → headed text ≡ Some (first_line text)
 unfolding headed
 headed_yes text e = rw (e, headed)
 
@@ -335,17 +336,12 @@ module _ (text : List ℕ) where
       rw (m.ended, le-leb 1 (length (header text)) (fields_some (up_to 10 text)), le-leb (length (header text)) 12 (omega (arith, m.plots, m.treatments)), m.columns, le-leb (count_kind 112 (header text)) 6 m.plots, le-leb (count_kind 116 (header text)) 6 m.treatments, n)
 
   -- what the walk over the fields found
-  module _ (h : Header) (e : h ≡ marked 0 0 0 [] text) where
-    pub found : (h.end ≡ 0 → ⊥) → markable 0 0 text ≡ true
-    found n = by_cases (markable 0 0 text) (λ a. a) (λ a. absurd (n (ap (λ (h : Header). h.end) (e ∙ marked_no 0 0 0 [] text a))))
+  pub found_line : markable 0 0 text ≡ true → marked 0 0 0 [] text ≡ Some (first_line text)
+  unfolding marked first_line
+  found_line a = rw (a, marked, zero-add, zero-add, zero-add)
 
-    pub found_line : markable 0 0 text ≡ true → h ≡ first_line text
-    unfolding marked first_line
-    found_line a = e ∙ rw (a, marked, zero-add, zero-add, zero-add)
+  pub found : (h : Header) → Some h ≡ marked 0 0 0 [] text → markable 0 0 text ≡ true
+  found h e = by_cases (markable 0 0 text) (λ a. a) (λ a. let n = marked_no 0 0 0 [] text a in cc)
 
-    pub not_found : h.end ≡ 0 → markable 0 0 text ≡ false
-    unfolding first_line
-    not_found z = by_cases (markable 0 0 text) (λ a. absurd (no (sym (ap (λ (h : Header). h.end) (found_line a)) ∙ z))) (λ a. a)
-      where
-        no : suc (length (up_to 10 text)) ≡ 0 → ⊥
-        no z = omega arith
+  pub not_found : None ≡ marked 0 0 0 [] text → markable 0 0 text ≡ false
+  not_found e = by_cases (markable 0 0 text) (λ a. let y = found_line a in cc) (λ a. a)

@@ -1,6 +1,6 @@
 -- Laws of the place of a column's name, field by field, and of the bytes there.
 -- Assumes nothing.
-use mathlib.Core.Path.{◌≡◌, refl, sym, ap, ◌∙◌}
+use mathlib.Core.Path.{◌≡◌, refl, sym, ap, ◌∙◌, subst}
 use mathlib.Core.Bool.{true, false, ◌||◌}
 use mathlib.Core.List.{List, [], ◌∷◌}
 use Prim.Native.Nat.{ℕ, zero, suc, ◌+◌, ◌≤◌, ◌<◌, min}
@@ -12,8 +12,9 @@ use borrow.Author.Tests.{ltb-true, ltb-false}
 use Rattle.rules.specs.Sheet.{Field, up_to, fields, is_kind, column_names, header}
 use Rattle.rules.proofs.Numbering.{by_cases}
 use Rattle.sheet.specs.Walk.{field_of}
-use Rattle.sheet.specs.Answers.{past_mark, no_span, span_from, column_span}
-use Rattle.sheet.specs.declared.header.Span.{Span}
+use Rattle.sheet.specs.Answers.{past_mark, span_from, column_span}
+use Rattle.std.specs.Prelude.{Option, Some, None}
+use Rattle.std.specs.declared.ops.Range.{Range}
 use Rattle.sheet.proofs.Stops.{Stop, at_tab, at_newline, at_end, stop, field_part, field_next}
 use Rattle.sheet.proofs.Walk.{slice_none}
 use Rattle.sheet.proofs.HeaderLaws.{name_part, newline_here, tab_here, end_here}
@@ -21,7 +22,7 @@ use Rattle.sheet.proofs.HeaderLaws.{name_part, newline_here, tab_here, end_here}
 -- ---- a field more
 
 module _ (mark at : ℕ) (f : Field) (R : List Field) where
-  span_here : is_kind mark f ≡ true → span_from mark 0 at (f ∷ R) ≡ past_mark at (at + length f)
+  span_here : is_kind mark f ≡ true → span_from mark 0 at (f ∷ R) ≡ Some (past_mark at (at + length f))
   unfolding span_from
   span_here e = rw (e, span_from)
 
@@ -34,9 +35,9 @@ module _ (mark at : ℕ) (f : Field) (R : List Field) where
   span_other zero e = rw (e, span_from)
   span_other (suc k) e = rw (e, span_from)
 
-no_span_lem : (mark k at : ℕ) → span_from mark k at [] ≡ no_span
+span_nowhere : (mark k at : ℕ) → span_from mark k at [] ≡ None
 unfolding span_from
-no_span_lem mark k at = refl
+span_nowhere mark k at = refl
 
 field_short : (xs : List ℕ) → length (field_of xs) ≤ length xs
 unfolding field_of
@@ -57,14 +58,14 @@ module _ (text : List ℕ) (at e : ℕ) (d : e ≡ at + length (field_of (drop a
   whole : at + length (slice at e text) ≡ e
   whole = rw (field_part text at e d) (sym d)
 
-  pub span_first : (mark : ℕ) → is_kind mark (slice at e text) ≡ true → span_from mark 0 at (header (drop at text)) ≡ past_mark at e
+  pub span_first : (mark : ℕ) → is_kind mark (slice at e text) ≡ true → span_from mark 0 at (header (drop at text)) ≡ Some (past_mark at e)
   unfolding header
   span_first mark k = go (stop (drop at text))
     where
-      one : (R : List Field) → fields (up_to 10 (drop at text)) ≡ field_of (drop at text) ∷ R → span_from mark 0 at (fields (up_to 10 (drop at text))) ≡ past_mark at e
-      one R p = rw (p, ← (field_part text at e d)) (span_here mark at (slice at e text) R k ∙ ap (past_mark at) whole)
+      one : (R : List Field) → fields (up_to 10 (drop at text)) ≡ field_of (drop at text) ∷ R → span_from mark 0 at (fields (up_to 10 (drop at text))) ≡ Some (past_mark at e)
+      one R p = rw (p, ← (field_part text at e d)) (span_here mark at (slice at e text) R k ∙ ap (λ (x : ℕ). Some (past_mark at x)) whole)
 
-      go : Stop (drop at text) → span_from mark 0 at (fields (up_to 10 (drop at text))) ≡ past_mark at e
+      go : Stop (drop at text) → span_from mark 0 at (fields (up_to 10 (drop at text))) ≡ Some (past_mark at e)
       go (at_tab r) = one _ r.parts
       go (at_newline r) = one [] r.parts
       go (at_end r) = one [] r.parts
@@ -80,15 +81,15 @@ module _ (text : List ℕ) (at e : ℕ) (d : e ≡ at + length (field_of (drop a
   passed_other mark j k R = span_other mark at (slice at e text) R j k ∙ ap (λ (x : ℕ). span_from mark j (suc x) R) whole
 
   module _ (mark k j : ℕ) (t : Passed mark k j) where
-    last : fields (up_to 10 (drop at text)) ≡ field_of (drop at text) ∷ [] → span_from mark k at (header (drop at text)) ≡ no_span
+    last : fields (up_to 10 (drop at text)) ≡ field_of (drop at text) ∷ [] → span_from mark k at (header (drop at text)) ≡ None
     unfolding header
-    last p = rw (p, ← (field_part text at e d)) (t [] ∙ no_span_lem mark j (suc e))
+    last p = rw (p, ← (field_part text at e d)) (t [] ∙ span_nowhere mark j (suc e))
 
-    pub span_unended : length text ≤ e → span_from mark k at (header (drop at text)) ≡ no_span
+    pub span_unended : length text ≤ e → span_from mark k at (header (drop at text)) ≡ None
     span_unended h = last (end_here text at e d h).parts
 
-    pub span_none : e < length text → get_or text e 0 ≡ 10 → span_from mark k at (header (drop at text)) ≡ no_span
-    span_none h b = last (newline_here text at e d h b).parts
+    pub span_last : e < length text → get_or text e 0 ≡ 10 → span_from mark k at (header (drop at text)) ≡ None
+    span_last h b = last (newline_here text at e d h b).parts
 
     pub span_on : e < length text → (get_or text e 0 ≡ 10 → ⊥) → span_from mark k at (header (drop at text)) ≡ span_from mark j (e + 1) (header (drop (e + 1) text))
     unfolding header
@@ -156,13 +157,18 @@ module _ (text : List ℕ) where
       go (at_end r) = let e = first [] r.parts in (e.0, none e.1)
 
   -- a part of the text that is so many bytes
-  pub record Part (s : Span) (bytes : List ℕ) : Type 0 where
+  pub record Part (s : Range ℕ) (bytes : List ℕ) : Type 0 where
     pub ordered : s.start ≤ s.end
     pub inside : s.end ≤ length text
     pub is : slice s.start s.end text ≡ bytes
 
-  named : (mark c at : ℕ) (fs : List Field) → Stand at fs → Part (span_from mark c at fs) (get_or (column_names mark fs) c [])
-  named mark c at [] s = rw (no_span_lem mark c at, no_names mark c) (record { ordered = omega arith; inside = omega arith; is = slice_none text 0 0 (omega arith) })
+  -- no bytes where there is no column
+  abbrev Told : Option (Range ℕ) → List ℕ → Type 0
+  Told (Some s) bytes = Part s bytes
+  Told None bytes = bytes ≡ []
+
+  named : (mark c at : ℕ) (fs : List Field) → Stand at fs → Told (span_from mark c at fs) (get_or (column_names mark fs) c [])
+  named mark c at [] s = rw (span_nowhere mark c at) (no_names mark c)
   named mark c at (f ∷ fs) s =
       by_cases (is_kind mark f)
       (kind c (λ k. named mark k (suc (at + length f)) fs w.1))
@@ -171,7 +177,7 @@ module _ (text : List ℕ) where
       w : (f ≡ field_of (drop at text)) × Stand (suc (at + length f)) fs
       w = next_field at f fs s
 
-      kind : (c : ℕ) → ((k : ℕ) → Part (span_from mark k (suc (at + length f)) fs) (get_or (column_names mark fs) k [])) → is_kind mark f ≡ true → Part (span_from mark c at (f ∷ fs)) (get_or (column_names mark (f ∷ fs)) c [])
+      kind : (c : ℕ) → ((k : ℕ) → Told (span_from mark k (suc (at + length f)) fs) (get_or (column_names mark fs) k [])) → is_kind mark f ≡ true → Told (span_from mark c at (f ∷ fs)) (get_or (column_names mark (f ∷ fs)) c [])
       kind zero later e =
           let l = ap length w.0 in
           rw (span_here mark at f fs e, names_here mark f fs e) (record {
@@ -181,10 +187,17 @@ module _ (text : List ℕ) where
           })
       kind (suc c) later e = rw (span_past mark at f fs c e, names_past mark f fs c e) (later c)
 
-  -- where the promise of `column_name` leads
-  pub span_name : (mark c : ℕ) → Part (column_span mark c text) (get_or (column_names mark (header text)) c [])
-  span_name mark c = rw (← (span_start mark c text)) (named mark c 0 (header text) (start (header text) refl))
+  told : (mark c : ℕ) → Told (column_span mark c text) (get_or (column_names mark (header text)) c [])
+  told mark c = rw (← (span_start mark c text)) (named mark c 0 (header text) (start (header text) refl))
     where
       start : (fs : List Field) → header text ≡ fs → Stand 0 fs
       start [] e = tt
       start (f ∷ fs) e = (omega arith, e)
+
+  -- where the promise of `column_name` leads
+  module _ (mark c : ℕ) where
+    pub span_some : (s : Range ℕ) → column_span mark c text ≡ Some s → Part s (get_or (column_names mark (header text)) c [])
+    span_some s e = subst (λ (o : Option (Range ℕ)). Told o (get_or (column_names mark (header text)) c [])) e (told mark c)
+
+    pub span_none : column_span mark c text ≡ None → get_or (column_names mark (header text)) c [] ≡ []
+    span_none e = subst (λ (o : Option (Range ℕ)). Told o (get_or (column_names mark (header text)) c [])) e (told mark c)

@@ -3,36 +3,32 @@
 use mathlib.Core.Path.{◌≡◌, sym, ap, ap₂, ◌∙◌}
 use mathlib.Core.Bool.{true, false}
 use mathlib.Core.List.{List}
-use Prim.Native.Nat.{ℕ, suc, ◌+◌, ◌≤◌, ◌<◌}
+use Prim.Native.Nat.{ℕ, ◌+◌, ◌≤◌}
 use native.Mathlib.Omega.{arith}
 use native.Mathlib.Nat.{zero-add}
 use lib.Dec.{leb}
 use lib.ListN.{length, take, drop}
 use lib.Seq.{take_at}
 use borrow.Author.Tests.{leb-true}
-use Rattle.rules.specs.Limits.{most_level}
-use Rattle.rules.specs.Sheet.{Line, up_to, lines, count_kind, header, columns_after, later_lines, with_plots, question3, question4, question5, Outcome, read, refused, counts, reading_from3, levels_after}
+use Rattle.rules.specs.Limits.{most_level, most_plots}
+use Rattle.rules.specs.Sheet.{Line, within, lines, count_kind, header, columns_after, later_lines, with_plots, question3, question4, question5, Outcome, read, refused, counts, reading_from3, levels_after}
 use Rattle.rules.proofs.Sheet.{and_right, FirstLine, header_form, kinds_all, length_columns, columns_fit}
 use Rattle.rules.proofs.Numbering.{by_cases}
 use Rattle.sheet.specs.Walk.{Store, PlotLines}
-use Rattle.sheet.specs.Answers.{first_line, headed, judged, failing}
+use Rattle.sheet.specs.Answers.{first_line, headed, judged}
 use Rattle.sheet.specs.declared.header.Header.{Header}
-use Rattle.sheet.specs.declared.rows.Rows.{Rows}
+use Rattle.std.specs.Prelude.{Some, None}
 use Rattle.sheet.proofs.Stops.{past_drop}
 use Rattle.sheet.proofs.HeaderLaws.{headed_no, headed_yes}
 
 -- ---- question 3
 
-module _ (text : List ℕ) (h : Header) (e : h ≡ headed text) where
-  pub headed_none : h.end ≡ 0 → question3 text ≡ false
-  unfolding first_line
-  headed_none z = by_cases (question3 text) (λ q. absurd (no (sym (ap (λ (h : Header). h.end) (e ∙ headed_yes text q)) ∙ z))) (λ q. q)
-    where
-      no : suc (length (up_to 10 text)) ≡ 0 → ⊥
-      no z = omega arith
+module _ (text : List ℕ) where
+  pub headed_none : None ≡ headed text → question3 text ≡ false
+  headed_none e = by_cases (question3 text) (λ q. let y = headed_yes text q in cc) (λ q. q)
 
-  pub headed_some : (h.end ≡ 0 → ⊥) → question3 text ≡ true
-  headed_some n = by_cases (question3 text) (λ q. q) (λ q. absurd (n (ap (λ (h : Header). h.end) (e ∙ headed_no text q))))
+  pub headed_some : (h : Header) → Some h ≡ headed text → (question3 text ≡ true) × (h ≡ first_line text)
+  headed_some h e = by_cases (question3 text) (λ q. (q, (let y = headed_yes text q in cc))) (λ q. let n = headed_no text q in cc)
 
 -- ---- questions 3 to 5 of a text
 
@@ -92,58 +88,55 @@ module _ (text : List ℕ) (q : question3 text ≡ true) (h : Header) (is : h �
   }
 
   -- what question 4 tells of the lines
-  module _ (r : Rows) (e : r ≡ judged 0 fields_in (lines (drop h.end text))) where
-    judged_later : r ≡ judged 0 (length (header text)) (later_lines text)
-    judged_later = e ∙ ap₂ (λ (n : ℕ) (ls : List Line). judged 0 n ls) fields_all later
+  judged_later : judged 0 fields_in (lines (drop h.end text)) ≡ judged 0 (length (header text)) (later_lines text)
+  judged_later = ap₂ (λ (n : ℕ) (ls : List Line). judged 0 n ls) fields_all later
 
-    bad : question4 most_level text ≡ false → r ≡ record { good = false; count = 0 }
-    unfolding judged question4
-    bad a = judged_later ∙ rw (a, judged)
+  bad : question4 most_level text ≡ false → judged 0 fields_in (lines (drop h.end text)) ≡ None
+  unfolding judged question4
+  bad a = judged_later ∙ rw (a, judged)
 
-    good : question4 most_level text ≡ true → r ≡ record { good = true; count = length (later_lines text) }
-    unfolding judged question4
-    good a = judged_later ∙ rw (a, judged, zero-add)
+  good : question4 most_level text ≡ true → judged 0 fields_in (lines (drop h.end text)) ≡ Some (length (later_lines text))
+  unfolding judged question4
+  good a = judged_later ∙ rw (a, judged, zero-add)
 
-    -- they fail one
-    pub later_failed : (failing r ≡ 0 → ⊥) → reading_from3 most_level text ≡ refused (failing r)
+  -- a line has not the form
+  pub later_bad : None ≡ judged 0 fields_in (lines (drop h.end text)) → reading_from3 most_level text ≡ refused 4
+  later_bad e = by_cases (question4 most_level text) (λ a. let y = good a in cc) (refused_4 text q)
+
+  -- so many lines have it
+  module _ (plots : ℕ) (e : Some plots ≡ judged 0 fields_in (lines (drop h.end text))) where
+    formed : question4 most_level text ≡ true
+    formed = by_cases (question4 most_level text) (λ a. a) (λ a. let n = bad a in cc)
+
+    counted : plots ≡ length (later_lines text)
+    counted = let y = good formed in cc
+
+    -- too few or too many
+    pub later_other : within 1 most_plots plots ≡ false → reading_from3 most_level text ≡ refused 5
     unfolding question5
-    later_failed n =
-        by_cases (question4 most_level text)
-        (λ a. by_cases (question5 text)
-        (λ w. absurd (n (ap failing (good a) ∙ rw (w, failing))))
-        (λ w. refused_5 text q a w ∙ ap refused (sym (ap failing (good a) ∙ rw (w, failing)))))
-        (λ a. refused_4 text q a ∙ ap refused (sym (ap failing (bad a))))
+    later_other w = refused_5 text q formed (rw counted at w)
 
-    -- they fail none: the lines can be stored, and the sheet is read
-    module _ (z : failing r ≡ 0) where
-      both : (question4 most_level text ≡ true) × (question5 text ≡ true)
+    -- the lines can be stored, and the sheet is read
+    module _ (w : within 1 most_plots plots ≡ true) where
+      held : question5 text ≡ true
       unfolding question5
-      both =
-          by_cases (question4 most_level text)
-          (λ a. by_cases (question5 text) (λ w. (a, w)) (λ w. absurd (no 5 (omega arith) (sym (ap failing (good a) ∙ rw (w, failing)) ∙ z))))
-          (λ a. absurd (no 4 (omega arith) (sym (ap failing (bad a)) ∙ z)))
-        where
-          no : (k : ℕ) → 0 < k → k ≡ 0 → ⊥
-          no k h e = omega arith
+      held = rw counted at w
 
-      count_is : r.count ≡ length (later_lines text)
-      count_is = ap (λ (r : Rows). r.count) (good both.0)
-
-      pub later_lines_lem : PlotLines text h.end fields_in r.count
-      unfolding question4 question5
+      pub later_lines_lem : PlotLines text h.end fields_in plots
+      unfolding question4
       later_lines_lem = record {
-        counted = count_is ∙ ap length (sym later);
-        few = rw count_is (leb-true (length (later_lines text)) 240 (and_right (leb 1 (length (later_lines text))) (leb (length (later_lines text)) 240) both.1));
-        form = rw (fields_all, later) both.0;
+        counted = counted ∙ ap length (sym later);
+        few = leb-true plots 240 (and_right (leb 1 plots) (leb plots 240) w);
+        form = rw (fields_all, later) formed;
       }
 
-      pub later_read : reading_from3 most_level text ≡ read r.count h.plot_columns h.treatment_columns
+      pub later_read : reading_from3 most_level text ≡ read plots h.plot_columns h.treatment_columns
       unfolding first_line
-      later_read = rw (is, count_is) (all_read text q both.0 both.1)
+      later_read = rw (is, counted) (all_read text q formed held)
 
       -- the rules' table
       pub later_stored : (levels : List ℕ) → with_plots (take fields_in h.columns) 0 (lines (drop h.end text)) levels ≡ levels_after (reading_from3 most_level text) text levels
       unfolding levels_after
       later_stored levels =
           ap₂ (λ (cs : List ℕ) (ls : List Line). with_plots cs 0 ls levels) columns_all later
-          ∙ sym (ap (λ (o : Outcome). levels_after o text levels) (all_read text q both.0 both.1))
+          ∙ sym (ap (λ (o : Outcome). levels_after o text levels) (all_read text q formed held))

@@ -10,6 +10,7 @@ use lib.Dec.{eqb, ltb}
 use lib.ListN.{length, get_or, drop, drop_of_length-le, length-drop}
 use lib.Seq.{drop-cons, drop-drop}
 use borrow.Author.Tests.{eq-eqb, ne_eqb, eqb-true, eqb-false, lt-ltb, le-ltb, ltb-true}
+use Rattle.std.specs.Prelude.{Some, None}
 use Rattle.rules.specs.Limits.{most_level}
 use Rattle.rules.specs.Sheet.{Field, Line, up_to, past, has, fields, lines, all, is_level, is_row, is_plot_line}
 use Rattle.rules.proofs.Numbering.{by_cases}
@@ -206,22 +207,22 @@ unfolding lines
 lines_none text at h = rw (drop_of_length-le text h)
 
 module _ (count n : ℕ) (text : List ℕ) (at : ℕ) where
-  judged_end : judged count n [] ≡ record { good = true; count = count }
+  judged_end : judged count n [] ≡ Some count
   unfolding judged all
-  judged_end = ap (λ (k : ℕ). record { good = true; count = k }) (add-zero count)
+  judged_end = ap (λ (k : ℕ). Some k) (add-zero count)
 
-  judged_no : (l : Line) (ls : List Line) → is_plot_line most_level n l ≡ false → judged count n (l ∷ ls) ≡ record { good = false; count = 0 }
+  judged_no : (l : Line) (ls : List Line) → is_plot_line most_level n l ≡ false → judged count n (l ∷ ls) ≡ None
   unfolding judged all
   judged_no l ls e = rw (e, judged)
 
   judged_yes : (l : Line) (ls : List Line) → is_plot_line most_level n l ≡ true → judged count n (l ∷ ls) ≡ judged (count + 1) n ls
   unfolding judged all
-  judged_yes l ls e = by_cases (all (is_plot_line most_level n) ls) (λ a. rw (e, judged, a) (ap (λ (k : ℕ). record { good = true; count = k }) (omega arith))) (λ a. rw (e, judged, a))
+  judged_yes l ls e = by_cases (all (is_plot_line most_level n) ls) (λ a. rw (e, judged, a) (ap (λ (k : ℕ). Some k) (omega arith))) (λ a. rw (e, judged, a))
 
-  pub judge_end : length text ≤ at → judged count n (lines (drop at text)) ≡ record { good = true; count = count }
+  pub judge_end : length text ≤ at → judged count n (lines (drop at text)) ≡ Some count
   judge_end h = rw (lines_none text at h) judged_end
 
-  pub judge_off : at < length text → row_end n at (drop at text) ≡ 0 → judged count n (lines (drop at text)) ≡ record { good = false; count = 0 }
+  pub judge_off : at < length text → row_end n at (drop at text) ≡ 0 → judged count n (lines (drop at text)) ≡ None
   unfolding is_plot_line row_there
   judge_off h z = rw (lines_turn text at h) (judged_no _ _ (row_end_none n at (drop at text) z))
 

@@ -1,12 +1,13 @@
 // The first line.
-ghost use Rattle.std.specs.Prelude.{◌≡◌, [], ◌+◌, ◌<◌, ◌≤◌, min, length, drop};
+ghost use Rattle.std.specs.Prelude.{◌≡◌, [], ◌+◌, ◌<◌, ◌≤◌, length, drop};
 ghost use Rattle.std.proofs.Math.Seq.{slice};
 ghost use Rattle.rules.specs.Sheet.{is_kind, new_name, names_differ, header};
 ghost use Rattle.sheet.specs.Walk.{column_end, OfColumns};
-ghost use Rattle.sheet.specs.Answers.{no_header, marked, headed, column_span};
+ghost use Rattle.sheet.specs.Answers.{past_mark, marked, headed, column_span};
 
 use crate::field;
 use limits::{COLUMNS, FIELDS};
+use std::ops::Range;
 
 // A column has at least its mark, a colon and two bytes of a name.
 const LEAST_COLUMN: usize = 4;
@@ -14,8 +15,8 @@ const LEAST_COLUMN: usize = 4;
 // A column has at most 14 bytes, and a byte follows.
 const PAST_COLUMN: usize = 15;
 
-// The first line of a sheet: where the next one starts, 0 if the line has not the form, the columns of each kind, and the column of
-// the level table that each field takes, 0 past the fields.
+// The first line of a sheet: where the next one starts, the columns of each kind, and the column of the level table that each field
+// takes, 0 past the fields.
 #[derive(Clone, Copy)]
 pub struct Header {
     pub end: usize,
@@ -24,38 +25,15 @@ pub struct Header {
     pub columns: [u8; FIELDS],
 }
 
-// Where bytes of a text stand: from `start` on, those before `end`.
-#[derive(Clone, Copy)]
-pub struct Span {
-    pub start: usize,
-    pub end: usize,
-}
-
 // Question 3.
-pub fn read_header(text: &[u8]) -> Header
+pub fn read_header(text: &[u8]) -> Option<Header>
     ensures { result ≡ headed text.now }
 {
-    let h = marks(text);
-    let end = h.end;
-    if end == 0 {
-        return refusal();
-    }
+    let header = marks(text)?;
     if !names_differ(text) {
-        return refusal();
+        return None;
     }
-    h
-}
-
-// The answer for a line that has not the form.
-fn refusal() -> Header
-    ensures { result ≡ no_header }
-{
-    Header {
-        end: 0,
-        plot_columns: 0,
-        treatment_columns: 0,
-        columns: [0u8; FIELDS],
-    }
+    Some(header)
 }
 
 // The end of the field that starts at `start`, where it is a column and a tab or newline ends it; 0 where it is not.
@@ -98,7 +76,7 @@ fn column_end(text: &[u8], start: usize) -> usize
 }
 
 // The first line but for its names: the fields one by one, each counted and given its column of the level table.
-fn marks(text: &[u8]) -> Header
+fn marks(text: &[u8]) -> Option<Header>
     ensures { result ≡ marked 0 0 0 [] text.now }
 {
     let mut at = 0;
@@ -108,29 +86,29 @@ fn marks(text: &[u8]) -> Header
     loop {
         let e = column_end(text, at);
         if e == 0 {
-            return refusal();
+            return None;
         }
         if text[at] == b'p' {
             if COLUMNS <= p {
-                return refusal();
+                return None;
             }
             columns[p + t] = p as u8;
             p += 1;
         } else {
             if COLUMNS <= t {
-                return refusal();
+                return None;
             }
             columns[p + t] = (COLUMNS + t) as u8;
             t += 1;
         }
         at = e + 1;
         if text[e] == b'\n' {
-            return Header {
+            return Some(Header {
                 end: at,
                 plot_columns: p,
                 treatment_columns: t,
                 columns,
-            };
+            });
         }
     }
 }
@@ -183,24 +161,15 @@ fn is_kind(text: &[u8], start: usize, stop: usize, mark: u8) -> bool
 }
 
 // Where the name in the field from `start` to `stop` stands: past the two bytes of its kind.
-fn name_in(start: usize, stop: usize) -> Span
+fn name_in(start: usize, stop: usize) -> Range<usize>
     requires { start ≤ stop }
-    ensures { (result.start ≡ min (start + 2) stop) × (result.end ≡ stop) }
+    ensures { result ≡ past_mark start stop }
 {
-    if stop - start < 2 {
-        return Span {
-            start: stop,
-            end: stop,
-        };
-    }
-    Span {
-        start: start + 2,
-        end: stop,
-    }
+    start + (stop - start).min(2)..stop
 }
 
-// Where the name of column `c`, from 0, of those that the first line marks with the byte `mark` stands; 0 and 0 where there is none.
-pub fn column_name(text: &[u8], mark: u8, c: usize) -> Span
+// Where the name of column `c`, from 0, of those that the first line marks with the byte `mark` stands.
+pub fn column_name(text: &[u8], mark: u8, c: usize) -> Option<Range<usize>>
     ensures { result ≡ column_span mark c text.now }
 {
     let mut at = 0;
@@ -209,17 +178,13 @@ pub fn column_name(text: &[u8], mark: u8, c: usize) -> Span
         let e = field::end_of(text, at);
         if is_kind(text, at, e, mark) {
             if left == 0 {
-                return name_in(at, e);
+                return Some(name_in(at, e));
             }
             left -= 1;
         }
-        if text.len() <= e {
-            break;
-        }
-        if text[e] == b'\n' {
-            break;
+        if text.len() <= e || text[e] == b'\n' {
+            return None;
         }
         at = e + 1;
     }
-    Span { start: 0, end: 0 }
 }

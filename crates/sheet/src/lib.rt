@@ -11,8 +11,9 @@ mod questions;
 mod rows;
 
 pub use field::{end_of, is_name, letter_or_digit, place_of, same_bytes};
-pub use header::{Header, Span, column_name, read_header};
+pub use header::{Header, column_name, read_header};
 use limits::{LEVELS, Level, TEXT};
+use refusal::Refusal;
 
 // How many plots, plot columns and treatment columns a sheet has.
 #[derive(Clone, Copy)]
@@ -22,27 +23,17 @@ pub struct Counts {
     pub treatment_columns: usize,
 }
 
-// What reading answers: the counts, or the number of the question that failed.
-#[derive(Clone, Copy)]
-pub enum Reading {
-    Read(Counts),
-    Refused(u32),
-}
-
 // Reads a sheet into the level table: questions 1 to 5. A refused reading writes nothing.
-pub fn read_sheet(text: &[u8], levels: &mut [Level]) -> Reading
+pub fn read_sheet(text: &[u8], levels: &mut [Level]) -> Result<Counts, Refusal>
     ensures answer { outcome_of result ≡ reading text.now levels.old }
     ensures table { levels.new ≡ levels_after (reading text.now levels.old) text.now levels.old }
     ensures older { OlderKept text.now levels.old (outcome_of result) levels.new }
 {
     if levels.len() < LEVELS {
-        return Reading::Refused(1);
+        return Err(Refusal::LevelTable);
     }
-    if text.len() < 1 {
-        return Reading::Refused(2);
-    }
-    if TEXT < text.len() {
-        return Reading::Refused(2);
+    if !(1..=TEXT).contains(&text.len()) {
+        return Err(Refusal::TextLength);
     }
     questions::from_3(text, levels)
 }

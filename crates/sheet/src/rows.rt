@@ -8,15 +8,8 @@ ghost use Rattle.sheet.specs.Answers.{judged};
 use crate::field;
 use limits::{Level, PLOTS};
 
-// Whether every later line has the form, and how many there are.
-#[derive(Clone, Copy)]
-pub struct Rows {
-    pub good: bool,
-    pub count: usize,
-}
-
-// Question 4, asked of every line from `start` on.
-pub fn judge(text: &[u8], start: usize, n: usize) -> Rows
+// Question 4, asked of every line from `start` on: how many lines there are, where all have the form.
+pub fn judge(text: &[u8], start: usize, n: usize) -> Option<usize>
     requires { 1 ≤ n }
     ensures { result ≡ judged 0 n (lines (drop start text.now)) }
 {
@@ -25,14 +18,11 @@ pub fn judge(text: &[u8], start: usize, n: usize) -> Rows
     while at < text.len() {
         at = row_end(text, at, n);
         if at == 0 {
-            return Rows {
-                good: false,
-                count: 0,
-            };
+            return None;
         }
         count += 1;
     }
-    Rows { good: true, count }
+    Some(count)
 }
 
 // The byte after field `i`, from 0, of a line of `n`.

@@ -1,10 +1,14 @@
 use Prim.Native.Nat.{ℕ, suc, ◌≤◌}
-use mathlib.Core.Path.{◌≡◌, sym, ap₂, ◌∙◌, subst}
+use mathlib.Core.Path.{◌≡◌, sym, ap, ◌∙◌, subst}
 use native.Mathlib.Omega.{arith}
-use lib.ListN.{length}
-use Rattle.sheet.proofs.NameLaws.{span_start, end_inside, span_first, Passed, passed_kind, passed_other, span_unended, span_none, span_on}
+use lib.ListN.{length, drop}
+use Rattle.std.specs.Prelude.{Some, None}
+use Rattle.std.specs.declared.ops.Range.{Range}
+use Rattle.rules.specs.Sheet.{header}
+use Rattle.sheet.specs.Answers.{span_from}
+use Rattle.sheet.proofs.NameLaws.{span_start, end_inside, span_first, Passed, passed_kind, passed_other, span_unended, span_last, span_on}
 use Rattle.sheet.proofs.header.column_name.Goals as goal
-use Rattle.sheet.proofs.header.column_name.Goals.{After-end_of-e, Joined-is_kind, then-is_kind+else-left-eq0, else-is_kind}
+use Rattle.sheet.proofs.header.column_name.Goals.{After-end_of-e, Joined-is_kind, then-is_kind+else-left-eq0, else-is_kind, then-text-e-via-then-text-e, then-text-e-via-else-text-e+then-text-e-eq10}
 
 -- the field at hand ends inside the text
 held : (c : After-end_of-e) → c.end_of-e.result ≤ length c.args.text.now
@@ -35,24 +39,21 @@ is_kind-requires c = held c
 pub returns-then-left-eq0 : goal.returns-then-left-eq0
 returns-then-left-eq0 c =
     let a = c.args in
-    let t = a.text.now in
-    let r = c.name_in.ensures in
-    ap₂ (λ (s e : ℕ). record { start = s; end = e }) r.0 r.1
-    ∙ sym (span_first t c.loop-mark.at c.end_of-e.result c.end_of-e.ensures a.mark (sym c.is_kind.ensures ∙ c.if-is_kind.true)) ∙ (rw c.if-left-eq0.true at c.loop-mark.invariant.1)
+    ap (λ (s : Range ℕ). Some s) c.name_in.ensures
+    ∙ sym (span_first a.text.now c.loop-mark.at c.end_of-e.result c.end_of-e.ensures a.mark (sym c.is_kind.ensures ∙ c.if-is_kind.true)) ∙ (rw c.if-left-eq0.true at c.loop-mark.invariant.1)
 
 pub returns-then-text-e : goal.returns-then-text-e
 returns-then-text-e c =
     let j = (goal.at.returns-then-text-e c).Joined-is_kind in
     let a = j.args in
     let t = a.text.now in
-    sym (span_unended t j.loop-mark.at j.end_of-e.result j.end_of-e.ensures a.mark j.loop-mark.left j.if-is_kind.left (counts j) c.if-text-e.true) ∙ j.loop-mark.invariant.1
-
-pub returns-then-text-e-eq10 : goal.returns-then-text-e-eq10
-returns-then-text-e-eq10 c =
-    let j = (goal.at.returns-then-text-e-eq10 c).Joined-is_kind in
-    let a = j.args in
-    let t = a.text.now in
-    sym (span_none t j.loop-mark.at j.end_of-e.result j.end_of-e.ensures a.mark j.loop-mark.left j.if-is_kind.left (counts j) (omega arith) c.if-text-e-eq10.true) ∙ j.loop-mark.invariant.1
+    let e : span_from a.mark j.loop-mark.left j.loop-mark.at (header (drop j.loop-mark.at t)) ≡ None = elim c.then-text-e.branch [
+      | then-text-e-via-then-text-e w ↦
+          span_unended t j.loop-mark.at j.end_of-e.result j.end_of-e.ensures a.mark j.loop-mark.left j.if-is_kind.left (counts j) w.if-text-e.true
+      | then-text-e-via-else-text-e+then-text-e-eq10 w ↦
+          span_last t j.loop-mark.at j.end_of-e.result j.end_of-e.ensures a.mark j.loop-mark.left j.if-is_kind.left (counts j) (omega arith) w.if-text-e-eq10.true
+    ] in
+    sym e ∙ j.loop-mark.invariant.1
 
 pub loop-mark-preserved : goal.loop-mark-preserved
 loop-mark-preserved c =

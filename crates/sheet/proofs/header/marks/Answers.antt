@@ -5,6 +5,7 @@ use mathlib.Core.List.{List}
 use mathlib.Core.Logic.{inl, inr}
 use native.Mathlib.Omega.{arith}
 use lib.ListN.{length, take, drop, set, length-set}
+use Rattle.std.specs.Prelude.{Some}
 use Rattle.sheet.specs.Walk.{field_of, column_there}
 use Rattle.sheet.proofs.ColumnLaws.{Column, column_there_lem, column_end_at, column_end_none, column_end_some}
 use Rattle.sheet.proofs.HeaderLaws.{Step, counted_plot, counted_treatment, marks_off, marks_over, marks_on, marks_last, filled_none, filled_set, filled_take, filled_on}
@@ -58,7 +59,7 @@ loop-columns-init c = (omega arith, omega arith, omega arith, refl, filled_none,
 pub returns-then-e-eq0 : goal.returns-then-e-eq0
 returns-then-e-eq0 c =
     let t = c.args.text.now in
-    c.refusal.ensures ∙ sym (marks_off t c.loop-columns.at c.loop-columns.p c.loop-columns.t (take (c.loop-columns.p + c.loop-columns.t) c.loop-columns.columns) (column_end_none t c.loop-columns.at (sym c.column_end-e.ensures ∙ c.if-e-eq0.true))) ∙ c.loop-columns.invariant.5
+    sym (marks_off t c.loop-columns.at c.loop-columns.p c.loop-columns.t (take (c.loop-columns.p + c.loop-columns.t) c.loop-columns.columns) (column_end_none t c.loop-columns.at (sym c.column_end-e.ensures ∙ c.if-e-eq0.true))) ∙ c.loop-columns.invariant.5
 
 pub bounds-text-at : goal.bounds-text-at
 bounds-text-at c = let d = (goal.at.bounds-text-at c).Else-e-eq0 in omega (arith, place d, (held d).ended)
@@ -68,8 +69,7 @@ returns-then-p-ge-COLUMNS c =
     let d = (goal.at.returns-then-p-ge-COLUMNS c).Else-e-eq0 in
     let k = held d in
     let m = counted_plot (field_of (drop (at d) (text d))) d.loop-columns.p d.loop-columns.t k.is (k.first ∙ c.if-text-at-eq112.true) in
-    c.refusal-then-p-ge-COLUMNS.ensures
-    ∙ sym (marks_over (text d) (at d) d.loop-columns.p d.loop-columns.t (take (d.loop-columns.p + d.loop-columns.t) d.loop-columns.columns) k d.column_end-e.result (place d) d.loop-columns.p (d.loop-columns.p + 1) d.loop-columns.t m (inl (omega arith)))
+    sym (marks_over (text d) (at d) d.loop-columns.p d.loop-columns.t (take (d.loop-columns.p + d.loop-columns.t) d.loop-columns.columns) k d.column_end-e.result (place d) d.loop-columns.p (d.loop-columns.p + 1) d.loop-columns.t m (inl (omega arith)))
     ∙ d.loop-columns.invariant.5
 
 pub returns-then-t-ge-COLUMNS : goal.returns-then-t-ge-COLUMNS
@@ -77,8 +77,7 @@ returns-then-t-ge-COLUMNS c =
     let d = (goal.at.returns-then-t-ge-COLUMNS c).Else-e-eq0 in
     let k = held d in
     let m = counted_treatment (field_of (drop (at d) (text d))) d.loop-columns.p d.loop-columns.t k.is (λ z. c.if-text-at-eq112.false (sym k.first ∙ z)) in
-    c.refusal-then-t-ge-COLUMNS.ensures
-    ∙ sym (marks_over (text d) (at d) d.loop-columns.p d.loop-columns.t (take (d.loop-columns.p + d.loop-columns.t) d.loop-columns.columns) k d.column_end-e.result (place d) (6 + d.loop-columns.t) d.loop-columns.p (d.loop-columns.t + 1) m (inr (omega arith)))
+    sym (marks_over (text d) (at d) d.loop-columns.p d.loop-columns.t (take (d.loop-columns.p + d.loop-columns.t) d.loop-columns.columns) k d.column_end-e.result (place d) (6 + d.loop-columns.t) d.loop-columns.p (d.loop-columns.t + 1) m (inr (omega arith)))
     ∙ d.loop-columns.invariant.5
 
 pub overflow_add-at : goal.overflow_add-at
@@ -95,7 +94,7 @@ returns-then-text-e-eq10 c =
     let e = d.column_end-e.result in
     let n = d.loop-columns.p + d.loop-columns.t in
     let is = s.stored ∙ filled_set d.loop-columns.columns n s.column d.loop-columns.invariant.4 (omega arith) in
-    ap (λ (cs : List ℕ). record { end = e + 1; plot_columns = j.if-text-at-eq112.p; treatment_columns = j.if-text-at-eq112.t; columns = cs }) is
+    ap (λ (cs : List ℕ). Some (record { end = e + 1; plot_columns = j.if-text-at-eq112.p; treatment_columns = j.if-text-at-eq112.t; columns = cs })) is
     ∙ sym (marks_last (text d) (at d) d.loop-columns.p d.loop-columns.t (take n d.loop-columns.columns) (held d) e (place d) s.column j.if-text-at-eq112.p j.if-text-at-eq112.t s.counted c.if-text-e-eq10.true s.few_plots s.few_treatments)
     ∙ d.loop-columns.invariant.5
 
