@@ -19,7 +19,17 @@ use Rattle.rules.proofs.Buffer.{length_members, member_is}
 use Rattle.rules.proofs.WellFormed.{accepted}
 use Rattle.factor.specs.Lent.{column_at, test_common}
 use Rattle.factor.proofs.Lent.{test_parts}
-use Rattle.families.proofs.Lent.{Within, within_limits_lem}
+use Rattle.families.specs.Lent.{formed_in}
+use Rattle.families.proofs.Lent.{Within, within_limits_lem, formed_in_lem}
+
+-- what `a && b` computes: b is looked at where a is true
+pub and_asked : (a b r : Bool) → a ≡ true → r ≡ b → a && b ≡ r
+and_asked true b r e f = sym f
+and_asked false b r e f = absurd (cc)
+
+pub and_left_out : (a b r : Bool) → a ≡ false → r ≡ false → a && b ≡ r
+and_left_out true b r e f = absurd (cc)
+and_left_out false b r e f = sym f
 
 -- ---- one family, and the place asked about
 
@@ -59,10 +69,6 @@ by_family true false true q = refl
 by_family true false false q = refl
 by_family false b p q = refl
 
-pub second_false : (a b : Bool) → b ≡ false → a && b ≡ false
-second_false true b e = e
-second_false false b e = refl
-
 module _ (n : ℕ) (first : List ℕ) (firstSize i : ℕ) (second : List ℕ) (secondSize j : ℕ) where
   abbrev one : Bool
   one = asked n first firstSize i
@@ -74,32 +80,39 @@ module _ (n : ℕ) (first : List ℕ) (firstSize i : ℕ) (second : List ℕ) (s
   unfolding family_within
   six = by_family (family_within n first) (family_within n second) (place_within firstSize i) (place_within secondSize j)
 
-  refused_6 : one && other ≡ false → comparison_refused 6 ≡ comparing n first firstSize i second secondSize j
+  pub refused_6 : one && other ≡ false → comparison_refused 6 ≡ comparing n first firstSize i second secondSize j
   unfolding comparing
   refused_6 e = sym (rw (six ∙ e, comparing))
 
-  pub refused_6_first : one ≡ false → comparison_refused 6 ≡ comparing n first firstSize i second secondSize j
-  refused_6_first e = refused_6 (ap (λ (b : Bool). b && other) e)
+  module _ (e : one && other ≡ true) where
+    pub first_within : Asked n first firstSize i
+    first_within = within n first firstSize i (and_left one other e)
 
-  pub refused_6_second : other ≡ false → comparison_refused 6 ≡ comparing n first firstSize i second secondSize j
-  refused_6_second e = refused_6 (second_false one other e)
+    pub second_within : Asked n second secondSize j
+    second_within = within n second secondSize j (and_right one other e)
 
-  module _ (e : one ≡ true) (f : other ≡ true) where
+    -- 15 of both, of the buffers and of the members in them
+    pub formed_both : formed_in n first firstSize && formed_in n second secondSize ≡ well_formed (members_of n first firstSize) && well_formed (members_of n second secondSize)
+    formed_both =
+        let v = first_within.family in
+        let w = second_within.family in
+        ap₂ (λ (b c : Bool). b && c) (formed_in_lem n first firstSize v.few_plots v.long) (formed_in_lem n second secondSize w.few_plots w.long)
+
     passed : family_within n first && family_within n second && place_within firstSize i && place_within secondSize j ≡ true
-    passed = six ∙ ap₂ (λ (b c : Bool). b && c) e f
+    passed = six ∙ e
 
-    refused_15 : well_formed (members_of n first firstSize) && well_formed (members_of n second secondSize) ≡ false → comparison_refused 15 ≡ comparing n first firstSize i second secondSize j
+    pub refused_15 : formed_in n first firstSize && formed_in n second secondSize ≡ false → comparison_refused 15 ≡ comparing n first firstSize i second secondSize j
     unfolding comparing
-    refused_15 h = sym (rw (passed, h, comparing))
-
-    pub refused_15_first : well_formed (members_of n first firstSize) ≡ false → comparison_refused 15 ≡ comparing n first firstSize i second secondSize j
-    refused_15_first h = refused_15 (ap (λ (b : Bool). b && well_formed (members_of n second secondSize)) h)
-
-    pub refused_15_second : well_formed (members_of n second secondSize) ≡ false → comparison_refused 15 ≡ comparing n first firstSize i second secondSize j
-    refused_15_second h = refused_15 (second_false (well_formed (members_of n first firstSize)) (well_formed (members_of n second secondSize)) h)
+    refused_15 h = sym (rw (passed, sym formed_both ∙ h, comparing))
 
     -- nothing is refused: what two columns that are the members at the places are told to stand like
-    module _ (p : well_formed (members_of n first firstSize) ≡ true) (q : well_formed (members_of n second secondSize) ≡ true) where
+    module _ (h : formed_in n first firstSize && formed_in n second secondSize ≡ true) where
+      p : well_formed (members_of n first firstSize) ≡ true
+      p = and_left (well_formed (members_of n first firstSize)) (well_formed (members_of n second secondSize)) (sym formed_both ∙ h)
+
+      q : well_formed (members_of n second secondSize) ≡ true
+      q = and_right (well_formed (members_of n first firstSize)) (well_formed (members_of n second secondSize)) (sym formed_both ∙ h)
+
       found : compared (comparison n (member_at (members_of n first firstSize) (i - 1)) (member_at (members_of n second secondSize) (j - 1))) ≡ comparing n first firstSize i second secondSize j
       unfolding comparing
       found = sym (rw (passed, p, q, comparing))
@@ -107,8 +120,8 @@ module _ (n : ℕ) (first : List ℕ) (firstSize i : ℕ) (second : List ℕ) (s
       pub stands : (X Y : Column) → X ≡ column_at n first (i - 1) → Y ≡ column_at n second (j - 1) → (c : Comparison) → c ≡ test_common comparison X Y
           → compared c ≡ comparing n first firstSize i second secondSize j
       stands X Y x y c is =
-          let v = within n first firstSize i e in
-          let w = within n second secondSize j f in
+          let v = first_within in
+          let w = second_within in
           ap compared (
           is
           ∙ test_parts comparison n first second (i - 1) (j - 1) v.family.few_plots (room n first firstSize i v p) (room n second secondSize j w q) X Y x y

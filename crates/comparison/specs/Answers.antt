@@ -1,10 +1,12 @@
--- What comparing answers, as the rules count it: the number of the refusal and the number of the case, for each case of the enum.
+-- What comparing answers, as the rules count it: the number of the refusal, or the number of the case.
 -- Assumes nothing.
+use Rattle.std.specs.Prelude.{Result, Ok, Err}
 use Rattle.rules.specs.Comparison.{ComparisonAnswer, comparison_refused, compared}
+use Rattle.refusal.specs.declared.Refusal.{Refusal}
+use Rattle.refusal.specs.Numbers.{number_of}
+use Rattle.standing.specs.declared.comparing.Comparison.{Comparison}
 use Rattle.standing.specs.Cases.{case_of}
-use Rattle.comparison.specs.declared.Compared.{Compared}
-use Rattle.comparison.specs.declared.Compared.TheVariants.{Stands, Refused}
 
-abbrev pub compared_numbers : Compared → ComparisonAnswer
-compared_numbers (Stands c) = compared (case_of c)
-compared_numbers (Refused q) = comparison_refused q
+abbrev pub compared_numbers : Result Comparison Refusal → ComparisonAnswer
+compared_numbers (Ok c) = compared (case_of c)
+compared_numbers (Err q) = comparison_refused (number_of q)

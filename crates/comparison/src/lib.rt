@@ -1,60 +1,58 @@
 // How a member of one lent family and a member of another stand. Asks 6, then 15 of both families.
 #![tactic(auto)]
 
-ghost use Rattle.std.specs.Prelude.{◌≡◌, ◌&&◌, leb};
+ghost use Rattle.std.specs.Prelude.{◌≡◌, ◌&&◌, ◌-◌, ◌<◌, leb, length};
 ghost use Rattle.rules.specs.Limits.{family_bytes};
 ghost use Rattle.rules.specs.Design.{plots_within};
 ghost use Rattle.rules.specs.Comparison.{place_within, comparing};
+ghost use Rattle.factor.specs.Lent.{column_at};
+ghost use Rattle.families.specs.Lent.{formed_in};
 ghost use Rattle.comparison.specs.Answers.{compared_numbers};
 
+use refusal::Refusal;
 use standing::Comparison;
 
-// What comparing answers: how the two members stand, or the number of the question that failed.
+// A place of a lent family of `size` members; the first is number 1.
 #[derive(Clone, Copy)]
-pub enum Compared {
-    Stands(Comparison),
-    Refused(u32),
+pub struct Place<'a> {
+    pub family: &'a [u8],
+    pub size: usize,
+    pub number: usize,
 }
 
-// 6, of one family and the place asked about.
-fn within(plots: usize, bytes: usize, size: usize, place: usize) -> bool
-    ensures { result ≡ plots_within plots && leb family_bytes bytes && place_within size place }
-{
-    if !families::within(plots, bytes) {
-        return false;
+impl Place<'_> {
+    // 6, of the family and the place.
+    fn is_within(&self, plots: usize) -> bool
+        ensures { result ≡ plots_within plots && leb family_bytes (length self.now.family.now) && place_within self.now.size self.now.number }
+    {
+        families::within(plots, self.family.len()) && (1..=self.size).contains(&self.number)
     }
-    if place < 1 {
-        return false;
+
+    // 15, of the family.
+    fn is_well_formed(&self, plots: usize) -> bool
+        ensures { result ≡ formed_in plots self.now.family.now self.now.size }
+    {
+        families::well_formed(self.family, plots, self.size)
     }
-    place <= size
+
+    // The member at the place.
+    fn member(&self, plots: usize) -> &[u8]
+        requires { 0 < self.now.number }
+        ensures { result.now ≡ column_at plots self.now.family.now (self.now.number - 1) }
+    {
+        families::member(self.family, self.number - 1, plots)
+    }
 }
 
-// How the member at a place of the first family stands to the one at a place of the second; places are counted from 1.
-pub fn compare_members(
-    first: &[u8],
-    first_size: usize,
-    first_place: usize,
-    second: &[u8],
-    second_size: usize,
-    second_place: usize,
-    plots: usize,
-) -> Compared
-    ensures { compared_numbers result ≡ comparing plots first.now first_size first_place second.now second_size second_place }
+// How the member at a place of the first family stands to the one at a place of the second.
+pub fn compare_members(first: Place, second: Place, plots: usize) -> Result<Comparison, Refusal>
+    ensures { compared_numbers result ≡ comparing plots first.entry.family.now first.entry.size first.entry.number second.entry.family.now second.entry.size second.entry.number }
 {
-    if !within(plots, first.len(), first_size, first_place) {
-        return Compared::Refused(6);
+    if !(first.is_within(plots) && second.is_within(plots)) {
+        return Err(Refusal::Limits);
     }
-    if !within(plots, second.len(), second_size, second_place) {
-        return Compared::Refused(6);
+    if !(first.is_well_formed(plots) && second.is_well_formed(plots)) {
+        return Err(Refusal::Family);
     }
-    if !families::well_formed(first, plots, first_size) {
-        return Compared::Refused(15);
-    }
-    if !families::well_formed(second, plots, second_size) {
-        return Compared::Refused(15);
-    }
-    let f = families::member(first, first_place - 1, plots);
-    let g = families::member(second, second_place - 1, plots);
-    let case = standing::compare(f, g);
-    Compared::Stands(case)
+    Ok(standing::compare(first.member(plots), second.member(plots)))
 }
