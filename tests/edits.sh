@@ -69,6 +69,13 @@ fails() {
   sed -z 's/\n  has no / has no /g' "$1" | grep -aE "^(\./)?$(proof_of "$2")/[A-Za-z]*\.antt:[0-9]+:[0-9]+: error" | grep -qvE "$misfit"
 }
 
+# is_law EDIT NAME: the name is that of a law, which a file of proofs/ has; a method has the name of its type before its own
+is_law() {
+  local path=${2#*::}
+  path=${path%::*}
+  [[ $2 =~ ::[A-Z] && -e ${1%%/must-fail/*}/proofs/${path//:://}.antt ]]
+}
+
 # law_fails LOG LAW: the law, in the file of proofs/ that has it, is refused or rests on one that is
 law_fails() {
   local path=${2#*::}
@@ -121,7 +128,7 @@ try() {
   if python3 tests/parts/edit.py "$1" "$room/crates/$crate" >"$log" 2>&1; then
     (cd "$room/crates/$crate" && rt check --jobs 1) </dev/null >"$log" 2>&1
     for one in $(sed -n 's/^fails: //p' "$1"); do
-      if [[ ! $one =~ ::[A-Z] ]] && ! fails "$log" "$one" && grep -E "^(\./)?$(proof_of "$one")/" "$log" | grep -qE "$misfit"; then
+      if ! is_law "$1" "$one" && ! fails "$log" "$one" && grep -E "^(\./)?$(proof_of "$one")/" "$log" | grep -qE "$misfit"; then
         fit "$room" "$1" "$one" >"$log.fit"
         cat "$log.fit" >>"$log"
       fi
@@ -130,7 +137,7 @@ try() {
   rm -rf "$room"
 }
 export top=$PWD
-export -f below log_of proof_of each_of fails fit try
+export -f below log_of proof_of each_of is_law fails fit try
 
 # The crates are proved as they stand: the tries begin with that.
 if [[ $# -eq 0 ]]; then
@@ -168,7 +175,7 @@ for edit in "${edits[@]}"; do
   fi
   for name in $(sed -n 's/^fails: //p' "$edit"); do
     named=$((named + 1))
-    if [[ $name =~ ::[A-Z] ]]; then
+    if is_law "$edit" "$name"; then
       law_fails "$log" "$name" || complain "$edit" "the law $name does not fail"
     else
       fails "$log" "$name" || complain "$edit" "the function $name does not fail"
