@@ -3,8 +3,15 @@
 #![tactic(auto)]
 
 use limits::Level;
-use sheet::Reading;
+use refusal::Refusal;
+use sheet::Counts;
 use std::io;
+
+// What each cell of a level table holds before a reading. No case has this level.
+const UNTOUCHED: Level = 9999;
+
+// How many changed cells a case prints at most.
+const SHOWN: usize = 12;
 
 fn main(rt: HostRuntime) -> io::Result<()> {
     samples(&rt)?;
@@ -155,7 +162,7 @@ fn long_fields(rt: &impl Print) -> io::Result<()> {
 
 fn short_table(rt: &impl Print) -> io::Result<()> {
     rt.write_all(b"short table and empty text\t")?;
-    let mut table: [Level; 2879] = [9999; 2879];
+    let mut table = [UNTOUCHED; 2879];
     print(rt, sheet::read_sheet(b"", &mut table))?;
     changes(rt, &table)
 }
@@ -170,21 +177,17 @@ fn many(rt: &impl Print, label: &[u8], len: usize, last: u8) -> io::Result<()> {
 
 // Puts a newline at every second place from 7 on.
 fn end_lines(text: &mut [u8]) {
-    let mut at = 7;
-    while at < text.len() {
-        text[at] = b'\n';
-        at += 2;
+    for x in text.iter_mut().skip(7).step_by(2) {
+        *x = b'\n';
     }
 }
 
 // Puts `x` at the last even place but one before `len`.
 fn put(text: &mut [u8], len: usize, x: u8) {
-    if len < 2 {
-        return;
-    }
-    let at = len / 2 * 2 - 2;
-    if at < text.len() {
-        text[at] = x;
+    if let Some(at) = (len / 2 * 2).checked_sub(2) {
+        if let Some(place) = text.get_mut(at) {
+            *place = x;
+        }
     }
 }
 
@@ -199,123 +202,69 @@ fn long(rt: &impl Print, label: &[u8], x: u8, end: u8) -> io::Result<()> {
 
 // Reads the first `len` bytes.
 fn show_part(rt: &impl Print, label: &[u8], text: &[u8], len: usize) -> io::Result<()> {
-    if len <= text.len() {
-        show(rt, label, &text[..len])?;
+    match text.get(..len) {
+        Some(part) => show(rt, label, part),
+        None => Ok(()),
     }
-    Ok(())
 }
 
 // `p:Hut` and the byte `end`, and then the byte `x` over and over.
 fn start(x: u8, end: u8) -> [u8; 32770] {
     let mut text = [x; 32770];
-    text[0] = b'p';
-    text[1] = b':';
-    text[2] = b'H';
-    text[3] = b'u';
-    text[4] = b't';
+    text[..5].copy_from_slice(b"p:Hut");
     text[5] = end;
     text
 }
 
 // Runs a case: its label, `|` and the text.
 fn case(rt: &impl Print, s: &[u8]) -> io::Result<()> {
-    let k = bar(s);
-    if k < s.len() {
-        show(rt, &s[..k], &s[k + 1..])?;
+    match s.iter().position(|&x| x == b'|') {
+        Some(bar) => show(rt, &s[..bar], &s[bar + 1..]),
+        None => Ok(()),
     }
-    Ok(())
-}
-
-// The place of the first `|`, or the length.
-fn bar(s: &[u8]) -> usize {
-    let mut k = 0;
-    while k < s.len() {
-        if s[k] == b'|' {
-            return k;
-        }
-        k += 1;
-    }
-    k
 }
 
 // Prints a case: its label, the answer and what changed in a level table that is longer than the reader asks.
 fn show(rt: &impl Print, label: &[u8], text: &[u8]) -> io::Result<()> {
-    let mut table: [Level; 3000] = [9999; 3000];
+    let mut table = [UNTOUCHED; 3000];
     rt.write_all(label)?;
     rt.write_all(b"\t")?;
     print(rt, sheet::read_sheet(text, &mut table))?;
     changes(rt, &table)
 }
 
-// Prints how many cells changed, and the first twelve.
+// Prints how many cells changed, and the first twelve as place=level.
 fn changes(rt: &impl Print, table: &[Level]) -> io::Result<()> {
     rt.write_all(b"\t")?;
-    rt.print(wide(changed(table)))?;
-    cells(rt, table)?;
+    rt.print(table.iter().filter(|&&x| x != UNTOUCHED).count() as u64)?;
+    for (i, &x) in table
+        .iter()
+        .enumerate()
+        .filter(|&(_, &x)| x != UNTOUCHED)
+        .take(SHOWN)
+    {
+        rt.write_all(b" ")?;
+        rt.print(i as u64)?;
+        rt.write_all(b"=")?;
+        rt.print(x as u64)?;
+    }
     rt.write_all(b"\n")
 }
 
-// Prints the first twelve cells that changed.
-fn cells(rt: &impl Print, table: &[Level]) -> io::Result<()> {
-    let mut left: usize = 12;
-    for i in 0..table.len() {
-        let x = table[i];
-        if x != 9999 {
-            if left != 0 {
-                left -= 1;
-                cell(rt, i, x)?;
-            }
-        }
-    }
-    Ok(())
-}
-
-fn cell(rt: &impl Print, i: usize, x: Level) -> io::Result<()> {
-    rt.write_all(b" ")?;
-    rt.print(wide(i))?;
-    rt.write_all(b"=")?;
-    rt.print(wide_level(x))
-}
-
-// How many cells changed. No case has the level 9999.
-fn changed(table: &[Level]) -> usize {
-    let mut n = 0;
-    for i in 0..table.len() {
-        if table[i] != 9999 {
-            n += 1;
-        }
-    }
-    n
-}
-
 // Prints the counts, or the refusal.
-fn print(rt: &impl Print, answer: Reading) -> io::Result<()> {
-    let Reading::Read(c) = answer else {
-        return refuse(rt, answer);
-    };
-    let plots = c.plots;
-    rt.write_all(b"read ")?;
-    rt.print(wide(plots))?;
-    rt.write_all(b" ")?;
-    let plot_columns = c.plot_columns;
-    rt.print(wide(plot_columns))?;
-    rt.write_all(b" ")?;
-    let treatment_columns = c.treatment_columns;
-    rt.print(wide(treatment_columns))
-}
-
-fn refuse(rt: &impl Print, answer: Reading) -> io::Result<()> {
-    if let Reading::Refused(n) = answer {
-        rt.write_all(b"refused ")?;
-        rt.print(n as u64)?;
+fn print(rt: &impl Print, answer: Result<Counts, Refusal>) -> io::Result<()> {
+    match answer {
+        Ok(counts) => {
+            rt.write_all(b"read ")?;
+            rt.print(counts.plots as u64)?;
+            rt.write_all(b" ")?;
+            rt.print(counts.plot_columns as u64)?;
+            rt.write_all(b" ")?;
+            rt.print(counts.treatment_columns as u64)
+        }
+        Err(refusal) => {
+            rt.write_all(b"refused ")?;
+            rt.print(refusal.number() as u64)
+        }
     }
-    Ok(())
-}
-
-fn wide(n: usize) -> u64 {
-    n as u64
-}
-
-fn wide_level(n: Level) -> u64 {
-    n as u64
 }
