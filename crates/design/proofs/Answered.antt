@@ -17,8 +17,34 @@ use mathlib.Core.Path.{◌≡◌, refl, ap, ◌∙◌}
 use mathlib.Core.Bool.{true, false}
 use Prim.Native.Nat.{ℕ, zero, suc}
 use lib.ListN.{length}
+use Rattle.refusal.specs.Numbers.{number_of}
+use Rattle.refusal.specs.declared.Refusal.{Refusal}
+use Rattle.refusal.specs.declared.Refusal.TheVariants as question
+use lib.Dec.{eqb}
 use Rattle.design.specs.Closings.{closed_in}
 use Rattle.design.specs.Answers.{PlotNumbers, plot_numbers_of, PlotTrusted}
+
+-- no question has the number 0, which says that all were passed
+pub number_some : (q : Refusal) → eqb (number_of q) 0 ≡ false
+number_some question.LevelTable = refl
+number_some question.TextLength = refl
+number_some question.FirstLine = refl
+number_some question.LaterLine = refl
+number_some question.PlotCount = refl
+number_some question.Limits = refl
+number_some question.MissingLevel = refl
+number_some question.PlotFamilySize = refl
+number_some question.ClassSizes = refl
+number_some question.PlotPair = refl
+number_some question.TreatmentFamilySize = refl
+number_some question.TreatmentPair = refl
+number_some question.CrossedPair = refl
+number_some question.FinalFamilySize = refl
+number_some question.Family = refl
+number_some question.Stratum = refl
+number_some question.Formula = refl
+number_some question.FormulaLimits = refl
+number_some question.Parent = refl
 
 -- the numbers of a refusal
 abbrev pub refusing : ℕ → ℕ → ℕ → ℕ → PlotNumbers

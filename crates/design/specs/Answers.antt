@@ -1,14 +1,14 @@
--- The answers of the designs as the rules count them: the number of the refusal, its places and the sizes, for each case of the enums.
+-- The answers of the designs as the rules count them: the number of the refusal, its places and the sizes, of an acceptance and of a refusal.
 -- Assumes nothing.
-use Rattle.std.specs.Prelude.{◌≡◌, Bool, true, false, List, ℕ, eqb}
+use Rattle.std.specs.Prelude.{◌≡◌, Bool, true, false, List, ℕ, eqb, Result, Ok, Err}
 use Rattle.rules.specs.Family.{members_of}
 use Rattle.rules.specs.Design.{Answer, plot_size, treatment_size}
 use Rattle.rules.specs.Degrees.{TrustedStrata}
 use Rattle.rules.specs.Strata.{Trusted}
-use Rattle.design.specs.declared.PlotDesign.{PlotDesign}
-use Rattle.design.specs.declared.PlotDesign.TheVariants.{Accepted, Refused}
-use Rattle.design.specs.declared.FullDesign.{FullDesign}
-use Rattle.design.specs.declared.FullDesign.TheVariants as full
+use Rattle.refusal.specs.Numbers.{number_of}
+use Rattle.design.specs.declared.PlotRefusal.{PlotRefusal}
+use Rattle.design.specs.declared.FullRefusal.{FullRefusal}
+use Rattle.design.specs.declared.Sizes.{Sizes}
 
 -- whether it is accepted, the number of the question that failed or 0, the places, and the size of the plot family
 pub record PlotNumbers : Type 0 where
@@ -18,10 +18,10 @@ pub record PlotNumbers : Type 0 where
   pub second : ℕ
   pub size : ℕ
 
--- each case of the enum
-unfoldable pub plot_numbers : PlotDesign → PlotNumbers
-plot_numbers (Accepted size) = record { accepted = true; refusal = 0; first = 0; second = 0; size = size }
-plot_numbers (Refused r) = record { accepted = false; refusal = r.number; first = r.first; second = r.second; size = r.size }
+-- of an acceptance, and of a refusal
+unfoldable pub plot_numbers : Result ℕ PlotRefusal → PlotNumbers
+plot_numbers (Ok size) = record { accepted = true; refusal = 0; first = 0; second = 0; size = size }
+plot_numbers (Err r) = record { accepted = false; refusal = number_of r.question; first = r.first; second = r.second; size = r.size }
 
 -- an answer of the rules
 unfoldable pub plot_numbers_of : Answer → PlotNumbers
@@ -42,10 +42,10 @@ pub record FullNumbers : Type 0 where
   pub plot : ℕ
   pub treatment : ℕ
 
--- each case of the enum
-unfoldable pub full_numbers : FullDesign → FullNumbers
-full_numbers (full.Accepted s) = record { accepted = true; refusal = 0; first = 0; second = 0; plot = s.plot; treatment = s.treatment }
-full_numbers (full.Refused r) = record { accepted = false; refusal = r.number; first = r.first; second = r.second; plot = r.plot; treatment = r.treatment }
+-- of an acceptance, and of a refusal
+unfoldable pub full_numbers : Result Sizes FullRefusal → FullNumbers
+full_numbers (Ok s) = record { accepted = true; refusal = 0; first = 0; second = 0; plot = s.plot; treatment = s.treatment }
+full_numbers (Err r) = record { accepted = false; refusal = number_of r.question; first = r.first; second = r.second; plot = r.plot; treatment = r.treatment }
 
 -- an answer of the rules
 unfoldable pub full_numbers_of : Answer → FullNumbers

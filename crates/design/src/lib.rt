@@ -29,25 +29,24 @@ mod treatments;
 mod verdict;
 
 use limits::{COLUMNS, Level};
+use refusal::Refusal;
 
-// Why a plot design is refused: the question's number, the places it fails at, and the size of the family written.
+// Why a plot design is refused: the question, the places it fails at, and the size of the family written.
 #[derive(Clone, Copy)]
 pub struct PlotRefusal {
-    pub number: u32,
+    pub question: Refusal,
     pub first: usize,
     pub second: usize,
     pub size: usize,
 }
 
-// What the plot design answers: the size of the family written, or the refusal.
-#[derive(Clone, Copy)]
-pub enum PlotDesign {
-    Accepted(usize),
-    Refused(PlotRefusal),
-}
-
-// Questions 6 to 10 of the plot columns of a level table; the family is written where 8 is passed.
-pub fn plot_design(levels: &[Level], plots: usize, columns: usize, family: &mut [u8]) -> PlotDesign
+// Questions 6 to 10 of the plot columns of a level table; answers the size of the family, which is written where 8 is passed.
+pub fn plot_design(
+    levels: &[Level],
+    plots: usize,
+    columns: usize,
+    family: &mut [u8],
+) -> Result<usize, PlotRefusal>
     ensures answer { plot_numbers result ≡ plot_numbers_of (plot_design plots columns levels.now (length family.old)) }
     ensures buffer { family.new ≡ plot_buffer family.old (plot_design plots columns levels.now (length family.old)) }
     ensures demand { Lent plots columns levels.now family.old → AtMost 32 (InPlotFamily plots (columns_from plots levels.now 0 columns)) → Demand3 plots (columns_from plots levels.now 0 columns) (plot_numbers result).refusal (members_of plots family.new (plot_numbers result).size) }
@@ -55,10 +54,10 @@ pub fn plot_design(levels: &[Level], plots: usize, columns: usize, family: &mut 
     ensures compared { plot_numbers result ≡ plot_numbers_of (plot_design_by (pair_passes plots) plots columns levels.now (length family.old)) }
 {
     if !questions::within(plots, columns, levels.len(), family.len()) {
-        return verdict::refused(6);
+        return verdict::refused(Refusal::Limits);
     }
     if !levels::all_nonzero(levels, plots, 0, columns) {
-        return verdict::refused(7);
+        return verdict::refused(Refusal::MissingLevel);
     }
     steps::plot_from_8(levels, plots, columns, family)
 }
@@ -70,21 +69,29 @@ pub struct Sizes {
     pub treatment: usize,
 }
 
-// Why a full design is refused: the question's number, the places it fails at, and the sizes of the families written.
+// Why a full design is refused: the question, the places it fails at, and the sizes of the families written.
 #[derive(Clone, Copy)]
 pub struct FullRefusal {
-    pub number: u32,
+    pub question: Refusal,
     pub first: usize,
     pub second: usize,
     pub plot: usize,
     pub treatment: usize,
 }
 
-// What the full design answers: the sizes of the families written, or the refusal.
-#[derive(Clone, Copy)]
-pub enum FullDesign {
-    Accepted(Sizes),
-    Refused(FullRefusal),
+// A plot design's refusal, as one of the full design: no treatment family is written.
+impl From<PlotRefusal> for FullRefusal {
+    ghost from_gives = { λ r e. e ≡ record { question = r.question; first = r.first; second = r.second; plot = r.size; treatment = 0 } };
+
+    fn from(plots: PlotRefusal) -> FullRefusal {
+        FullRefusal {
+            question: plots.question,
+            first: plots.first,
+            second: plots.second,
+            plot: plots.size,
+            treatment: 0,
+        }
+    }
 }
 
 // Questions 6 to 14 of the plot and treatment columns of a level table.
@@ -96,7 +103,7 @@ pub fn full_design(
     k: usize,
     plot_family: &mut [u8],
     treatment_family: &mut [u8],
-) -> FullDesign
+) -> Result<Sizes, FullRefusal>
     ensures answer { full_numbers result ≡ full_numbers_of (full_design plots plot_columns treatment_columns k levels.now (length plot_family.old) (length treatment_family.old)) }
     ensures plots { plot_family.new ≡ plot_buffer plot_family.old (full_design plots plot_columns treatment_columns k levels.now (length plot_family.old) (length treatment_family.old)) }
     ensures treatments { treatment_family.new ≡ treatment_buffer treatment_family.old (full_design plots plot_columns treatment_columns k levels.now (length plot_family.old) (length treatment_family.old)) }
@@ -113,13 +120,13 @@ pub fn full_design(
         plot_family.len(),
         treatment_family.len(),
     ) {
-        return verdict::full_refused(6);
+        return verdict::full_refused(Refusal::Limits);
     }
     if !levels::all_nonzero(levels, plots, 0, plot_columns) {
-        return verdict::full_refused(7);
+        return verdict::full_refused(Refusal::MissingLevel);
     }
     if !levels::all_nonzero(levels, plots, COLUMNS, treatment_columns) {
-        return verdict::full_refused(7);
+        return verdict::full_refused(Refusal::MissingLevel);
     }
     steps::full_from_8(
         levels,

@@ -12,11 +12,16 @@ use crate::closed::close_plot_family;
 use crate::closing::PAIRS;
 use crate::treatments::first_family;
 use crate::verdict::{judge_plots, judge_treatments};
-use crate::{FullDesign, FullRefusal, PlotDesign};
+use crate::{FullRefusal, PlotRefusal, Sizes};
 use limits::{FAMILY, Level};
 
 // Questions 8 to 10.
-pub fn plot_from_8(levels: &[Level], n: usize, columns: usize, family: &mut [u8]) -> PlotDesign
+pub fn plot_from_8(
+    levels: &[Level],
+    n: usize,
+    columns: usize,
+    family: &mut [u8],
+) -> Result<usize, PlotRefusal>
     requires { (1 ≤ n) × (n ≤ most_plots) × (columns ≤ 6) × (table_cells ≤ length levels.now) × (family_bytes ≤ length family.old) }
     ensures answer { plot_numbers result ≡ plot_numbers_of (question8 n (closed_plot_family n (columns_from n levels.now 0 columns))) }
     ensures buffer { family.new ≡ plot_buffer family.old (question8 n (closed_plot_family n (columns_from n levels.now 0 columns))) }
@@ -36,7 +41,7 @@ pub fn full_from_8(
     k: usize,
     plot_family: &mut [u8],
     treatment_family: &mut [u8],
-) -> FullDesign
+) -> Result<Sizes, FullRefusal>
     requires { (1 ≤ n) × (n ≤ most_plots) × (c ≤ 6) × (d ≤ 6) × (1 ≤ k) × (k ≤ 6) × (table_cells ≤ length levels.now) × (family_bytes ≤ length plot_family.old) × (family_bytes ≤ length treatment_family.old) }
     ensures answer { full_numbers result ≡ full_numbers_of (with_treatments n k (columns_from n levels.now 6 d) (question8 n (closed_plot_family n (columns_from n levels.now 0 c)))) }
     ensures plots { plot_family.new ≡ plot_buffer plot_family.old (with_treatments n k (columns_from n levels.now 6 d) (question8 n (closed_plot_family n (columns_from n levels.now 0 c)))) }
@@ -45,28 +50,17 @@ pub fn full_from_8(
     let mut store = [0u8; FAMILY];
     let mut marks = [0u8; PAIRS];
     let closed = close_plot_family(levels, n, c, &mut store, &mut marks, plot_family);
-    let answer = judge_plots(plot_family, closed, &marks, n);
-    match answer {
-        PlotDesign::Refused(r) => FullDesign::Refused(FullRefusal {
-            number: r.number,
-            first: r.first,
-            second: r.second,
-            plot: r.size,
-            treatment: 0,
-        }),
-        PlotDesign::Accepted(held) => {
-            full_from_11(
-                levels,
-                n,
-                d,
-                k,
-                plot_family,
-                held,
-                &mut store,
-                treatment_family,
-            )
-        }
-    }
+    let held = judge_plots(plot_family, closed, &marks, n)?;
+    full_from_11(
+        levels,
+        n,
+        d,
+        k,
+        plot_family,
+        held,
+        &mut store,
+        treatment_family,
+    )
 }
 
 // Questions 11 to 14, with the plot family accepted.
@@ -79,7 +73,7 @@ fn full_from_11(
     held: usize,
     store: &mut [u8],
     treatment_family: &mut [u8],
-) -> FullDesign
+) -> Result<Sizes, FullRefusal>
     requires { (1 ≤ n) × (n ≤ most_plots) × (d ≤ 6) × (1 ≤ k) × (k ≤ 6) × (table_cells ≤ length levels.now) × Numbered n plot.now held × (equality n ∈ members_of n plot.now held) × (family_bytes ≤ length treatment_family.old) × (length store.old ≡ family_bytes) }
     ensures answer { full_numbers result ≡ full_numbers_of (question11 n (members_of n plot.now held) (first_treatment_family n k (columns_from n levels.now 6 d))) }
     ensures buffer { treatment_family.new ≡ treatment_buffer treatment_family.old (question11 n (members_of n plot.now held) (first_treatment_family n k (columns_from n levels.now 6 d))) }

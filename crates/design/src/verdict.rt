@@ -4,6 +4,7 @@ ghost use Rattle.rules.specs.Limits.{most_plots, family_bytes};
 ghost use Rattle.rules.specs.Factor.{uniform, orthogonal};
 ghost use Rattle.rules.specs.Family.{members_of};
 ghost use Rattle.rules.specs.Design.{refused, question8, question9, first_failing, question11, question12, question13, first_pair, first_cross, treatment_buffer};
+ghost use Rattle.refusal.specs.Numbers.{number_of};
 ghost use Rattle.design.specs.Judging.{MarksTell, Judging};
 ghost use Rattle.design.specs.Closings.{closed_in, Ready};
 ghost use Rattle.design.specs.Treatments.{Numbered};
@@ -14,16 +15,16 @@ use crate::closing::{PAIRS, TOO_MANY};
 use crate::crossing::cross;
 use crate::questions::{Places, first_apart, first_unequal};
 use crate::sorting::{sort, write};
-use crate::{FullDesign, FullRefusal, PlotDesign, PlotRefusal, Sizes};
+use crate::{FullRefusal, PlotRefusal, Sizes};
 use limits::MEMBERS;
+use refusal::Refusal;
 
 // A refusal that writes nothing.
-pub fn refused(number: u32) -> PlotDesign
-    requires { 0 < number }
-    ensures { plot_numbers result ≡ plot_numbers_of (refused number) }
+pub fn refused(question: Refusal) -> Result<usize, PlotRefusal>
+    ensures { plot_numbers result ≡ plot_numbers_of (refused (number_of question)) }
 {
-    PlotDesign::Refused(PlotRefusal {
-        number,
+    Err(PlotRefusal {
+        question,
         first: 0,
         second: 0,
         size: 0,
@@ -31,12 +32,11 @@ pub fn refused(number: u32) -> PlotDesign
 }
 
 // A refusal that writes nothing.
-pub fn full_refused(number: u32) -> FullDesign
-    requires { 0 < number }
-    ensures { full_numbers result ≡ full_numbers_of (refused number) }
+pub fn full_refused(question: Refusal) -> Result<Sizes, FullRefusal>
+    ensures { full_numbers result ≡ full_numbers_of (refused (number_of question)) }
 {
-    FullDesign::Refused(FullRefusal {
-        number,
+    Err(FullRefusal {
+        question,
         first: 0,
         second: 0,
         plot: 0,
@@ -45,13 +45,18 @@ pub fn full_refused(number: u32) -> FullDesign
 }
 
 // Questions 8 to 10 of a closed plot family.
-pub fn judge_plots(plot: &[u8], closed: ClosedFamily, marks: &[u8; PAIRS], n: usize) -> PlotDesign
+pub fn judge_plots(
+    plot: &[u8],
+    closed: ClosedFamily,
+    marks: &[u8; PAIRS],
+    n: usize,
+) -> Result<usize, PlotRefusal>
     requires { Ready n closed.size plot.now closed.order marks.now }
     ensures { plot_numbers result ≡ plot_numbers_of (question8 n (closed_in n plot.now closed.size)) }
 {
     let size = closed.size;
     if size == TOO_MANY {
-        return refused(8);
+        return refused(Refusal::PlotFamilySize);
     }
     let order = closed.order;
     from_9(&order, marks, n, size, plot)
@@ -64,14 +69,14 @@ fn from_9(
     n: usize,
     size: usize,
     family: &[u8],
-) -> PlotDesign
+) -> Result<usize, PlotRefusal>
     requires { Judging n size family.now order.now marks.now }
     ensures { plot_numbers result ≡ plot_numbers_of (question9 n (members_of n family.now size) (first_failing (uniform n) 1 (members_of n family.now size))) }
 {
     let unequal = first_unequal(family, n, size);
     if unequal != 0 {
-        return PlotDesign::Refused(PlotRefusal {
-            number: 9,
+        return Err(PlotRefusal {
+            question: Refusal::ClassSizes,
             first: unequal,
             second: 0,
             size,
@@ -80,22 +85,28 @@ fn from_9(
     let apart = first_apart(order, marks, size);
     let first = apart.first;
     if first != 0 {
-        return PlotDesign::Refused(PlotRefusal {
-            number: 10,
+        return Err(PlotRefusal {
+            question: Refusal::PlotPair,
             first,
             second: apart.second,
             size,
         });
     }
-    PlotDesign::Accepted(size)
+    Ok(size)
 }
 
 // A refusal by 11 to 14, with the sizes of the families written.
-fn treatments_refused(number: u32, i: usize, j: usize, plot: usize, treatment: usize) -> FullDesign
-    ensures { full_numbers result ≡ full_refusing number i j plot treatment }
+fn treatments_refused(
+    question: Refusal,
+    i: usize,
+    j: usize,
+    plot: usize,
+    treatment: usize,
+) -> Result<Sizes, FullRefusal>
+    ensures { full_numbers result ≡ full_refusing (number_of question) i j plot treatment }
 {
-    FullDesign::Refused(FullRefusal {
-        number,
+    Err(FullRefusal {
+        question,
         first: i,
         second: j,
         plot,
@@ -113,14 +124,14 @@ pub fn judge_treatments(
     n: usize,
     store: &mut [u8],
     treatment_family: &mut [u8],
-) -> FullDesign
+) -> Result<Sizes, FullRefusal>
     requires { (1 ≤ n) × (n ≤ most_plots) × Numbered n plot_family.now plot × ((closed.size ≡ 33 → ⊥) → Numbered n treatment_family.old closed.size × MarksTell (orthogonal n) (members_of n treatment_family.old closed.size) closed.order marks.now closed.size) × (length store.old ≡ family_bytes) }
     ensures answer { full_numbers result ≡ full_numbers_of (question11 n (members_of n plot_family.now plot) (closed_in n treatment_family.old closed.size)) }
     ensures buffer { treatment_family.new ≡ treatment_buffer treatment_family.old (question11 n (members_of n plot_family.now plot) (closed_in n treatment_family.old closed.size)) }
 {
     let size = closed.size;
     if size == TOO_MANY {
-        return treatments_refused(11, 0, 0, plot, 0);
+        return treatments_refused(Refusal::TreatmentFamilySize, 0, 0, plot, 0);
     }
     let order = closed.order;
     let pair = first_apart(&order, marks, size);
@@ -136,14 +147,14 @@ fn from_12(
     n: usize,
     store: &mut [u8],
     treatment_family: &mut [u8],
-) -> FullDesign
+) -> Result<Sizes, FullRefusal>
     requires { (1 ≤ n) × (n ≤ most_plots) × Numbered n plot_family.now plot × Numbered n treatment_family.old size × (pair.first ≡ (first_pair (orthogonal n) 1 (members_of n treatment_family.old size)).first) × (pair.second ≡ (first_pair (orthogonal n) 1 (members_of n treatment_family.old size)).second) × (length store.old ≡ family_bytes) }
     ensures answer { full_numbers result ≡ full_numbers_of (question12 n (members_of n plot_family.now plot) (members_of n treatment_family.old size) (first_pair (orthogonal n) 1 (members_of n treatment_family.old size))) }
     ensures buffer { treatment_family.new ≡ treatment_buffer treatment_family.old (question12 n (members_of n plot_family.now plot) (members_of n treatment_family.old size) (first_pair (orthogonal n) 1 (members_of n treatment_family.old size))) }
 {
     let at = pair.first;
     if at != 0 {
-        return treatments_refused(12, at, pair.second, plot, size);
+        return treatments_refused(Refusal::TreatmentPair, at, pair.second, plot, size);
     }
     from_13(plot_family, plot, size, n, store, treatment_family)
 }
@@ -156,7 +167,7 @@ fn from_13(
     n: usize,
     store: &mut [u8],
     treatment_family: &mut [u8],
-) -> FullDesign
+) -> Result<Sizes, FullRefusal>
     requires { (1 ≤ n) × (n ≤ most_plots) × Numbered n plot_family.now plot × Numbered n treatment_family.old size × (length store.old ≡ family_bytes) }
     ensures answer { full_numbers result ≡ full_numbers_of (question13 (members_of n plot_family.now plot) (members_of n treatment_family.old size) (first_cross (orthogonal n) 1 (members_of n plot_family.now plot) (members_of n treatment_family.old size))) }
     ensures buffer { treatment_family.new ≡ treatment_buffer treatment_family.old (question13 (members_of n plot_family.now plot) (members_of n treatment_family.old size) (first_cross (orthogonal n) 1 (members_of n plot_family.now plot) (members_of n treatment_family.old size))) }
@@ -173,15 +184,15 @@ fn from_13(
     );
     let at = crossed.first;
     if at != 0 {
-        return treatments_refused(13, at, crossed.second, plot, size);
+        return treatments_refused(Refusal::CrossedPair, at, crossed.second, plot, size);
     }
     let last = crossed.size;
     if last == TOO_MANY {
-        return treatments_refused(14, 0, 0, plot, size);
+        return treatments_refused(Refusal::FinalFamilySize, 0, 0, plot, size);
     }
     let order = sort(store, &counts, n, last);
     write(store, &order, n, last, treatment_family);
-    FullDesign::Accepted(Sizes {
+    Ok(Sizes {
         plot,
         treatment: last,
     })
