@@ -1,21 +1,25 @@
 -- Laws of words that have a bit for each member finer than one.
 -- Assumes nothing.
-use mathlib.Core.Path.{◌≡◌, sym, subst}
+use mathlib.Core.Path.{◌≡◌, sym, ap, ap₂, ◌∙◌, subst}
 use mathlib.Core.Logic.{⊎_elim}
+use mathlib.Core.Bool.{true}
 use mathlib.Core.List.{List}
-use Prim.Native.Nat.{ℕ, ◌*◌, ◌%◌, ◌^◌, ◌<◌}
+use Prim.Native.Nat.{ℕ, ◌*◌, ◌%◌, ◌^◌, ◌<◌, ◌≤◌}
+use native.Mathlib.Omega.{arith}
 use lib.Bits.{bit_or}
 use lib.Dec.{eqb}
 use lib.ListN.{length, get_or, set, replicate}
 use lib.Seq.{get_or-set_same, get_or-set_other}
 use borrow.Author.Tests.{eqb-true, eqb-false}
-use Rattle.rules.specs.Factor.{Finer}
+use Rattle.rules.specs.Factor.{Column, Finer, classes, finer}
 use Rattle.rules.proofs.Members.{clash}
 use Rattle.rules.proofs.Numbering.{by_cases}
 use Rattle.rules.proofs.Bits.{bit_none}
 use Rattle.rules.proofs.Bounds.{finer_trans}
+use Rattle.rules.proofs.Classes.{finer_test}
 use Rattle.design.specs.State.{column_at}
-use Rattle.design.specs.Crossing.{FinerBits}
+use Rattle.design.specs.Crossing.{Counted, FinerBits}
+use Rattle.design.specs.Treatments.{Numbered}
 use Rattle.design.proofs.Choosing.{zero_at}
 use Rattle.design.proofs.KnownOrder.{or_bit, shifted_bit}
 
@@ -46,3 +50,15 @@ module _ (n : ℕ) (family : List ℕ) where
     where
       at : k ≡ i → FinerBits n family (get_or (set words i word) k 0) k
       at q = rw q (subst (λ (x : ℕ). FinerBits n family x i) (sym (get_or-set_same words i word 0 h)) w)
+
+-- columns that are found to be in order, as they are lent
+pub finer_lent : (n : ℕ) (F G X Y : Column) → X ≡ F → Y ≡ G → length F ≡ n → finer (length X) X Y ≡ true → Finer n F G
+finer_lent n F G X Y x y l e = (finer_test n F G).0 (sym (ap₂ (λ (A B : Column). finer (length A) A B) x y ∙ ap (λ (m : ℕ). finer m F G) l) ∙ e)
+
+-- they may be looked at
+pub order_asked : {n f g : ℕ} {F G X Y : Column} → X ≡ F → Y ≡ G → length F ≡ n → length G ≡ n → 1 ≤ n → n ≤ 240 → f ≡ classes F → g ≡ classes G → (1 ≤ length X) × (length X ≤ 240) × (length Y ≡ length X) × (f ≡ classes X) × (g ≡ classes Y)
+order_asked x y l_f l_g some most f g = rw (x, y) (omega arith, omega arith, l_g ∙ sym l_f, f, g)
+
+-- members that are counted
+pub counted_members : (n : ℕ) (family counts : List ℕ) (size : ℕ) → Numbered n family size → ((i : ℕ) → i < size → get_or counts i 0 ≡ classes (column_at n family i)) → Counted n family counts size
+counted_members n family counts size m c i h = record { room = m.room; place = omega (arith, m.few); numbered = m.numbered i h; count = c i h }

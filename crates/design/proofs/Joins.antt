@@ -2,10 +2,11 @@
 -- Assumes nothing.
 use mathlib.Core.Path.{◌≡◌, refl, sym, ap, ap₂, ◌∙◌, subst}
 use mathlib.Core.Logic.{◌⊎◌, inl, inr}
-use mathlib.Core.Bool.{true, false}
+use mathlib.Core.Bool.{Bool, true, false}
 use mathlib.Core.List.Memᴰ
 use mathlib.Core.List.{List, [], ◌∷◌, ◌++◌, append-nil}
-use Prim.Native.Nat.{ℕ, zero, suc, ◌+◌, ◌*◌, ◌/◌, ◌%◌, ◌≤◌, ◌<◌}
+use Rattle.std.proofs.Common.{Option, Some, None}
+use Prim.Native.Nat.{ℕ, zero, suc, ◌+◌, ◌*◌, ◌≤◌, ◌<◌}
 use native.Mathlib.Nat.{le_trans, add_comm, one-mul}
 use native.Mathlib.Numerals.{add-one}
 use native.Mathlib.Omega.{arith}
@@ -13,7 +14,7 @@ use lib.Dec.{eqb}
 use lib.ListN.{length, get_or, set, drop, replicate, length-set, length-replicate, length-append, drop_of_length-le}
 use lib.Seq.{drop-cons, get_or-set_same, get_or-set_other}
 use borrow.Author.Tests.{eqb-true, eqb-false}
-use Rattle.rules.specs.Factor.{Column, Finer, number, classes, supremum, orthogonal}
+use Rattle.rules.specs.Factor.{Column, Finer, number, supremum, orthogonal}
 use Rattle.rules.specs.Lists.{bit_at}
 use Rattle.rules.specs.Family.{Family, ◌∈◌, members_of}
 use Rattle.rules.specs.Closing.{only_supremum, products_of, products}
@@ -22,8 +23,8 @@ use Rattle.rules.proofs.Bounds.{supremum_left}
 use Rattle.rules.proofs.Between.{between_supremum, between_test, between_supremum_right, between_test_right}
 use Rattle.rules.proofs.Buffer.{length_members, member_is}
 use Rattle.design.specs.State.{column_at, Held, PlacedMember, full, old, new, grown_to, Begun}
-use Rattle.design.specs.Treatments.{Placing, exceeded, begun, orthogonal_at, Numbered}
-use Rattle.design.specs.Crossing.{Counted, FinerBits, held_of, Growing, Grown, Join, Joins, Tested, Entered, nowhere, somewhere, ChosenJoin}
+use Rattle.design.specs.Treatments.{orthogonal_at}
+use Rattle.design.specs.Crossing.{FinerBits, Placing, exceeded, begun, Growing, Grown, Adds, Stands, Join, entry_at, Joins, Tested, Chosen}
 use Rattle.factor.proofs.Lent.{length_part}
 use Rattle.design.proofs.Choosing.{zero_at}
 use Rattle.design.proofs.Placing.{place_in, placed_full, placed_old, grown_old}
@@ -32,9 +33,9 @@ use Rattle.design.proofs.Work.{member_column, size_members, Stood, stood, column
 
 -- ---- the order of columns that are placed does not matter
 
-pub placing_same : {n : ℕ} {As Bs : List Column} {store counts : List ℕ} {r : ℕ} → length As ≡ length Bs → ((G : Column) → G ∈ As → G ∈ Bs) → ((G : Column) → G ∈ Bs → G ∈ As) → Placing n As store counts r → Placing n Bs store counts r
+pub placing_same : {n : ℕ} {As Bs : List Column} {store counts : List ℕ} {r : ℕ} {over : Bool} → length As ≡ length Bs → ((G : Column) → G ∈ As → G ∈ Bs) → ((G : Column) → G ∈ Bs → G ∈ As) → Placing n As store counts r over → Placing n Bs store counts r over
 placing_same {As = As} {Bs = Bs} l f g (exceeded e h) = exceeded e (le_trans h (insert_all_more As Bs f))
-placing_same l f g (begun b) = begun record {
+placing_same l f g (begun e b) = begun e record {
   held = b.held;
   most = rw (← l) b.most;
   distinct = b.distinct;
@@ -44,7 +45,7 @@ placing_same l f g (begun b) = begun record {
 }
 
 -- a column before the last ones
-placing_before : {n : ℕ} {store counts : List ℕ} {r : ℕ} (As Bs : List Column) (F : Column) → Placing n ((As ++ Bs) ++ F ∷ []) store counts r → Placing n (As ++ F ∷ Bs) store counts r
+placing_before : {n : ℕ} {store counts : List ℕ} {r : ℕ} {over : Bool} (As Bs : List Column) (F : Column) → Placing n ((As ++ Bs) ++ F ∷ []) store counts r over → Placing n (As ++ F ∷ Bs) store counts r over
 placing_before As Bs F = placing_same lengths (λ G m. to G (Memᴰ.append_cases (As ++ Bs) m)) (λ G m. from G (Memᴰ.append_cases As m))
   where
     lengths : length ((As ++ Bs) ++ F ∷ []) ≡ length (As ++ F ∷ Bs)
@@ -67,7 +68,7 @@ placing_before As Bs F = placing_same lengths (λ G m. to G (Memᴰ.append_cases
     from G (inr m) = later G (Memᴰ.cases_cons m)
 
 -- the last ones before the others
-placing_flip : {n : ℕ} {store counts : List ℕ} {r : ℕ} (As Bs : List Column) → Placing n (As ++ Bs) store counts r → Placing n (Bs ++ As) store counts r
+placing_flip : {n : ℕ} {store counts : List ℕ} {r : ℕ} {over : Bool} (As Bs : List Column) → Placing n (As ++ Bs) store counts r over → Placing n (Bs ++ As) store counts r over
 placing_flip As Bs = placing_same (omega (arith, length-append As Bs, length-append Bs As)) (λ G m. turn As Bs G (Memᴰ.append_cases As m)) (λ G m. turn Bs As G (Memᴰ.append_cases Bs m))
   where
     turn : (As Bs : List Column) (G : Column) → (G ∈ As) ⊎ (G ∈ Bs) → G ∈ Bs ++ As
@@ -101,10 +102,10 @@ module _ (n : ℕ) (small : n ≤ 240) (b : List ℕ) (size : ℕ) where
     row_none = rw none_left (append-nil As)
 
     -- a supremum more
-    pub row_more : (j : ℕ) → j < size → {store counts : List ℕ} {r : ℕ} → Placing n (row_from (j + 1) ++ supremum F (column_at n b j) ∷ []) store counts r → Placing n (row_from j) store counts r
+    pub row_more : (j : ℕ) → j < size → {store counts : List ℕ} {r : ℕ} {over : Bool} → Placing n (row_from (j + 1) ++ supremum F (column_at n b j) ∷ []) store counts r over → Placing n (row_from j) store counts r over
     unfolding products_of only_supremum
-    row_more j h {store} {counts} {r} p =
-        subst (λ (S : Family). Placing n (As ++ products_of only_supremum F S) store counts r) (sym (one_left j h)) (placing_before As (products_of only_supremum F (members_from (j + 1))) (supremum F (column_at n b j)) p)
+    row_more j h {store} {counts} {r} {over} p =
+        subst (λ (S : Family). Placing n (As ++ products_of only_supremum F S) store counts r over) (sym (one_left j h)) (placing_before As (products_of only_supremum F (members_from (j + 1))) (supremum F (column_at n b j)) p)
 
   module _ (S : Family) where
     -- the suprema of the members from place i on with those of S
@@ -116,89 +117,77 @@ module _ (n : ℕ) (small : n ≤ 240) (b : List ℕ) (size : ℕ) where
     rows_none = rw none_left
 
     -- a row more
-    pub rows_more : (i : ℕ) → i < size → {store counts : List ℕ} {r : ℕ} → Placing n (rows_from (i + 1) ++ products_of only_supremum (column_at n b i) S) store counts r → Placing n (rows_from i) store counts r
+    pub rows_more : (i : ℕ) → i < size → {store counts : List ℕ} {r : ℕ} {over : Bool} → Placing n (rows_from (i + 1) ++ products_of only_supremum (column_at n b i) S) store counts r over → Placing n (rows_from i) store counts r over
     unfolding products
-    rows_more i h {store} {counts} {r} p =
-        subst (λ (P : Family). Placing n (products only_supremum P S) store counts r) (sym (one_left i h)) (placing_flip (rows_from (i + 1)) (products_of only_supremum (column_at n b i) S) p)
-
--- ---- members that are counted
-
-pub counted_members : (n : ℕ) (family counts : List ℕ) (size : ℕ) → Numbered n family size → ((i : ℕ) → i < size → get_or counts i 0 ≡ classes (column_at n family i)) → Counted n family counts size
-counted_members n family counts size m c i h = record { room = m.room; place = omega (arith, m.few); numbered = m.numbered i h; count = c i h }
+    rows_more i h {store} {counts} {r} {over} p =
+        subst (λ (P : Family). Placing n (products only_supremum P S) store counts r over) (sym (one_left i h)) (placing_flip (rows_from (i + 1)) (products_of only_supremum (column_at n b i) S) p)
 
 -- ---- a column added
 
--- what is placed, and the column
-abbrev Adds : ℕ → List ℕ → List ℕ → ℕ → Column → List ℕ → List ℕ → ℕ → Type 0
-Adds n store counts size F after counts' r = (As : List Column) → Placing n As store counts size → Placing n (As ++ F ∷ []) after counts' r
-
--- how many the store holds while there is room, and once there is none
-pub held_room : (n : ℕ) (store counts : List ℕ) (size : ℕ) → Growing n store counts size → size < 32 → Held n store counts size
-held_room n store counts size g less = let e : held_of size ≡ size = omega arith in subst (Held n store counts) e g.held
-
-pub held_full : (n : ℕ) (store counts : List ℕ) (size : ℕ) → Growing n store counts size → 32 ≤ size → Held n store counts 32
-held_full n store counts size g most = let e : held_of size ≡ 32 = omega arith in subst (Held n store counts) e g.held
+-- what is not true is false
+untrue : (b : Bool) → (b ≡ true → ⊥) → b ≡ false
+untrue true d = absurd (d refl)
+untrue false d = refl
 
 -- there are too many already
-over_adds : (n : ℕ) (store counts : List ℕ) (size : ℕ) (F : Column) (after counts' : List ℕ) → size ≡ 33 → Adds n store counts size F after counts' 33
-over_adds n store counts size F after counts' e As p = exceeded refl (le_trans (placing_over n As store counts size e p) (insert_all_more As (As ++ F ∷ []) (λ G m. Memᴰ.append_left _ m)))
+over_adds : (n : ℕ) (store counts : List ℕ) (size : ℕ) (over : Bool) (F : Column) (after counts' : List ℕ) (size' : ℕ) (over' : Bool) → over ≡ true → over' ≡ true → Adds n store counts size over F after counts' size' over'
+over_adds n store counts size over F after counts' size' over' e e' As p = exceeded e' (le_trans (placing_over n As store counts size over e p) (insert_all_more As (As ++ F ∷ []) (λ G m. Memᴰ.append_left _ m)))
 
-module _ (n : ℕ) (store counts : List ℕ) (size : ℕ) (g : Growing n store counts size) (F : Column) (numbered : number F ≡ F) where
-  module _ (less : size < 32) (p : ℕ) (after counts' : List ℕ) (w : PlacedMember n (members_of n store size) F p after counts') where
-    room_held : Held n store counts size
-    room_held = held_room n store counts size g less
-
+module _ {n : ℕ} {store counts : List ℕ} {size : ℕ} {over : Bool} (g : Growing n store counts size over) {F : Column} (numbered : number F ≡ F) where
+  module _ (less : size < 32) {p : ℕ} {after counts' : List ℕ} (w : PlacedMember n (members_of n store size) F p after counts') where
     -- it has a place
     pub room_place : p < 32
     room_place = go w
       where
         go : PlacedMember n (members_of n store size) F p after counts' → p < 32
-        go (full e l m) = absurd (let q : 32 ≡ size = sym l ∙ size_members room_held in omega arith)
-        go (old l m k e) = omega (arith, size_members room_held)
+        go (full e l m) = absurd (let q : 32 ≡ size = sym l ∙ size_members g.held in omega arith)
+        go (old l m k e) = omega (arith, size_members g.held, g.held.few)
         go (new e l m k q) = l
 
     missing : p ≡ 32 → ⊥
     missing e = omega (arith, room_place)
 
     stands : Stood n (members_of n store size) F p after counts' (grown_to size p)
-    stands = stood size (size_members room_held) w missing
+    stands = stood size (size_members g.held) w missing
 
-    module _ (r : ℕ) (e : r ≡ grown_to size p) where
-      most : held_of r ≡ grown_to size p
-      most = let k : grown_to size p ≤ 32 = stands.held.few in omega arith
+    -- there were not too many
+    within : over ≡ true → ⊥
+    within e = omega (arith, g.full e)
 
-      pub room_grown : Grown n store size after counts' r
-      room_grown = record {
-        growing = record { limit = let k : grown_to size p ≤ 32 = stands.held.few in omega arith; held = subst (Held n after counts') (sym most) stands.held };
-        more = omega (arith, most, stands.more, size_members room_held);
-        keeps = λ k h. column_kept room_held stands k (omega arith);
-      }
+    pub room_growing : Growing n after counts' (grown_to size p) over
+    room_growing = record { held = stands.held; full = λ e. absurd (within e) }
 
-      pub room_entered : (joins joins' : List ℕ) (at : ℕ) → joins' ≡ set joins at (p + 1) → Entered n F after (held_of r) joins at joins'
-      room_entered joins joins' at q =
-          somewhere p (omega (arith, most, stands.here)) (sym (member_column stands.held p stands.here) ∙ stands.is) (q ∙ ap (set joins at) (add-one p))
+    pub room_grown : Grown n store size after (grown_to size p)
+    room_grown = record { more = omega (arith, stands.more, size_members g.held); keeps = λ k h. column_kept g.held stands k h }
 
-      pub room_adds : Adds n store counts size F after counts' r
-      room_adds As q =
-          begun (subst (Begun n (As ++ F ∷ []) after counts') (sym e) (begun_placed n store counts size room_held F p after counts' As (placing_begun n As store counts size (λ z. omega arith) q) numbered missing w))
+    pub room_stands : Stands n F after (grown_to size p) (Some p)
+    room_stands q e = let h : p ≡ q = cc in subst (λ (k : ℕ). (k < grown_to size p) × (column_at n after k ≡ F)) h (stands.here, sym (member_column stands.held p stands.here) ∙ stands.is)
 
-  module _ (length-is : length F ≡ n) (most : 32 ≤ size) (p : ℕ) (found : p ≡ place_in (members_of n store 32) F) where
+    pub room_adds : Adds n store counts size over F after counts' (grown_to size p) over
+    room_adds As q =
+        let z : over ≡ false = untrue over within in
+        begun z (begun_placed n store counts size g.held F p after counts' As (placing_begun n As store counts size over z q) numbered missing w)
+
+  module _ (length-is : length F ≡ n) (most : 32 ≤ size) {p : ℕ} (found : p ≡ place_in (members_of n store 32) F) where
+    all : size ≡ 32
+    all = omega (arith, g.held.few)
+
     held_all : Held n store counts 32
-    held_all = held_full n store counts size g most
+    held_all = subst (Held n store counts) all g.held
 
-    -- the members with their size as it is answered
-    as_placed : (As : List Column) → (size ≡ 33 → ⊥) → Placing n As store counts size → Begun n As store counts 32
-    as_placed As d q = let e : size ≡ 32 = omega (arith, g.limit) in subst (Begun n As store counts) e (placing_begun n As store counts size d q)
+    -- the members, where they are not too many
+    as_placed : (As : List Column) → over ≡ false → Placing n As store counts size over → Begun n As store counts 32
+    as_placed As z q = subst (Begun n As store counts) all (placing_begun n As store counts size over z q)
 
     -- it is new, and there is no room
     module _ (e : p ≡ 32) where
-      pub full_grown : Grown n store size store counts 33
-      full_grown = record { growing = record { limit = omega arith; held = held_all }; more = omega arith; keeps = λ k h. refl }
+      pub full_growing : Growing n store counts size true
+      full_growing = record { held = g.held; full = λ z. all }
 
-      pub full_adds : Adds n store counts size F store counts 33
-      full_adds As q = by_cases (eqb size 33)
-          (λ h. over_adds n store counts size F store counts (eqb-true size 33 h) As q)
-          (λ h. exceeded refl (over_placed n store counts 32 held_all F p store counts As (as_placed As (eqb-false size 33 h) q) e (placed_full n store counts 32 held_all F length-is p found e)))
+      pub full_adds : Adds n store counts size over F store counts size true
+      full_adds As q = by_cases over
+          (λ h. over_adds n store counts size over F store counts size true h refl As q)
+          (λ h. exceeded refl (over_placed n store counts 32 held_all F p store counts As (as_placed As h q) e (placed_full n store counts 32 held_all F length-is p found e)))
 
     -- it is there
     module _ (d : p ≡ 32 → ⊥) where
@@ -211,84 +200,85 @@ module _ (n : ℕ) (store counts : List ℕ) (size : ℕ) (g : Growing n store c
       pub old_place : p < 32
       old_place = omega (arith, there.here, same_size)
 
-      pub old_grown : Grown n store size store counts size
-      old_grown = record { growing = g; more = omega arith; keeps = λ k h. refl }
+      pub old_stands : Stands n F store size (Some p)
+      old_stands q e = let h : p ≡ q = cc in subst (λ (k : ℕ). (k < size) × (column_at n store k ≡ F)) h (omega (arith, old_place, all), sym (member_column there.held p there.here) ∙ there.is)
 
-      pub old_entered : (joins joins' : List ℕ) (at : ℕ) → joins' ≡ set joins at (p + 1) → Entered n F store (held_of size) joins at joins'
-      old_entered joins joins' at q =
-          somewhere p (omega (arith, old_place)) (sym (member_column there.held p there.here) ∙ there.is) (q ∙ ap (set joins at) (add-one p))
+      pub old_adds : Adds n store counts size over F store counts size over
+      old_adds As q = by_cases over
+          (λ h. over_adds n store counts size over F store counts size over h h As q)
+          (λ h. begun h (subst (Begun n (As ++ F ∷ []) store counts) (same_size ∙ sym all) (begun_placed n store counts 32 held_all F p store counts As (as_placed As h q) numbered d (placed_old n store counts 32 held_all F length-is p found d))))
 
-      pub old_adds : Adds n store counts size F store counts size
-      old_adds As q = by_cases (eqb size 33)
-          (λ h. let e : size ≡ 33 = eqb-true size 33 h in subst (Placing n (As ++ F ∷ []) store counts) (sym e) (over_adds n store counts size F store counts e As q))
-          (λ h. let e : size ≡ 32 = omega (arith, g.limit, eqb-false size 33 h) in
-          begun (subst (Begun n (As ++ F ∷ []) store counts) (same_size ∙ sym e) (begun_placed n store counts 32 held_all F p store counts As (as_placed As (eqb-false size 33 h) q) numbered d (placed_old n store counts 32 held_all F length-is p found d))))
+-- as it was
+pub grown_same : (n : ℕ) (store : List ℕ) (size : ℕ) → Grown n store size store size
+grown_same n store size = record { more = omega arith; keeps = λ k h. refl }
 
 -- ---- the same of a column as it is lent
 
-pub growing_on : (n : ℕ) (store counts : List ℕ) (size : ℕ) (X F : Column) → X ≡ F → length F ≡ n → Growing n store counts size → Growing (length X) store counts size
-growing_on n store counts size X F e l g = subst (λ (k : ℕ). Growing k store counts size) (sym (ap length e ∙ l)) g
+module _ {n : ℕ} {X F : Column} (e : X ≡ F) (l : length F ≡ n) where
+  length_lent : length X ≡ n
+  length_lent = ap length e ∙ l
 
-module _ (n : ℕ) (store : List ℕ) (size : ℕ) (X F : Column) (after counts' : List ℕ) (r : ℕ) (e : X ≡ F) (l : length F ≡ n) where
-  pub grown_on : Grown (length X) store size after counts' r → Grown n store size after counts' r
-  grown_on p = subst (λ (k : ℕ). Grown k store size after counts' r) (ap length e ∙ l) p
+  pub growing_on : {store counts : List ℕ} {size : ℕ} {over : Bool} → Growing n store counts size over → Growing (length X) store counts size over
+  growing_on {store} {counts} {size} {over} g = subst (λ (k : ℕ). Growing k store counts size over) (sym length_lent) g
 
-  pub entered_on : (joins : List ℕ) (at : ℕ) (joins' : List ℕ) → Entered (length X) X after (held_of r) joins at joins' → Entered n F after (held_of r) joins at joins'
-  entered_on joins at joins' p = subst (λ (k : ℕ). Entered k F after (held_of r) joins at joins') l (subst (λ (Y : Column). Entered (length Y) Y after (held_of r) joins at joins') e p)
+  pub growing_off : {store counts : List ℕ} {size : ℕ} {over : Bool} → Growing (length X) store counts size over → Growing n store counts size over
+  growing_off {store} {counts} {size} {over} g = subst (λ (k : ℕ). Growing k store counts size over) length_lent g
 
-  pub adds_on : (counts : List ℕ) → Adds (length X) store counts size X after counts' r → Adds n store counts size F after counts' r
-  adds_on counts p = subst (λ (k : ℕ). Adds k store counts size F after counts' r) l (subst (λ (Y : Column). Adds (length Y) store counts size Y after counts' r) e p)
+  pub grown_off : {store after : List ℕ} {size size' : ℕ} → Grown (length X) store size after size' → Grown n store size after size'
+  grown_off {store} {after} {size} {size'} g = subst (λ (k : ℕ). Grown k store size after size') length_lent g
+
+  pub stands_off : (store : List ℕ) (size : ℕ) (place : Option ℕ) → Stands (length X) X store size place → Stands n F store size place
+  stands_off store size place s = subst (λ (k : ℕ). Stands k F store size place) length_lent (subst (λ (Y : Column). Stands (length X) Y store size place) e s)
+
+  pub adds_off : (store counts : List ℕ) (size : ℕ) (over : Bool) (after counts' : List ℕ) (size' : ℕ) (over' : Bool) → Adds (length X) store counts size over X after counts' size' over' → Adds n store counts size over F after counts' size' over'
+  adds_off store counts size over after counts' size' over' s = subst (λ (k : ℕ). Adds k store counts size over F after counts' size' over') length_lent (subst (λ (Y : Column). Adds (length X) store counts size over Y after counts' size' over') e s)
 
 -- ---- the table
 
 -- nothing yet
-pub joins_none : (n : ℕ) (plot first store : List ℕ) (size : ℕ) → Joins n plot first store size (replicate 1024 0)
-joins_none n plot first store size = record { cells = length-replicate {A = ℕ} 1024 0; sound = λ i j q hi hj e. absurd (let w : suc q ≡ 0 = sym e ∙ zero_at 1024 (32 * i + j) in omega arith) }
+none_at : (m k : ℕ) → get_or (replicate {A = Option ℕ} m None) k None ≡ None
+none_at zero k = refl
+none_at (suc m) zero = refl
+none_at (suc m) (suc k) = none_at m k
+
+pub joins_none : (n : ℕ) (plot first store : List ℕ) (size : ℕ) → Joins n plot first store size (replicate 1024 None)
+joins_none n plot first store size = record { cells = length-replicate {A = Option ℕ} 1024 None; sound = λ i j q hi hj e. absurd (let w : Some q ≡ None = sym e ∙ none_at 1024 (32 * i + j) in cc) }
 
 -- what the table tells of a pair, and a pair that is not orthogonal of itself
-pub joins_tested : (n : ℕ) (plot first store : List ℕ) (size : ℕ) (joins : List ℕ) → Joins n plot first store size joins → (apart : ℕ) → orthogonal_at n plot first (apart / 32) (apart % 32) ≡ false → (i j : ℕ) → i < 32 → j < 32 → Tested n plot first joins apart i j
-joins_tested n plot first store size joins t apart f i j hi hj = (λ d. go (get_or joins (32 * i + j) 0) refl d, λ e. itself e)
-  where
-    go : (x : ℕ) → get_or joins (32 * i + j) 0 ≡ x → (get_or joins (32 * i + j) 0 ≡ 0 → ⊥) → orthogonal_at n plot first i j ≡ true
-    go zero e d = absurd (d e)
-    go (suc q) e d = (t.sound i j q hi hj e).test
-
-    itself : 32 * i + j ≡ apart → orthogonal_at n plot first i j ≡ false
-    itself e =
-        let p : i ≡ apart / 32 = omega arith in
-        let q : j ≡ apart % 32 = omega arith in
-        rw (p, q) f
+pub joins_tested : (n : ℕ) (plot first store : List ℕ) (size : ℕ) (joins : List (Option ℕ)) → Joins n plot first store size joins → (a b : ℕ) → orthogonal_at n plot first a b ≡ false → (i j : ℕ) → i < 32 → j < 32 → Tested n plot first joins a b i j
+joins_tested n plot first store size joins t a b f i j hi hj = record {
+  joined = λ q e. (t.sound i j q hi hj e).test;
+  apart = λ p q. rw (p, q) f;
+}
 
 module _ {n : ℕ} {plot first : List ℕ} where
   -- what it has stays true when the store grows
-  pub joins_kept : {store after counts joins : List ℕ} {size r : ℕ} → Grown n store size after counts r → Joins n plot first store (held_of size) joins → Joins n plot first after (held_of r) joins
+  pub joins_kept : {store after : List ℕ} {joins : List (Option ℕ)} {size r : ℕ} → Grown n store size after r → Joins n plot first store size joins → Joins n plot first after r joins
   joins_kept g t = record {
     cells = t.cells;
     sound = λ i j q hi hj e. let w = t.sound i j q hi hj e in record { less = omega (arith, w.less, g.more); is = g.keeps q w.less ∙ w.is; test = w.test };
   }
 
-  -- a pair more
-  pub joins_more : {store joins : List ℕ} {size : ℕ} (i j q : ℕ) → i < 32 → j < 32 → Join n (column_at n plot i) (column_at n first j) store size q → Joins n plot first store size joins → Joins n plot first store size (set joins (32 * i + j) (suc q))
-  joins_more {store} {joins} {size} i j q hi hj w t = record {
-    cells = length-set joins (32 * i + j) (suc q) ∙ t.cells;
+  -- a pair more, whose supremum has a place or not
+  pub joins_more : {store : List ℕ} {joins : List (Option ℕ)} {size : ℕ} (i j : ℕ) (place : Option ℕ) → i < 32 → j < 32 → ((q : ℕ) → place ≡ Some q → Join n (column_at n plot i) (column_at n first j) store size q) → Joins n plot first store size joins → Joins n plot first store size (set joins (32 * i + j) place)
+  joins_more {store} {joins} {size} i j place hi hj w t = record {
+    cells = length-set joins (32 * i + j) place ∙ t.cells;
     sound = λ a b p ha hb e. by_cases (eqb (32 * a + b) (32 * i + j))
         (λ s. here a b p (eqb-true (32 * a + b) (32 * i + j) s) hb e)
-        (λ s. t.sound a b p ha hb (sym (get_or-set_other joins (32 * i + j) (32 * a + b) (suc q) 0 (eqb-false (32 * a + b) (32 * i + j) s)) ∙ e));
+        (λ s. t.sound a b p ha hb (sym (get_or-set_other joins (32 * i + j) (32 * a + b) place None (eqb-false (32 * a + b) (32 * i + j) s)) ∙ e));
   }
     where
-      here : (a b p : ℕ) → 32 * a + b ≡ 32 * i + j → b < 32 → get_or (set joins (32 * i + j) (suc q)) (32 * a + b) 0 ≡ suc p → Join n (column_at n plot a) (column_at n first b) store size p
+      here : (a b p : ℕ) → 32 * a + b ≡ 32 * i + j → b < 32 → get_or (set joins (32 * i + j) place) (32 * a + b) None ≡ Some p → Join n (column_at n plot a) (column_at n first b) store size p
       here a b p s hb e =
           let ea : a ≡ i = omega arith in
           let eb : b ≡ j = omega arith in
-          let v : get_or (set joins (32 * i + j) (suc q)) (32 * a + b) 0 ≡ suc q = rw s (get_or-set_same joins (32 * i + j) (suc q) 0 (omega (arith, t.cells))) in
-          let ep : p ≡ q = omega arith in
-          rw (ea, eb, ep) w
+          let v : get_or (set joins (32 * i + j) place) (32 * a + b) None ≡ place = rw s (get_or-set_same joins (32 * i + j) place None (omega (arith, t.cells))) in
+          rw (ea, eb) (w p (sym v ∙ e))
 
   -- a pair whose supremum is added
-  pub joins_entered : {store after counts joins joins' : List ℕ} {size r : ℕ} (i j : ℕ) → i < 32 → j < 32 → Grown n store size after counts r → Entered n (supremum (column_at n plot i) (column_at n first j)) after (held_of r) joins (32 * i + j) joins'
-      → orthogonal n (column_at n plot i) (column_at n first j) ≡ true → Joins n plot first store (held_of size) joins → Joins n plot first after (held_of r) joins'
-  joins_entered {after = after} {r = r} i j hi hj g (nowhere e) o t = subst (Joins n plot first after (held_of r)) (sym e) (joins_kept g t)
-  joins_entered {after = after} {r = r} i j hi hj g (somewhere q l is e) o t = subst (Joins n plot first after (held_of r)) (sym e) (joins_more i j q hi hj record { less = l; is = is; test = o } (joins_kept g t))
+  pub joins_entered : {store after : List ℕ} {joins : List (Option ℕ)} {size r : ℕ} (i j : ℕ) (place : Option ℕ) → i < 32 → j < 32 → Grown n store size after r → Stands n (supremum (column_at n plot i) (column_at n first j)) after r place
+      → orthogonal n (column_at n plot i) (column_at n first j) ≡ true → Joins n plot first store size joins → Joins n plot first after r (set joins (32 * i + j) place)
+  joins_entered i j place hi hj g s o t = joins_more i j place hi hj (λ q e. let w = s q e in record { less = w.0; is = w.1; test = o }) (joins_kept g t)
 
 -- ---- what follows from the table
 
@@ -310,130 +300,70 @@ module _ {n : ℕ} {store : List ℕ} {size q : ℕ} {F G : Column} (l_f : lengt
       record { less = w.less; is = w.is ∙ sym (between_supremum_right n F G' G l_f lG' l_g f v); test = between_test_right n F G' G l_f lG' l_g f v w.test }
 
 -- the supremum is there already
-pub joined_adds : (n : ℕ) (store counts : List ℕ) (size : ℕ) → Growing n store counts size → (F G : Column) (q : ℕ) → number (supremum F G) ≡ supremum F G → Join n F G store (held_of size) q → Adds n store counts size (supremum F G) store counts size
-joined_adds n store counts size g F G q numbered w As p = by_cases (eqb size 33)
-    (λ h. let e : size ≡ 33 = eqb-true size 33 h in subst (Placing n (As ++ supremum F G ∷ []) store counts) (sym e) (over_adds n store counts size (supremum F G) store counts e As p))
-    (λ h. below (eqb-false size 33 h))
-  where
-    below : (size ≡ 33 → ⊥) → Placing n (As ++ supremum F G ∷ []) store counts size
-    below d =
-        let e : held_of size ≡ size = omega (arith, g.limit) in
-        let held : Held n store counts size = subst (Held n store counts) e g.held in
-        let l : q < size = omega (arith, w.less) in
-        let m : q < length (members_of n store size) = rw (size_members held) l in
-        let there : PlacedMember n (members_of n store size) (supremum F G) q store counts = old m (member_column held q l ∙ w.is) (rw (size_members held) held) (ap (members_of n store) (size_members held)) in
-        let same : grown_to size q ≡ size = grown_old size q (λ z. omega arith) in
-        begun (subst (Begun n (As ++ supremum F G ∷ []) store counts) same (begun_placed n store counts size held (supremum F G) q store counts As (placing_begun n As store counts size d p) numbered (λ z. omega (arith, held.few)) there))
+pub joined_adds : {n : ℕ} {store counts : List ℕ} {size : ℕ} {over : Bool} → Growing n store counts size over → (F G : Column) (q : ℕ) → number (supremum F G) ≡ supremum F G → Join n F G store size q → Adds n store counts size over (supremum F G) store counts size over
+joined_adds {n} {store} {counts} {size} {over} g F G q numbered w As p = by_cases over
+    (λ h. over_adds n store counts size over (supremum F G) store counts size over h h As p)
+    (λ h.
+    let held = g.held in
+    let m : q < length (members_of n store size) = rw (size_members held) w.less in
+    let there : PlacedMember n (members_of n store size) (supremum F G) q store counts = old m (member_column held q w.less ∙ w.is) (rw (size_members held) held) (ap (members_of n store) (size_members held)) in
+    let less : (q ≡ 32 → ⊥) = λ z. omega (arith, held.few, w.less) in
+    let same : grown_to size q ≡ size = grown_old size q (λ z. omega (arith, w.less)) in
+    begun h (subst (Begun n (As ++ supremum F G ∷ []) store counts) same (begun_placed n store counts size held (supremum F G) q store counts As (placing_begun n As store counts size over h p) numbered less there)))
 
--- ---- cells of finer members
+-- ---- entries of finer members
 
-module _ (n : ℕ) (plot first store counts : List ℕ) (size : ℕ) (joins : List ℕ) (small : n ≤ 240) (room-plot : 7680 ≤ length plot) (room-first : 7680 ≤ length first) (g : Growing n store counts size) (t : Joins n plot first store (held_of size) joins) where
-  abbrev P : ℕ → Column
-  P k = column_at n plot k
+-- a member is on n plots
+length_at : (n k : ℕ) (family : List ℕ) → n ≤ 240 → 7680 ≤ length family → k < 32 → length (column_at n family k) ≡ n
+length_at n k family small room h = length_part n k family (omega arith)
 
-  abbrev T : ℕ → Column
-  T k = column_at n first k
+-- the entries of a treatment member, and those of a plot member
+at_plot : (joins : List (Option ℕ)) (j k : ℕ) → get_or joins (j + 32 * k) None ≡ entry_at joins k j
+at_plot joins j k = ap (λ (c : ℕ). get_or joins c None) (add_comm j (32 * k))
 
-  length_plot : (k : ℕ) → k < 32 → length (P k) ≡ n
-  length_plot k h = length_part n k plot (omega arith)
+at_first : (joins : List (Option ℕ)) (i k : ℕ) → get_or joins (32 * i + 1 * k) None ≡ entry_at joins i k
+at_first joins i k = ap (λ (c : ℕ). get_or joins (32 * i + c) None) (one-mul k)
 
-  length_first : (k : ℕ) → k < 32 → length (T k) ≡ n
-  length_first k h = length_part n k first (omega arith)
+module _ {n : ℕ} {plot first store : List ℕ} {size : ℕ} {joins : List (Option ℕ)} (small : n ≤ 240) (room-plot : 7680 ≤ length plot) (room-first : 7680 ≤ length first) (few : size ≤ 32) (t : Joins n plot first store size joins) (i j word : ℕ) (hi : i < 32) (hj : j < 32) where
+  module _ (b : FinerBits n plot word i) where
+    -- the entries of finer plot members
+    pub plot_entries : (k : ℕ) → bit_at word k ≡ true → (j + 32 * k < 1024) × ((q : ℕ) → get_or joins (j + 32 * k) None ≡ Some q → q < 32)
+    plot_entries k e =
+        let h : k < 32 = (b k e).0 in
+        (omega arith, λ q f. omega (arith, (t.sound k j q h hj (sym (at_plot joins j k) ∙ f)).less))
 
-  -- a cell is a place, from 1, or 0
-  pub cell_most : (i j : ℕ) → i < 32 → j < 32 → get_or joins (32 * i + j) 0 ≤ 32
-  cell_most i j hi hj = go (get_or joins (32 * i + j) 0) refl
-    where
-      go : (x : ℕ) → get_or joins (32 * i + j) 0 ≡ x → x ≤ 32
-      go zero e = omega arith
-      go (suc q) e = omega (arith, (t.sound i j q hi hj e).less)
+    module _ (q : ℕ) (w : Chosen joins j 32 word q) where
+      pub plot_less : q < size
+      plot_less = (t.sound w.bit j q (b w.bit w.marked).0 hj (sym (at_plot joins j w.bit) ∙ w.entry)).less
 
-  -- the number of classes of a supremum is known
-  counted : {F G : Column} {q : ℕ} → Join n F G store (held_of size) q → (q < 32) × (get_or counts q 0 ≡ classes (column_at n store q))
-  counted {q = q} w = (omega (arith, w.less), g.held.counted q w.less)
+      -- where plot member i is finer than the supremum, it is its own
+      pub plot_follows : Finer n (column_at n plot i) (column_at n store q) → Join n (column_at n plot i) (column_at n first j) store size q
+      plot_follows f =
+          let k = w.bit in
+          let h : k < 32 = (b k w.marked).0 in
+          join_plot (length_at n i plot small room-plot hi) (length_at n j first small room-first hj) (column_at n plot k) (length_at n k plot small room-plot h) (b k w.marked).1 f (t.sound k j q h hj (sym (at_plot joins j k) ∙ w.entry))
 
-  module _ (i j word : ℕ) (hi : i < 32) (hj : j < 32) where
-    module _ (b : FinerBits n plot word i) where
-      at_plot : (k : ℕ) → get_or joins (j + 32 * k) 0 ≡ get_or joins (32 * k + j) 0
-      at_plot k = ap (λ (c : ℕ). get_or joins c 0) (add_comm j (32 * k))
+  module _ (b : FinerBits n first word j) where
+    -- the entries of finer treatment members
+    pub first_entries : (k : ℕ) → bit_at word k ≡ true → (32 * i + 1 * k < 1024) × ((q : ℕ) → get_or joins (32 * i + 1 * k) None ≡ Some q → q < 32)
+    first_entries k e =
+        let h : k < 32 = (b k e).0 in
+        (omega arith, λ q f. omega (arith, (t.sound i k q hi h (sym (at_first joins i k) ∙ f)).less))
 
-      -- the cells of finer plot members
-      pub plot_cells : (k : ℕ) → bit_at word k ≡ true → (j + 32 * k < 1024) × (get_or joins (j + 32 * k) 0 ≤ 32)
-      plot_cells k e =
-          let h : k < 32 = (b k e).0 in
-          (omega arith, rw (at_plot k) (cell_most k j h hj))
+    module _ (q : ℕ) (w : Chosen joins (32 * i) 1 word q) where
+      joined : Join n (column_at n plot i) (column_at n first w.bit) store size q
+      joined = t.sound i w.bit q hi (b w.bit w.marked).0 (sym (at_first joins i w.bit) ∙ w.entry)
 
-      module _ (r : ℕ) (c : (r ≡ 0) ⊎ ChosenJoin joins j 32 word r) where
-        pub plot_most : r ≤ 32
-        plot_most = go c
-          where
-            go : (r ≡ 0) ⊎ ChosenJoin joins j 32 word r → r ≤ 32
-            go (inl e) = omega arith
-            go (inr w) = rw w.cell at (plot_cells w.place w.marked).1
+      pub first_less : q < size
+      first_less = joined.less
 
-        module _ (q : ℕ) (e : r ≡ suc q) where
-          pub plot_counted : (q < 32) × (get_or counts q 0 ≡ classes (column_at n store q))
-          plot_counted = go c
-            where
-              go : (r ≡ 0) ⊎ ChosenJoin joins j 32 word r → (q < 32) × (get_or counts q 0 ≡ classes (column_at n store q))
-              go (inl z) = absurd (omega arith)
-              go (inr w) = counted (t.sound w.place j q (b w.place w.marked).0 hj (sym (at_plot w.place) ∙ w.cell ∙ e))
+      -- plot member i is finer than the supremum
+      pub first_above : Finer n (column_at n plot i) (column_at n store q)
+      first_above = join_above (length_at n i plot small room-plot hi) (length_at n w.bit first small room-first (b w.bit w.marked).0) joined
 
-          -- where plot member i is finer than the supremum, it is its own
-          pub plot_follows : Finer n (P i) (column_at n store q) → Join n (P i) (T j) store (held_of size) q
-          plot_follows f = go c
-            where
-              go : (r ≡ 0) ⊎ ChosenJoin joins j 32 word r → Join n (P i) (T j) store (held_of size) q
-              go (inl z) = absurd (omega arith)
-              go (inr w) =
-                  let k = w.place in
-                  let h : k < 32 = (b k w.marked).0 in
-                  join_plot (length_plot i hi) (length_first j hj) (P k) (length_plot k h) (b k w.marked).1 f (t.sound k j q h hj (sym (at_plot k) ∙ w.cell ∙ e))
-
-    module _ (b : FinerBits n first word j) where
-      at_first : (k : ℕ) → get_or joins (32 * i + 1 * k) 0 ≡ get_or joins (32 * i + k) 0
-      at_first k = ap (λ (c : ℕ). get_or joins (32 * i + c) 0) (one-mul k)
-
-      -- the cells of finer treatment members
-      pub first_cells : (k : ℕ) → bit_at word k ≡ true → (32 * i + 1 * k < 1024) × (get_or joins (32 * i + 1 * k) 0 ≤ 32)
-      first_cells k e =
-          let h : k < 32 = (b k e).0 in
-          (omega arith, rw (at_first k) (cell_most i k hi h))
-
-      module _ (r : ℕ) (c : (r ≡ 0) ⊎ ChosenJoin joins (32 * i) 1 word r) where
-        pub first_most : r ≤ 32
-        first_most = go c
-          where
-            go : (r ≡ 0) ⊎ ChosenJoin joins (32 * i) 1 word r → r ≤ 32
-            go (inl e) = omega arith
-            go (inr w) = rw w.cell at (first_cells w.place w.marked).1
-
-        module _ (q : ℕ) (e : r ≡ suc q) where
-          joined : (w : ChosenJoin joins (32 * i) 1 word r) → Join n (P i) (T w.place) store (held_of size) q
-          joined w = t.sound i w.place q hi (b w.place w.marked).0 (sym (at_first w.place) ∙ w.cell ∙ e)
-
-          pub first_counted : (q < 32) × (get_or counts q 0 ≡ classes (column_at n store q))
-          first_counted = go c
-            where
-              go : (r ≡ 0) ⊎ ChosenJoin joins (32 * i) 1 word r → (q < 32) × (get_or counts q 0 ≡ classes (column_at n store q))
-              go (inl z) = absurd (omega arith)
-              go (inr w) = counted (joined w)
-
-          -- plot member i is finer than the supremum
-          pub first_above : Finer n (P i) (column_at n store q)
-          first_above = go c
-            where
-              go : (r ≡ 0) ⊎ ChosenJoin joins (32 * i) 1 word r → Finer n (P i) (column_at n store q)
-              go (inl z) = absurd (omega arith)
-              go (inr w) = join_above (length_plot i hi) (length_first w.place (b w.place w.marked).0) (joined w)
-
-          -- where treatment member j is finer than the supremum, it is its own
-          pub first_follows : Finer n (T j) (column_at n store q) → Join n (P i) (T j) store (held_of size) q
-          first_follows f = go c
-            where
-              go : (r ≡ 0) ⊎ ChosenJoin joins (32 * i) 1 word r → Join n (P i) (T j) store (held_of size) q
-              go (inl z) = absurd (omega arith)
-              go (inr w) =
-                  let k = w.place in
-                  let h : k < 32 = (b k w.marked).0 in
-                  join_treatment (length_plot i hi) (length_first j hj) (T k) (length_first k h) (b k w.marked).1 f (joined w)
+      -- where treatment member j is finer than the supremum, it is its own
+      pub first_follows : Finer n (column_at n first j) (column_at n store q) → Join n (column_at n plot i) (column_at n first j) store size q
+      first_follows f =
+          let k = w.bit in
+          let h : k < 32 = (b k w.marked).0 in
+          join_treatment (length_at n i plot small room-plot hi) (length_at n j first small room-first hj) (column_at n first k) (length_at n k first small room-first h) (b k w.marked).1 f joined

@@ -15,6 +15,7 @@ pub mod Rewriting
 pub mod Work
 pub mod KnownOrder
 pub mod Joins
+pub mod Sides
 pub mod FinerWords
 pub mod Judge
 pub mod Answered

@@ -2,7 +2,7 @@
 -- Assumes nothing.
 use mathlib.Core.Path.{◌≡◌, sym, ap, ap₂, ◌∙◌}
 use mathlib.Core.Logic.{◌⊎◌, inl, inr}
-use mathlib.Core.Bool.{true}
+use mathlib.Core.Bool.{Bool, true, false}
 use mathlib.Core.List.Memᴰ
 use mathlib.Core.List.{List, [], ◌∷◌, ◌++◌}
 use Prim.Native.Nat.{ℕ, suc, ◌+◌, ◌*◌, ◌-◌, ◌≤◌, ◌<◌}
@@ -18,13 +18,14 @@ use Rattle.rules.specs.Relation.{member_at}
 use Rattle.rules.proofs.Buffer.{length_members}
 use Rattle.rules.proofs.ClassCount.{classes_most}
 use Rattle.rules.proofs.Closing.{pigeonhole, ascending_distinct}
-use Rattle.rules.proofs.Members.{insert_all_has, insert_all_only, ascending_insert_all, ascending_unique}
+use Rattle.rules.proofs.Members.{clash, insert_all_has, insert_all_only, ascending_insert_all, ascending_unique}
 use Rattle.rules.proofs.Supremum.{length_supremum, number_supremum}
 use Rattle.rules.proofs.WorkList.{member_in, distinct_more, length_sorted}
 use Rattle.factor.specs.Lent.{on_common, overlay}
 use Rattle.factor.proofs.Lent.{common_all, part_of, length_part}
 use Rattle.design.specs.State.{column_at, Held, PlacedMember, full, old, new, grown_to, Begun, Sorted}
-use Rattle.design.specs.Treatments.{Placing, exceeded, begun, known_finer, Member}
+use Rattle.design.specs.Treatments.{known_finer, Member}
+use Rattle.design.specs.Crossing.{Placing, exceeded, begun}
 use Rattle.design.proofs.Extremes.{one_class_coarsest, all_classes_finest, finer_supremum, finer_orthogonal, coarser_supremum, coarser_orthogonal}
 use Rattle.design.proofs.KnownOrder.{or_cases}
 use Rattle.design.proofs.Placing.{grown_new, grown_old}
@@ -32,36 +33,22 @@ use Rattle.design.proofs.Start.{begun_more}
 
 -- ---- lent members
 
-module _ (n i j : ℕ) (plot first : List ℕ) (small : n ≤ 240) (a : 240 * i + n ≤ length plot) (b : 240 * j + n ≤ length first) where
-  -- the plot member
-  abbrev F : Column
-  F = column_at n plot i
-
-  -- the treatment member
-  abbrev G : Column
-  G = column_at n first j
-
+module _ (n : ℕ) (F G X Y : Column) (small : n ≤ 240) (x : X ≡ F) (y : Y ≡ G) (l_f : length F ≡ n) (l_g : length G ≡ n) where
   -- what is made of the two columns as they are lent
   abbrev pub lent_supremum : Column
-  lent_supremum = on_common supremum (take (240 * i + n - 240 * i) (drop (240 * i) plot)) (take (240 * j + n - 240 * j) (drop (240 * j) first))
+  lent_supremum = on_common supremum X Y
 
   -- they are on the same plots
   same : length F ≡ length G
-  same = length_part n i plot a ∙ sym (length_part n j first b)
+  same = l_f ∙ sym l_g
 
   -- it is the supremum of the two columns
   lent_whole : lent_supremum ≡ supremum F G
-  lent_whole =
-      ap₂ (λ (X Y : Column). on_common supremum X Y) (part_of n i plot) (part_of n j first)
-      ∙ common_all supremum F G same (omega (arith, length_part n i plot a))
+  lent_whole = ap₂ (λ (A B : Column). on_common supremum A B) x y ∙ common_all supremum F G same (omega arith)
 
   -- it is on n plots
   pub length_made : length (supremum F G) ≡ n
-  length_made = length_supremum F G same ∙ length_part n i plot a
-
-  -- it is numbered
-  pub number_made : number (supremum F G) ≡ supremum F G
-  number_made = number_supremum F G same
+  length_made = length_supremum F G same ∙ l_f
 
   -- its number of classes, and that this is small
   pub classes_made : (k : ℕ) → k ≡ classes lent_supremum → (k ≡ classes (supremum F G)) × (k ≤ 240)
@@ -202,16 +189,16 @@ module _ (n : ℕ) (store counts : List ℕ) (size : ℕ) (h : Held n store coun
 
 -- ---- what placing answers
 
-module _ (n : ℕ) (As : List Column) (store counts : List ℕ) (r : ℕ) where
-  -- the answer is that there are too many
-  pub placing_over : r ≡ 33 → Placing n As store counts r → 32 < length (insert_all As [])
+module _ (n : ℕ) (As : List Column) (store counts : List ℕ) (size : ℕ) (over : Bool) where
+  -- there was one more than there is room for
+  pub placing_over : over ≡ true → Placing n As store counts size over → 32 < length (insert_all As [])
   placing_over d (exceeded e h) = h
-  placing_over d (begun b) = absurd (let q : 33 ≤ 32 = omega (arith, b.held.few) in omega arith)
+  placing_over d (begun e b) = clash d e
 
-  -- the answer is how many there are
-  pub placing_begun : (r ≡ 33 → ⊥) → Placing n As store counts r → Begun n As store counts r
-  placing_begun d (exceeded e h) = absurd (d e)
-  placing_begun d (begun b) = b
+  -- there was not
+  pub placing_begun : over ≡ false → Placing n As store counts size over → Begun n As store counts size
+  placing_begun d (exceeded e h) = clash e d
+  placing_begun d (begun e b) = b
 
 -- ---- the final treatment family
 

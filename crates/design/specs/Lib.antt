@@ -4,5 +4,7 @@ pub mod Judging
 pub mod Answers
 pub mod Treatments
 pub mod Crossing
+pub mod Sides
+pub mod Crossed
 pub mod Closings
 pub mod Points

@@ -1,6 +1,6 @@
 -- Searches over places, from 0, for the first that fails a test; the answers count from 1.
 -- Assumes nothing.
-use Rattle.std.specs.Prelude.{Bool, true, false, ℕ, zero, suc, ◌-◌, eqb}
+use Rattle.std.specs.Prelude.{Bool, true, false, Option, Some, None, ℕ, zero, suc, ◌-◌, eqb}
 use Rattle.design.specs.declared.questions.Places.{Places}
 
 -- the least k from j on, k < j + left, at which the test fails, and 1; 0 where there is none
@@ -43,3 +43,12 @@ unfoldable pub cross_second : (ℕ → ℕ → Bool) → ℕ → ℕ → ℕ
 unfolding cross_partner
 cross_second t n zero = 0
 cross_second t n (suc i) = cross_partner t n i
+
+-- the places of a pair that may be none: zeros for none
+abbrev pub first_of : Option Places → ℕ
+first_of None = 0
+first_of (Some pair) = pair.first
+
+abbrev pub second_of : Option Places → ℕ
+second_of None = 0
+second_of (Some pair) = pair.second

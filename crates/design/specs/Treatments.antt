@@ -43,11 +43,6 @@ pub data AllPlaced (n : ℕ) (Gs : List Column) (store counts : List ℕ) (r : �
   over : r ≡ 33 → close only_supremum Gs ≡ too_many → AllPlaced n Gs store counts r
   on : Begun n Gs store counts r → AllPlaced n Gs store counts r
 
--- the columns As are placed, or more than 32 of them differ
-pub data Placing (n : ℕ) (As : List Column) (store counts : List ℕ) (r : ℕ) : Type 0 where
-  exceeded : r ≡ 33 → most_members < length (insert_all As []) → Placing n As store counts r
-  begun : Begun n As store counts r → Placing n As store counts r
-
 -- plot member i and treatment member j are orthogonal
 abbrev pub orthogonal_at : ℕ → List ℕ → List ℕ → ℕ → ℕ → Bool
 orthogonal_at n plot first i j = orthogonal n (column_at n plot i) (column_at n first j)

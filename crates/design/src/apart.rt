@@ -1,83 +1,69 @@
 // The places of the first pair of a plot and a treatment member that are not orthogonal.
-ghost use Rattle.std.specs.Prelude.{◌≡◌, ℕ, ◌+◌, ◌*◌, ◌≤◌, ◌<◌, length};
-ghost use Rattle.rules.specs.Limits.{most_plots, most_members, family_bytes};
-ghost use Rattle.design.specs.Search.{cross_first, cross_second};
-ghost use Rattle.design.specs.Treatments.{orthogonal_at, Member};
-ghost use Rattle.design.specs.Crossing.{Counted, Tested};
+ghost use Rattle.std.specs.Prelude.{◌≡◌, ℕ, Option, ◌<◌, IfSome};
+ghost use Rattle.rules.specs.Limits.{most_members};
+ghost use Rattle.design.specs.Search.{cross_first, cross_second, first_of, second_of};
+ghost use Rattle.design.specs.Sides.{test_of, TestedOf};
 
 use crate::closing::PAIRS;
-use crate::nesting::known_finer;
+use crate::nesting::{Sides, known_finer};
 use crate::questions::Places;
 use families::member;
 use limits::{MEMBERS, PLOTS};
 
-// Whether plot member `i` and treatment member `j` are orthogonal, by a walk over their plots.
-fn walk_orthogonal(plot: &[u8], i: usize, first: &[u8], j: usize, n: usize) -> bool
-    requires { (n ≤ most_plots) × (family_bytes ≤ length plot.now) × (family_bytes ≤ length first.now) × (i < most_members) × (j < most_members) }
-    ensures { result ≡ orthogonal_at n plot.now first.now i j }
-{
-    let mut column = [0u8; PLOTS];
-    standing::crossing_of(member(plot, i, n), member(first, j, n), &mut column).orthogonal
-}
-
-// The same, of members with `f` and `g` classes, which may be known: by the table, by the cell `apart` of a pair that is not, or by the
-// numbers of classes.
+// Whether plot member `i` and treatment member `j` are orthogonal, which may be known: by the table, by the pair `apart` that is not, or
+// by the numbers of classes. Else a walk over the plots tells it.
 fn pair_orthogonal(
-    plot: &[u8],
+    sides: &Sides,
     i: usize,
-    f: u8,
-    first: &[u8],
     j: usize,
-    g: u8,
-    n: usize,
-    joins: &[u8; PAIRS],
-    apart: usize,
+    joins: &[Option<u8>; PAIRS],
+    apart: (usize, usize),
 ) -> bool
-    requires { (1 ≤ n) × (n ≤ most_plots) × Member n plot.now i f × Member n first.now j g × Tested n plot.now first.now joins.now apart i j }
-    ensures { result ≡ orthogonal_at n plot.now first.now i j }
+    requires { (i < sides.now.plot.size) × (j < sides.now.treatment.size) × TestedOf sides.now joins.now apart.0 apart.1 i j }
+    ensures { result ≡ test_of sides.now i j }
 {
-    let at = MEMBERS * i + j;
-    if joins[at] != 0 {
+    if joins[MEMBERS * i + j].is_some() {
         return true;
     }
-    if at == apart {
+    if apart == (i, j) {
         return false;
     }
-    if known_finer(n, f, g) {
-        return true;
-    }
-    if known_finer(n, g, f) {
-        return true;
-    }
-    walk_orthogonal(plot, i, first, j, n)
+    let plot = &sides.plot;
+    let treatment = &sides.treatment;
+    let n = plot.plots;
+    let f = plot.counts[i];
+    let g = treatment.counts[j];
+    let mut column = [0u8; PLOTS];
+    known_finer(n, f, g)
+        || known_finer(n, g, f)
+        || standing::crossing_of(
+            member(plot.bytes, i, n),
+            member(treatment.bytes, j, n),
+            &mut column,
+        )
+        .orthogonal
 }
 
-// The first pair that is not orthogonal, where `apart` is the cell of one.
+// The first pair that is not orthogonal, where `apart` is one.
 pub fn first_crossed(
-    plot: &[u8],
-    plot_size: usize,
-    plots: &[u8; MEMBERS],
-    first: &[u8],
-    first_size: usize,
-    firsts: &[u8; MEMBERS],
-    n: usize,
-    joins: &[u8; PAIRS],
-    apart: usize,
-) -> Places
-    requires { (1 ≤ n) × (n ≤ most_plots) × (plot_size ≤ most_members) × Counted n plot.now plots.now plot_size × (first_size ≤ most_members) × Counted n first.now firsts.now first_size × ((i j : ℕ) → i < most_members → j < most_members → Tested n plot.now first.now joins.now apart i j) }
-    ensures first { result.first ≡ cross_first (orthogonal_at n plot.now first.now) plot_size first_size }
-    ensures second { result.second ≡ cross_second (orthogonal_at n plot.now first.now) first_size result.first }
+    sides: &Sides,
+    joins: &[Option<u8>; PAIRS],
+    apart: (usize, usize),
+) -> Option<Places>
+    requires { (i j : ℕ) → i < most_members → j < most_members → TestedOf sides.now joins.now apart.0 apart.1 i j }
+    ensures first { first_of result ≡ cross_first (test_of sides.now) sides.now.plot.size sides.now.treatment.size }
+    ensures second { second_of result ≡ cross_second (test_of sides.now) sides.now.treatment.size (first_of result) }
+    ensures some { IfSome result (λ pair. pair.first ≡ 0 → ⊥) }
 {
-    let mut at = 0;
-    let mut second = 0;
-    'pairs: for i in 0..plot_size {
-        for j in 0..first_size {
-            if !pair_orthogonal(plot, i, plots[i], first, j, firsts[j], n, joins, apart) {
-                at = i + 1;
-                second = j + 1;
-                break 'pairs;
+    for i in 0..sides.plot.size {
+        for j in 0..sides.treatment.size {
+            if !pair_orthogonal(sides, i, j, joins, apart) {
+                return Some(Places {
+                    first: i + 1,
+                    second: j + 1,
+                });
             }
         }
     }
-    Places { first: at, second }
+    None
 }

@@ -1,348 +1,216 @@
 // Question 13 and the suprema that make the final treatment family: each pair of a plot and a treatment member, the finest first, since
 // much follows from the suprema of finer members.
-ghost use Rattle.std.specs.Prelude.{◌≡◌, true, false, List, [], ◌∷◌, ◌++◌, ℕ, ◌-◌, ◌/◌, ◌≤◌, ◌<◌, length, get_or};
-ghost use Rattle.rules.specs.Limits.{most_plots, most_members, family_bytes};
-ghost use Rattle.rules.specs.Factor.{Column, number, classes, supremum, orthogonal};
-ghost use Rattle.rules.specs.Family.{members_of};
+ghost use Rattle.std.specs.Prelude.{◌≡◌, true, false, List, [], ◌∷◌, ◌++◌, ℕ, Option, Some, None, Result, Ok, Err, ◌≤◌, ◌<◌, length, IfSome, IsNone};
+ghost use Rattle.rules.specs.Limits.{most_plots, most_members};
+ghost use Rattle.rules.specs.Factor.{Column, number, classes};
 ghost use Rattle.rules.specs.Closing.{only_supremum, products_of, products};
-ghost use Rattle.design.specs.State.{column_at};
-ghost use Rattle.design.specs.Search.{cross_first, cross_second};
-ghost use Rattle.design.specs.Treatments.{Placing, orthogonal_at, Member, Numbered};
-ghost use Rattle.design.specs.Crossing.{Counted, FinerBits, held_of, Growing, Grown, Joins, Failing, Entered};
+ghost use Rattle.design.specs.Search.{cross_first, cross_second, first_of, second_of};
+ghost use Rattle.design.specs.Treatments.{Numbered};
+ghost use Rattle.design.specs.Crossing.{Growing, Grown, Stands, Adds, Joins};
+ghost use Rattle.design.specs.Sides.{Crossing, Placed, test_of, plot_of, supremum_of, plot_members, treatment_members};
+ghost use Rattle.design.specs.Crossed.{Crosses};
 
 use crate::apart::first_crossed;
-use crate::closing::{PAIRS, TOO_MANY};
+use crate::closing::PAIRS;
 use crate::following::following;
-use crate::nesting::{Entry, class_counts, finer_words, known_finer};
+use crate::nesting::{Sides, known_finer, members_of};
+use crate::questions::Places;
 use crate::store::{find, grown, place};
-use limits::{MEMBERS, PLOTS};
+use families::member;
+use limits::{FAMILY, MEMBERS, PLOTS};
 
-// Fewer members than these leave so little to follow from the order of the other family's members that it is not sought.
-const SOME_MEMBERS: usize = 4;
-
-// Whether a pair is orthogonal, and how many different suprema there are with its own, or TOO_MANY.
-#[derive(Clone, Copy)]
-pub struct Pair {
-    pub orthogonal: bool,
+// The different suprema found so far, 240 bytes apart, with their numbers of classes; and whether there was one more than there is room for.
+#[derive(Drop)]
+pub struct Suprema {
+    pub bytes: [u8; FAMILY],
+    pub counts: [u8; MEMBERS],
     pub size: usize,
+    pub over: bool,
 }
 
-// The cell of a pair that is not orthogonal, from 1, or 0; and how many different suprema there are, or TOO_MANY, which says something
-// only where all are orthogonal.
+// Why plot and treatment members make no final treatment family: the first pair that is not orthogonal, or too many suprema.
 #[derive(Clone, Copy)]
-pub struct Row {
-    pub apart: usize,
-    pub size: usize,
+pub enum Crossed {
+    Apart(Places),
+    TooMany,
 }
 
-// The first pair of a plot and a treatment member that are not orthogonal, from 1, or zeros; and how many different suprema there
-// are, or TOO_MANY, which says something only where all are orthogonal.
-#[derive(Clone, Copy)]
-pub struct Crossed {
-    pub first: usize,
-    pub second: usize,
-    pub size: usize,
-}
-
-// Places a column and notes its place in a cell of the table, unless it is new and there is no room; answers the size then, or TOO_MANY.
-fn add(
-    store: &mut [u8],
-    counts: &mut [u8; MEMBERS],
-    size: usize,
-    column: &[u8],
-    count: u8,
-    joins: &mut [u8; PAIRS],
-    at: usize,
-) -> usize
-    requires { Growing (length column.now) store.old counts.old size × (count ≡ classes column.now) × (number column.now ≡ column.now) × (at < 1024) }
-    ensures grown { Grown (length column.now) store.old size store.new counts.new result }
-    ensures entered { Entered (length column.now) column.now store.new (held_of result) joins.old at joins.new }
-    ensures places { (As : List Column) → Placing (length column.now) As store.old counts.old size → Placing (length column.now) (As ++ column.now ∷ []) store.new counts.new result }
-{
-    if size < MEMBERS {
-        let p = place(store, counts, size, column, count);
-        joins[at] = (p + 1) as u8;
-        return grown(size, p);
+impl Suprema {
+    // Adds a column where it is new; answers its place, if there is room for it.
+    fn add(&mut self, column: &[u8], count: u8) -> Option<u8>
+        requires { Growing (length column.now) self.old.bytes self.old.counts self.old.size self.old.over × (count ≡ classes column.now) × (number column.now ≡ column.now) }
+        ensures growing { Growing (length column.now) self.new.bytes self.new.counts self.new.size self.new.over }
+        ensures grown { Grown (length column.now) self.old.bytes self.old.size self.new.bytes self.new.size }
+        ensures stands { Stands (length column.now) column.now self.new.bytes self.new.size result }
+        ensures adds { Adds (length column.now) self.old.bytes self.old.counts self.old.size self.old.over column.now self.new.bytes self.new.counts self.new.size self.new.over }
+    {
+        if self.size < MEMBERS {
+            let p = place(&mut self.bytes, &mut self.counts, self.size, column, count);
+            self.size = grown(self.size, p);
+            return Some(p as u8);
+        }
+        let p = find(&self.bytes, &self.counts, MEMBERS, column, count);
+        if p == MEMBERS {
+            self.over = true;
+            return None;
+        }
+        Some(p as u8)
     }
-    let p = find(store, counts, MEMBERS, column, count);
-    if p == MEMBERS {
-        return TOO_MANY;
-    }
-    joins[at] = (p + 1) as u8;
-    size
 }
 
-// Adds member `i` of a family, which has `count` classes.
-fn add_member(
-    family: &[u8],
-    i: usize,
-    count: u8,
-    n: usize,
-    store: &mut [u8],
-    counts: &mut [u8; MEMBERS],
-    size: usize,
-    joins: &mut [u8; PAIRS],
-    at: usize,
-) -> usize
-    requires { Growing n store.old counts.old size × Member n family.now i count × (at < 1024) }
-    ensures grown { Grown n store.old size store.new counts.new result }
-    ensures entered { Entered n (column_at n family.now i) store.new (held_of result) joins.old at joins.new }
-    ensures places { (As : List Column) → Placing n As store.old counts.old size → Placing n (As ++ column_at n family.now i ∷ []) store.new counts.new result }
-{
-    let from = PLOTS * i;
-    let end = from + n;
-    add(store, counts, size, &family[from..end], count, joins, at)
-}
-
-// Plot member `i` with treatment member `j`, by a walk over their plots.
+// Plot member `i` with treatment member `j`, by a walk over their plots. Answers whether they are orthogonal.
 fn walk_pair(
-    plot: &[u8],
+    sides: &Sides,
     i: usize,
-    first: &[u8],
     j: usize,
-    n: usize,
-    store: &mut [u8],
-    counts: &mut [u8; MEMBERS],
-    size: usize,
-    joins: &mut [u8; PAIRS],
-) -> Pair
-    requires { Growing n store.old counts.old size × Joins n plot.now first.now store.old (held_of size) joins.old × (family_bytes ≤ length plot.now) × (family_bytes ≤ length first.now) × (i < most_members) × (j < most_members) }
-    ensures test { result.orthogonal ≡ orthogonal_at n plot.now first.now i j }
-    ensures kept { Growing n store.new counts.new result.size × Joins n plot.now first.now store.new (held_of result.size) joins.new }
-    ensures places { result.orthogonal ≡ true → (As : List Column) → Placing n As store.old counts.old size → Placing n (As ++ supremum (column_at n plot.now i) (column_at n first.now j) ∷ []) store.new counts.new result.size }
+    found: &mut Suprema,
+    joins: &mut [Option<u8>; PAIRS],
+) -> bool
+    requires { (i < sides.now.plot.size) × (j < sides.now.treatment.size) × Crossing sides.now found.old joins.old }
+    ensures test { result ≡ test_of sides.now i j }
+    ensures kept { Crossing sides.now found.new joins.new }
+    ensures places { result ≡ true → (As : List Column) → Placed sides.now As found.old → Placed sides.now (As ++ supremum_of sides.now i j ∷ []) found.new }
 {
-    let a = PLOTS * i;
-    let b = PLOTS * j;
-    let c = a + n;
-    let d = b + n;
+    let n = sides.plot.plots;
+    let f = member(sides.plot.bytes, i, n);
+    let g = member(sides.treatment.bytes, j, n);
     let mut column = [0u8; PLOTS];
-    let crossing = standing::crossing_of(&plot[a..c], &first[b..d], &mut column);
-    if !crossing.orthogonal {
-        return Pair {
-            orthogonal: false,
-            size,
-        };
+    let crossing = standing::crossing_of(f, g, &mut column);
+    if crossing.orthogonal {
+        joins[MEMBERS * i + j] = found.add(&column[..n], crossing.supremum as u8);
     }
-    let k = crossing.supremum;
-    let at = MEMBERS * i + j;
-    let held = add(store, counts, size, &column[..n], k as u8, joins, at);
-    Pair {
-        orthogonal: true,
-        size: held,
-    }
+    crossing.orthogonal
 }
 
-// A plot member `f` with a treatment member `g`: by what follows from finer members, or by a walk.
+// Plot member `i` with treatment member `j`: by what follows from finer members, or by a walk.
 fn join_pair(
-    plot: &[u8],
-    f: Entry,
-    first: &[u8],
-    g: Entry,
-    n: usize,
-    store: &mut [u8],
-    counts: &mut [u8; MEMBERS],
-    size: usize,
-    joins: &mut [u8; PAIRS],
-) -> Pair
-    requires { Growing n store.old counts.old size × Joins n plot.now first.now store.old (held_of size) joins.old × Member n plot.now f.place f.count × FinerBits n plot.now f.finer f.place × Member n first.now g.place g.count × FinerBits n first.now g.finer g.place }
-    ensures test { result.orthogonal ≡ orthogonal_at n plot.now first.now f.place g.place }
-    ensures kept { Growing n store.new counts.new result.size × Joins n plot.now first.now store.new (held_of result.size) joins.new }
-    ensures places { result.orthogonal ≡ true → (As : List Column) → Placing n As store.old counts.old size → Placing n (As ++ supremum (column_at n plot.now f.place) (column_at n first.now g.place) ∷ []) store.new counts.new result.size }
+    sides: &Sides,
+    i: usize,
+    j: usize,
+    found: &mut Suprema,
+    joins: &mut [Option<u8>; PAIRS],
+) -> bool
+    requires { (i < sides.now.plot.size) × (j < sides.now.treatment.size) × Crossing sides.now found.old joins.old }
+    ensures test { result ≡ test_of sides.now i j }
+    ensures kept { Crossing sides.now found.new joins.new }
+    ensures places { result ≡ true → (As : List Column) → Placed sides.now As found.old → Placed sides.now (As ++ supremum_of sides.now i j ∷ []) found.new }
 {
-    let told = following(plot, f, first, g, n, store, counts, size, joins);
-    let i = f.place;
-    let j = g.place;
-    if told == 0 {
-        return walk_pair(plot, i, first, j, n, store, counts, size, joins);
-    }
-    joins[MEMBERS * i + j] = told;
-    Pair {
-        orthogonal: true,
-        size,
-    }
+    let Some(place) = following(sides, i, j, found, joins) else {
+        return walk_pair(sides, i, j, found, joins);
+    };
+    joins[MEMBERS * i + j] = Some(place);
+    true
 }
 
-// A plot member `f` with a treatment member `g`: of two that are nested the supremum is the coarser one, and they are orthogonal.
+// Plot member `i` with treatment member `j`: of two that are nested the supremum is the coarser one, and they are orthogonal.
 fn cross_pair(
-    plot: &[u8],
-    f: Entry,
-    first: &[u8],
-    g: Entry,
-    n: usize,
-    store: &mut [u8],
-    counts: &mut [u8; MEMBERS],
-    size: usize,
-    joins: &mut [u8; PAIRS],
-) -> Pair
-    requires { Growing n store.old counts.old size × Joins n plot.now first.now store.old (held_of size) joins.old × Member n plot.now f.place f.count × FinerBits n plot.now f.finer f.place × Member n first.now g.place g.count × FinerBits n first.now g.finer g.place }
-    ensures test { result.orthogonal ≡ orthogonal_at n plot.now first.now f.place g.place }
-    ensures kept { Growing n store.new counts.new result.size × Joins n plot.now first.now store.new (held_of result.size) joins.new }
-    ensures places { result.orthogonal ≡ true → (As : List Column) → Placing n As store.old counts.old size → Placing n (As ++ supremum (column_at n plot.now f.place) (column_at n first.now g.place) ∷ []) store.new counts.new result.size }
+    sides: &Sides,
+    i: usize,
+    j: usize,
+    found: &mut Suprema,
+    joins: &mut [Option<u8>; PAIRS],
+) -> bool
+    requires { (i < sides.now.plot.size) × (j < sides.now.treatment.size) × Crossing sides.now found.old joins.old }
+    ensures test { result ≡ test_of sides.now i j }
+    ensures kept { Crossing sides.now found.new joins.new }
+    ensures places { result ≡ true → (As : List Column) → Placed sides.now As found.old → Placed sides.now (As ++ supremum_of sides.now i j ∷ []) found.new }
 {
-    let at = MEMBERS * f.place + g.place;
-    if known_finer(n, f.count, g.count) {
-        let held = add_member(first, g.place, g.count, n, store, counts, size, joins, at);
-        return Pair {
-            orthogonal: true,
-            size: held,
-        };
+    let n = sides.plot.plots;
+    let f = sides.plot.counts[i];
+    let g = sides.treatment.counts[j];
+    if known_finer(n, f, g) {
+        joins[MEMBERS * i + j] = found.add(member(sides.treatment.bytes, j, n), g);
+        return true;
     }
-    if known_finer(n, g.count, f.count) {
-        let held = add_member(plot, f.place, f.count, n, store, counts, size, joins, at);
-        return Pair {
-            orthogonal: true,
-            size: held,
-        };
+    if known_finer(n, g, f) {
+        joins[MEMBERS * i + j] = found.add(member(sides.plot.bytes, i, n), f);
+        return true;
     }
-    join_pair(plot, f, first, g, n, store, counts, size, joins)
+    join_pair(sides, i, j, found, joins)
 }
 
-// A plot member `f` with each treatment member, from the last on, up to one that is not orthogonal.
+// Plot member `i` with each treatment member, from the last on: the first of these that it is not orthogonal to.
 fn cross_row(
-    plot: &[u8],
-    f: Entry,
-    first: &[u8],
-    first_size: usize,
-    firsts: &[u8; MEMBERS],
-    finer_firsts: &[u32; MEMBERS],
-    n: usize,
-    store: &mut [u8],
-    counts: &mut [u8; MEMBERS],
-    size: usize,
-    joins: &mut [u8; PAIRS],
-) -> Row
-    requires { Growing n store.old counts.old size × Joins n plot.now first.now store.old (held_of size) joins.old × Member n plot.now f.place f.count × FinerBits n plot.now f.finer f.place × (first_size ≤ most_members) × Counted n first.now firsts.now first_size × ((k : ℕ) → FinerBits n first.now (get_or finer_firsts.now k 0) k) }
-    ensures all { result.apart ≡ 0 → (j : ℕ) → j < first_size → orthogonal_at n plot.now first.now f.place j ≡ true }
-    ensures apart { (result.apart ≡ 0 → ⊥) → ((result.apart - 1) / most_members ≡ f.place) × Failing (orthogonal_at n plot.now first.now) first_size result.apart }
-    ensures kept { Growing n store.new counts.new result.size × Joins n plot.now first.now store.new (held_of result.size) joins.new }
-    ensures places { result.apart ≡ 0 → (As : List Column) → Placing n As store.old counts.old size → Placing n (As ++ products_of only_supremum (column_at n plot.now f.place) (members_of n first.now first_size)) store.new counts.new result.size }
+    sides: &Sides,
+    i: usize,
+    found: &mut Suprema,
+    joins: &mut [Option<u8>; PAIRS],
+) -> Option<usize>
+    requires { (i < sides.now.plot.size) × Crossing sides.now found.old joins.old }
+    ensures all { result ≡ None → (j : ℕ) → j < sides.now.treatment.size → test_of sides.now i j ≡ true }
+    ensures apart { IfSome result (λ j. (j < sides.now.treatment.size) × (test_of sides.now i j ≡ false)) }
+    ensures kept { Crossing sides.now found.new joins.new }
+    ensures places { result ≡ None → (As : List Column) → Placed sides.now As found.old → Placed sides.now (As ++ products_of only_supremum (plot_of sides.now i) (treatment_members sides.now)) found.new }
 {
-    let mut now = size;
-    let mut j = first_size;
-    while 0 < j {
-        j -= 1;
-        let g = Entry {
-            place: j,
-            count: firsts[j],
-            finer: finer_firsts[j],
-        };
-        let pair = cross_pair(plot, f, first, g, n, store, counts, now, joins);
-        now = pair.size;
-        if !pair.orthogonal {
-            let apart = MEMBERS * f.place + j + 1;
-            return Row { apart, size: now };
+    for j in (0..sides.treatment.size).rev() {
+        if !cross_pair(sides, i, j, found, joins) {
+            return Some(j);
         }
     }
-    Row {
-        apart: 0,
-        size: now,
-    }
+    None
 }
 
-// Words with a bit for each member that is finer, by place, where the other family has members enough for them to be of use.
-fn order_words(
-    family: &[u8],
-    counts: &[u8; MEMBERS],
-    size: usize,
-    n: usize,
-    other: usize,
-) -> [u32; MEMBERS]
-    requires { (1 ≤ n) × (n ≤ most_plots) × (size ≤ most_members) × Counted n family.now counts.now size }
-    ensures { (k : ℕ) → FinerBits n family.now (get_or result k 0) k }
-{
-    if other < SOME_MEMBERS {
-        return [0u32; MEMBERS];
-    }
-    finer_words(family, counts, size, n)
-}
-
-// Each plot member with each treatment member, from the last ones on, up to a pair that is not orthogonal.
+// Each plot member with each treatment member, from the last ones on: the first of these pairs that is not orthogonal.
 fn cross_all(
-    plot: &[u8],
-    plot_size: usize,
-    plots: &[u8; MEMBERS],
-    first: &[u8],
-    first_size: usize,
-    firsts: &[u8; MEMBERS],
-    n: usize,
-    store: &mut [u8],
-    counts: &mut [u8; MEMBERS],
-    joins: &mut [u8; PAIRS],
-) -> Row
-    requires { Growing n store.old counts.old 0 × Joins n plot.now first.now store.old 0 joins.old × (plot_size ≤ most_members) × Counted n plot.now plots.now plot_size × (first_size ≤ most_members) × Counted n first.now firsts.now first_size }
-    ensures all { result.apart ≡ 0 → (i j : ℕ) → i < plot_size → j < first_size → orthogonal_at n plot.now first.now i j ≡ true }
-    ensures apart { (result.apart ≡ 0 → ⊥) → ((result.apart - 1) / most_members < plot_size) × Failing (orthogonal_at n plot.now first.now) first_size result.apart }
-    ensures kept { (length store.new ≡ family_bytes) × Joins n plot.now first.now store.new (held_of result.size) joins.new }
-    ensures places { result.apart ≡ 0 → Placing n (products only_supremum (members_of n plot.now plot_size) (members_of n first.now first_size)) store.new counts.new result.size }
+    sides: &Sides,
+    found: &mut Suprema,
+    joins: &mut [Option<u8>; PAIRS],
+) -> Option<(usize, usize)>
+    requires { Crossing sides.now found.old joins.old × Placed sides.now [] found.old }
+    ensures all { result ≡ None → (i j : ℕ) → i < sides.now.plot.size → j < sides.now.treatment.size → test_of sides.now i j ≡ true }
+    ensures apart { IfSome result (λ pair. (pair.0 < sides.now.plot.size) × (pair.1 < sides.now.treatment.size) × (test_of sides.now pair.0 pair.1 ≡ false)) }
+    ensures kept { Crossing sides.now found.new joins.new }
+    ensures places { result ≡ None → Placed sides.now (products only_supremum (plot_members sides.now) (treatment_members sides.now)) found.new }
 {
-    let finer_plots = order_words(plot, plots, plot_size, n, first_size);
-    let finer_firsts = order_words(first, firsts, first_size, n, plot_size);
-    let mut size = 0;
-    let mut i = plot_size;
-    while 0 < i {
-        i -= 1;
-        let f = Entry {
-            place: i,
-            count: plots[i],
-            finer: finer_plots[i],
-        };
-        let row = cross_row(
-            plot,
-            f,
-            first,
-            first_size,
-            firsts,
-            &finer_firsts,
-            n,
-            store,
-            counts,
-            size,
-            joins,
-        );
-        if row.apart != 0 {
-            return row;
+    for i in (0..sides.plot.size).rev() {
+        if let Some(j) = cross_row(sides, i, found, joins) {
+            return Some((i, j));
         }
-        size = row.size;
     }
-    Row { apart: 0, size }
+    None
 }
 
-// Each plot member with each treatment member. The places of a pair that is not orthogonal are sought from the first pair on.
+// The first pair of a plot and a treatment member that is not orthogonal, sought from the first on; else the suprema of all are found.
+fn cross_members(
+    sides: &Sides,
+    found: &mut Suprema,
+    joins: &mut [Option<u8>; PAIRS],
+) -> Option<Places>
+    requires { Crossing sides.now found.old joins.old × Placed sides.now [] found.old }
+    ensures first { first_of result ≡ cross_first (test_of sides.now) sides.now.plot.size sides.now.treatment.size }
+    ensures second { second_of result ≡ cross_second (test_of sides.now) sides.now.treatment.size (first_of result) }
+    ensures some { IfSome result (λ pair. pair.first ≡ 0 → ⊥) }
+    ensures places { result ≡ None → Placed sides.now (products only_supremum (plot_members sides.now) (treatment_members sides.now)) found.new }
+{
+    let apart = cross_all(sides, found, joins)?;
+    first_crossed(sides, joins, apart)
+}
+
+// Each plot member with each treatment member: the different suprema.
 pub fn cross(
     plot: &[u8],
     plot_size: usize,
-    first: &[u8],
-    first_size: usize,
+    treatment: &[u8],
+    treatment_size: usize,
     n: usize,
-    store: &mut [u8],
-    counts: &mut [u8; MEMBERS],
-) -> Crossed
-    requires { (1 ≤ n) × (n ≤ most_plots) × Numbered n plot.now plot_size × Numbered n first.now first_size × (length store.old ≡ family_bytes) × (length counts.old ≡ most_members) }
-    ensures first { result.first ≡ cross_first (orthogonal_at n plot.now first.now) plot_size first_size }
-    ensures second { result.second ≡ cross_second (orthogonal_at n plot.now first.now) first_size result.first }
-    ensures places { result.first ≡ 0 → Placing n (products only_supremum (members_of n plot.now plot_size) (members_of n first.now first_size)) store.new counts.new result.size }
+) -> Result<Suprema, Crossed>
+    requires { (1 ≤ n) × (n ≤ most_plots) × Numbered n plot.now plot_size × Numbered n treatment.now treatment_size }
+    ensures { Crosses n plot.now plot_size treatment.now treatment_size result }
 {
-    let plots = class_counts(plot, n, plot_size);
-    let firsts = class_counts(first, n, first_size);
-    let mut joins = [0u8; PAIRS];
-    let all = cross_all(
-        plot, plot_size, &plots, first, first_size, &firsts, n, store, counts, &mut joins,
-    );
-    let size = all.size;
-    if all.apart == 0 {
-        return Crossed {
-            first: 0,
-            second: 0,
-            size,
-        };
-    }
-    let at = all.apart - 1;
-    let places = first_crossed(
-        plot, plot_size, &plots, first, first_size, &firsts, n, &joins, at,
-    );
-    Crossed {
-        first: places.first,
-        second: places.second,
-        size,
+    let sides = Sides {
+        plot: members_of(plot, n, plot_size, treatment_size),
+        treatment: members_of(treatment, n, treatment_size, plot_size),
+    };
+    let mut found = Suprema {
+        bytes: [0; FAMILY],
+        counts: [0; MEMBERS],
+        size: 0,
+        over: false,
+    };
+    let mut joins = [None; PAIRS];
+    match cross_members(&sides, &mut found, &mut joins) {
+        Some(places) => Err(Crossed::Apart(places)),
+        None if found.over => Err(Crossed::TooMany),
+        None => Ok(found),
     }
 }

@@ -1,50 +1,44 @@
 // Suprema that follow from those of finer members: where F is finer than F', and F' than the supremum of F and G, which are orthogonal,
 // the supremum of F' and G is the same one, and they are orthogonal.
-ghost use Rattle.std.specs.Prelude.{◌≡◌, true, ◌⊎◌, ℕ, suc, ◌+◌, ◌*◌, ◌≤◌, ◌<◌, length, get_or};
-ghost use Rattle.rules.specs.Limits.{most_plots, most_members, family_bytes};
-ghost use Rattle.rules.specs.Factor.{Finer, classes};
+ghost use Rattle.std.specs.Prelude.{◌≡◌, true, ◌⊎◌, ℕ, Option, Some, None, ◌+◌, ◌*◌, ◌≤◌, ◌<◌, get_or};
+ghost use Rattle.rules.specs.Limits.{most_members};
 ghost use Rattle.rules.specs.Lists.{bit_at};
-ghost use Rattle.design.specs.State.{column_at};
-ghost use Rattle.design.specs.Treatments.{Member};
-ghost use Rattle.design.specs.Crossing.{FinerBits, held_of, Growing, Join, Joins, ChosenJoin};
+ghost use Rattle.design.specs.Crossing.{Join, Chosen};
+ghost use Rattle.design.specs.Sides.{Crossing, plot_of, treatment_of};
 
 use crate::closing::PAIRS;
-use crate::nesting::{Entry, found_finer};
+use crate::crossing::Suprema;
+use crate::nesting::{Sides, found_finer};
+use families::member;
 use limits::MEMBERS;
 
-// Of two places, from 1, the one whose member has fewer classes; 0 is none.
-fn fewer(counts: &[u8; MEMBERS], p: u8, q: u8) -> u8
-    requires { (p ≤ most_members) × (q ≤ most_members) }
+// Of two places, the one whose member has fewer classes.
+fn fewer(counts: &[u8; MEMBERS], p: Option<u8>, q: Option<u8>) -> Option<u8>
+    requires first { (k : ℕ) → p ≡ Some k → k < most_members }
+    requires second { (k : ℕ) → q ≡ Some k → k < most_members }
     ensures { (result ≡ p) ⊎ (result ≡ q) }
 {
-    if p == 0 {
-        return q;
+    match (p, q) {
+        (Some(a), Some(b)) if counts[b as usize] < counts[a as usize] => q,
+        (None, _) => q,
+        _ => p,
     }
-    if q == 0 {
-        return p;
-    }
-    let a = p as usize - 1;
-    let b = q as usize - 1;
-    if counts[b] < counts[a] {
-        return q;
-    }
-    p
 }
 
-// Of the cells that belong to the bits of a word, from bit `from` on, the one whose member has the fewest classes: no other can be the
-// supremum. 0 where there is none.
+// Of the entries that belong to the bits of a word, from bit `from` on, the place whose member has the fewest classes: no other can be
+// the supremum.
 fn coarsest(
-    joins: &[u8; PAIRS],
+    joins: &[Option<u8>; PAIRS],
     counts: &[u8; MEMBERS],
     at: usize,
     step: usize,
     word: u32,
     from: usize,
-) -> u8
-    requires { (at ≤ 1024) × (step ≤ most_members) × ((k : ℕ) → bit_at word k ≡ true → (at + step * k < 1024) × (get_or joins.now (at + step * k) 0 ≤ most_members)) }
-    ensures { (result ≡ 0) ⊎ ChosenJoin joins.now at step word result }
+) -> Option<u8>
+    requires { (at ≤ 1024) × (step ≤ most_members) × ((k : ℕ) → bit_at word k ≡ true → (at + step * k < 1024) × ((q : ℕ) → get_or joins.now (at + step * k) None ≡ Some q → q < most_members)) }
+    ensures { (q : ℕ) → result ≡ Some q → Chosen joins.now at step word q }
 {
-    let mut best: u8 = 0;
+    let mut best = None;
     for k in from..MEMBERS {
         let left = word >> k;
         if left == 0 {
@@ -57,58 +51,44 @@ fn coarsest(
     best
 }
 
-// Whether member `i` of a family, which has `f` classes, is found to be finer than the member at place `at`, from 1, of the store.
-fn under(
-    family: &[u8],
-    i: usize,
-    f: u8,
-    store: &[u8],
-    counts: &[u8; MEMBERS],
-    at: u8,
-    n: usize,
-) -> bool
-    requires { (1 ≤ n) × (n ≤ most_plots) × Member n family.now i f × (length store.now ≡ family_bytes) × ((q : ℕ) → at ≡ suc q → (q < most_members) × (get_or counts.now q 0 ≡ classes (column_at n store.now q))) }
-    ensures { result ≡ true → (q : ℕ) → at ≡ suc q → Finer n (column_at n family.now i) (column_at n store.now q) }
-{
-    if at == 0 {
-        return false;
-    }
-    let q = at as usize - 1;
-    found_finer(family, i, f, store, q, counts[q], n)
-}
-
-// The place, from 1, of the supremum of a plot member `f` and a treatment member `g` where it follows from those of finer members; 0
-// where it does not.
+// The place of the supremum of plot member `i` and treatment member `j`, where it follows from those of finer members.
 pub fn following(
-    plot: &[u8],
-    f: Entry,
-    first: &[u8],
-    g: Entry,
-    n: usize,
-    store: &[u8],
-    counts: &[u8; MEMBERS],
-    size: usize,
-    joins: &[u8; PAIRS],
-) -> u8
-    requires { Growing n store.now counts.now size × Joins n plot.now first.now store.now (held_of size) joins.now × Member n plot.now f.place f.count × FinerBits n plot.now f.finer f.place × Member n first.now g.place g.count × FinerBits n first.now g.finer g.place }
-    ensures { (q : ℕ) → result ≡ suc q → Join n (column_at n plot.now f.place) (column_at n first.now g.place) store.now (held_of size) q }
+    sides: &Sides,
+    i: usize,
+    j: usize,
+    found: &Suprema,
+    joins: &[Option<u8>; PAIRS],
+) -> Option<u8>
+    requires { (i < sides.now.plot.size) × (j < sides.now.treatment.size) × Crossing sides.now found.now joins.now }
+    ensures { (q : ℕ) → result ≡ Some q → Join sides.now.plot.plots (plot_of sides.now i) (treatment_of sides.now j) found.now.bytes found.now.size q }
 {
-    let i = f.place;
-    let j = g.place;
-    let p = coarsest(joins, counts, j, MEMBERS, f.finer, i + 1);
-    let q = coarsest(joins, counts, MEMBERS * i, 1, g.finer, j + 1);
+    let plot = &sides.plot;
+    let treatment = &sides.treatment;
+    let n = plot.plots;
+    let p = coarsest(joins, &found.counts, j, MEMBERS, plot.finer[i], i + 1);
+    let q = coarsest(
+        joins,
+        &found.counts,
+        MEMBERS * i,
+        1,
+        treatment.finer[j],
+        j + 1,
+    );
     if p == q {
         return p;
     }
-    let r = fewer(counts, p, q);
-    if r == p {
-        if under(plot, i, f.count, store, counts, r, n) {
-            return r;
-        }
-        return 0;
-    }
-    if under(first, j, g.count, store, counts, r, n) {
-        return r;
-    }
-    0
+    let place = fewer(&found.counts, p, q)?;
+    let supremum = member(&found.bytes, place as usize, n);
+    let count = found.counts[place as usize];
+    let is_finer = if p == Some(place) {
+        found_finer(member(plot.bytes, i, n), plot.counts[i], supremum, count)
+    } else {
+        found_finer(
+            member(treatment.bytes, j, n),
+            treatment.counts[j],
+            supremum,
+            count,
+        )
+    };
+    is_finer.then_some(place)
 }

@@ -80,5 +80,5 @@ fn full_from_11(
 {
     let mut marks = [0u8; PAIRS];
     let closed = first_family(levels, n, d, k, store, &mut marks, treatment_family);
-    judge_treatments(plot, held, closed, &marks, n, store, treatment_family)
+    judge_treatments(plot, held, closed, &marks, n, treatment_family)
 }

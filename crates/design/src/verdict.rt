@@ -12,7 +12,7 @@ ghost use Rattle.design.specs.Answers.{plot_numbers, plot_numbers_of, full_numbe
 
 use crate::closed::ClosedFamily;
 use crate::closing::{PAIRS, TOO_MANY};
-use crate::crossing::cross;
+use crate::crossing::{Crossed, cross};
 use crate::questions::{Places, first_apart, first_unequal};
 use crate::sorting::{sort, write};
 use crate::{FullRefusal, PlotRefusal, Sizes};
@@ -115,17 +115,16 @@ fn treatments_refused(
 }
 
 // Questions 11 to 14, with the plot family accepted. The treatment buffer has the first family, which stays there unless all are
-// passed: then the final one is written over it. Both families grow in the store.
+// passed: then the final one is written over it.
 pub fn judge_treatments(
     plot_family: &[u8],
     plot: usize,
     closed: ClosedFamily,
     marks: &[u8; PAIRS],
     n: usize,
-    store: &mut [u8],
     treatment_family: &mut [u8],
 ) -> Result<Sizes, FullRefusal>
-    requires { (1 ≤ n) × (n ≤ most_plots) × Numbered n plot_family.now plot × ((closed.size ≡ 33 → ⊥) → Numbered n treatment_family.old closed.size × MarksTell (orthogonal n) (members_of n treatment_family.old closed.size) closed.order marks.now closed.size) × (length store.old ≡ family_bytes) }
+    requires { (1 ≤ n) × (n ≤ most_plots) × Numbered n plot_family.now plot × ((closed.size ≡ 33 → ⊥) → Numbered n treatment_family.old closed.size × MarksTell (orthogonal n) (members_of n treatment_family.old closed.size) closed.order marks.now closed.size) }
     ensures answer { full_numbers result ≡ full_numbers_of (question11 n (members_of n plot_family.now plot) (closed_in n treatment_family.old closed.size)) }
     ensures buffer { treatment_family.new ≡ treatment_buffer treatment_family.old (question11 n (members_of n plot_family.now plot) (closed_in n treatment_family.old closed.size)) }
 {
@@ -135,7 +134,7 @@ pub fn judge_treatments(
     }
     let order = closed.order;
     let pair = first_apart(&order, marks, size);
-    from_12(plot_family, plot, pair, size, n, store, treatment_family)
+    from_12(plot_family, plot, pair, size, n, treatment_family)
 }
 
 // Questions 12 to 14, with the first pair of treatment members that are not orthogonal.
@@ -145,10 +144,9 @@ fn from_12(
     pair: Places,
     size: usize,
     n: usize,
-    store: &mut [u8],
     treatment_family: &mut [u8],
 ) -> Result<Sizes, FullRefusal>
-    requires { (1 ≤ n) × (n ≤ most_plots) × Numbered n plot_family.now plot × Numbered n treatment_family.old size × (pair.first ≡ (first_pair (orthogonal n) 1 (members_of n treatment_family.old size)).first) × (pair.second ≡ (first_pair (orthogonal n) 1 (members_of n treatment_family.old size)).second) × (length store.old ≡ family_bytes) }
+    requires { (1 ≤ n) × (n ≤ most_plots) × Numbered n plot_family.now plot × Numbered n treatment_family.old size × (pair.first ≡ (first_pair (orthogonal n) 1 (members_of n treatment_family.old size)).first) × (pair.second ≡ (first_pair (orthogonal n) 1 (members_of n treatment_family.old size)).second) }
     ensures answer { full_numbers result ≡ full_numbers_of (question12 n (members_of n plot_family.now plot) (members_of n treatment_family.old size) (first_pair (orthogonal n) 1 (members_of n treatment_family.old size))) }
     ensures buffer { treatment_family.new ≡ treatment_buffer treatment_family.old (question12 n (members_of n plot_family.now plot) (members_of n treatment_family.old size) (first_pair (orthogonal n) 1 (members_of n treatment_family.old size))) }
 {
@@ -156,7 +154,7 @@ fn from_12(
     if at != 0 {
         return treatments_refused(Refusal::TreatmentPair, at, pair.second, plot, size);
     }
-    from_13(plot_family, plot, size, n, store, treatment_family)
+    from_13(plot_family, plot, size, n, treatment_family)
 }
 
 // Questions 13 and 14.
@@ -165,35 +163,24 @@ fn from_13(
     plot: usize,
     size: usize,
     n: usize,
-    store: &mut [u8],
     treatment_family: &mut [u8],
 ) -> Result<Sizes, FullRefusal>
-    requires { (1 ≤ n) × (n ≤ most_plots) × Numbered n plot_family.now plot × Numbered n treatment_family.old size × (length store.old ≡ family_bytes) }
+    requires { (1 ≤ n) × (n ≤ most_plots) × Numbered n plot_family.now plot × Numbered n treatment_family.old size }
     ensures answer { full_numbers result ≡ full_numbers_of (question13 (members_of n plot_family.now plot) (members_of n treatment_family.old size) (first_cross (orthogonal n) 1 (members_of n plot_family.now plot) (members_of n treatment_family.old size))) }
     ensures buffer { treatment_family.new ≡ treatment_buffer treatment_family.old (question13 (members_of n plot_family.now plot) (members_of n treatment_family.old size) (first_cross (orthogonal n) 1 (members_of n plot_family.now plot) (members_of n treatment_family.old size))) }
 {
-    let mut counts = [0u8; MEMBERS];
-    let crossed = cross(
-        plot_family,
-        plot,
-        treatment_family,
-        size,
-        n,
-        store,
-        &mut counts,
-    );
-    let at = crossed.first;
-    if at != 0 {
-        return treatments_refused(Refusal::CrossedPair, at, crossed.second, plot, size);
+    match cross(plot_family, plot, treatment_family, size, n) {
+        Err(Crossed::Apart(pair)) => {
+            treatments_refused(Refusal::CrossedPair, pair.first, pair.second, plot, size)
+        }
+        Err(Crossed::TooMany) => treatments_refused(Refusal::FinalFamilySize, 0, 0, plot, size),
+        Ok(found) => {
+            let order = sort(&found.bytes, &found.counts, n, found.size);
+            write(&found.bytes, &order, n, found.size, treatment_family);
+            Ok(Sizes {
+                plot,
+                treatment: found.size,
+            })
+        }
     }
-    let last = crossed.size;
-    if last == TOO_MANY {
-        return treatments_refused(Refusal::FinalFamilySize, 0, 0, plot, size);
-    }
-    let order = sort(store, &counts, n, last);
-    write(store, &order, n, last, treatment_family);
-    Ok(Sizes {
-        plot,
-        treatment: last,
-    })
 }

@@ -1,72 +1,76 @@
-use mathlib.Core.Path.{◌≡◌, refl, sym, ◌∙◌}
+use mathlib.Core.Path.{◌≡◌, sym, ◌∙◌}
 use mathlib.Core.Bool.{Bool, true, false}
-use Prim.Native.Nat.{ℕ, ◌+◌, ◌<◌}
+use Prim.Native.Nat.{ℕ, ◌+◌}
 use native.Mathlib.Omega.{arith}
+use Rattle.std.proofs.Common.{rules}
 use borrow.Author.Tests.{ne_eqb}
-use Rattle.design.specs.Search.{cross_partner, cross_first, cross_second}
-use Rattle.design.specs.Treatments.{orthogonal_at}
-use Rattle.design.proofs.Search.{from_on, from_here, from_end, cross_alone, cross_alone_yes, cross_partner_start, cross_second_of, cross_first_start}
+use Rattle.design.specs.Search.{cross_partner, cross_second}
+use Rattle.design.specs.Sides.{test_of}
+use Rattle.design.proofs.Search.{from_on, from_here, from_end, cross_alone, cross_alone_yes, cross_first_start, cross_partner_start, cross_second_of}
 use Rattle.design.proofs.apart.first_crossed.Goals as goal
-use Rattle.design.proofs.apart.first_crossed.Goals.{Start}
+use Rattle.design.proofs.apart.first_crossed.Goals.{Start, Then-not-pair_orthogonal}
 
 -- whether a plot member and a treatment member are orthogonal
 abbrev test : Start → ℕ → ℕ → Bool
-test c = let s = c.args in orthogonal_at s.n s.plot.now s.first.now
+test c = test_of c.args.sides.now
 
-pub pairs-init : goal.pairs-init
-pairs-init c =
-    let start = (goal.at.pairs-init c).Start in
-    (omega arith, refl, refl, cross_first_start (test start) start.args.plot_size start.args.first_size)
+abbrev plots : Start → ℕ
+plots c = c.args.sides.now.plot.size
+
+abbrev treatments : Start → ℕ
+treatments c = c.args.sides.now.treatment.size
+
+pub loop-i-init : goal.loop-i-init
+loop-i-init c = let s = (goal.at.loop-i-init c).Start in cross_first_start (test s) (plots s) (treatments s)
 
 pub loop-j-init : goal.loop-j-init
-loop-j-init c =
-    let p = c.pairs in
-    let start = (goal.at.loop-j-init c).Start in
-    (omega arith, p.invariant.1, p.invariant.2, cross_partner_start (test start) start.args.first_size p.i)
+loop-j-init c = let s = (goal.at.loop-j-init c).Start in cross_partner_start (test s) (treatments s) c.loop-i.i
 
 pub pair_orthogonal-requires : goal.pair_orthogonal-requires
 pair_orthogonal-requires c =
-    let i = c.pairs.i in
-    let j = c.loop-j.j in
-    let hi : i < c.args.plot_size = omega arith in
-    let hj : j < c.args.first_size = omega arith in
-    (c.requires.0, c.requires.1, c.requires.3 i hi, c.requires.5 j hj, c.requires.6 i j (omega arith) (omega arith))
+    let s = c.args.sides.now in
+    (omega arith, omega arith, c.requires c.loop-i.i c.loop-j.j (omega (arith, s.plot.ordered.few)) (omega (arith, s.treatment.ordered.few)))
 
 pub loop-j-preserved : goal.loop-j-preserved
 loop-j-preserved c =
-    let start = (goal.at.loop-j-preserved c).Start in
-    let i = c.pairs.i in
-    let e : test start i c.loop-j.j ≡ true = sym c.pair_orthogonal.ensures ∙ c.if-not-pair_orthogonal.false in
-    (omega arith, c.loop-j.invariant.1, c.loop-j.invariant.2, c.loop-j.invariant.3 ∙ from_on (test start i) c.loop-j.j start.args.first_size (omega arith) e)
+    let s = (goal.at.loop-j-preserved c).Start in
+    let i = c.loop-i.i in
+    let e : test s i c.loop-j.j ≡ true = sym c.pair_orthogonal.ensures ∙ c.if-not-pair_orthogonal.false in
+    c.loop-j.invariant ∙ from_on (test s i) c.loop-j.j (treatments s) (omega arith) e
 
-pub pairs-preserved : goal.pairs-preserved
-pairs-preserved c =
-    let p = c.pairs in
-    let start = (goal.at.pairs-preserved c).Start in
-    let s = start.args in
-    let none : cross_partner (test start) s.first_size p.i ≡ 0 = c.loop-j.invariant.3 ∙ from_end (test start p.i) c.loop-j.j s.first_size (omega arith) in
-    (omega arith, c.loop-j.invariant.1, c.loop-j.invariant.2, p.invariant.3 ∙ from_on (cross_alone (test start) s.first_size) p.i s.plot_size (omega arith) (cross_alone_yes (test start) s.first_size p.i none))
+pub loop-i-preserved : goal.loop-i-preserved
+loop-i-preserved c =
+    let s = (goal.at.loop-i-preserved c).Start in
+    let i = c.loop-i.i in
+    let none : cross_partner (test s) (treatments s) i ≡ 0 = c.loop-j.invariant ∙ from_end (test s i) c.loop-j.j (treatments s) (omega arith) in
+    c.loop-i.invariant ∙ from_on (cross_alone (test s) (treatments s)) i (plots s) (omega arith) (cross_alone_yes (test s) (treatments s) i none)
 
-pub returns-after-pairs : goal.returns-after-pairs
+-- the second place of the pair that is found
+second : (c : Then-not-pair_orthogonal) → let s = (goal.at.Then-not-pair_orthogonal c).Start in cross_partner (test s) (treatments s) c.loop-i.i ≡ c.loop-j.j + 1
+second c =
+    let s = (goal.at.Then-not-pair_orthogonal c).Start in
+    let i = c.loop-i.i in
+    let e : test s i c.loop-j.j ≡ false = sym c.pair_orthogonal.ensures ∙ c.if-not-pair_orthogonal.true in
+    c.loop-j.invariant ∙ from_here (test s i) c.loop-j.j (treatments s) (omega arith) e
+
+pub returns-then-not-pair_orthogonal-clause-first : goal.returns-then-not-pair_orthogonal-clause-first
+returns-then-not-pair_orthogonal-clause-first c =
+    let s = (goal.at.returns-then-not-pair_orthogonal-clause-first c).Start in
+    let i = c.loop-i.i in
+    let e = second (goal.at.returns-then-not-pair_orthogonal-clause-first c).Then-not-pair_orthogonal in
+    let some : cross_alone (test s) (treatments s) i ≡ false = ne_eqb (cross_partner (test s) (treatments s) i) 0 (λ z. omega arith) in
+    sym (c.loop-i.invariant ∙ from_here (cross_alone (test s) (treatments s)) i (plots s) (omega arith) some)
+
+pub returns-then-not-pair_orthogonal-clause-second : goal.returns-then-not-pair_orthogonal-clause-second
+returns-then-not-pair_orthogonal-clause-second c =
+    let s = (goal.at.returns-then-not-pair_orthogonal-clause-second c).Start in
+    sym (cross_second_of (test s) (treatments s) c.loop-i.i ∙ second (goal.at.returns-then-not-pair_orthogonal-clause-second c).Then-not-pair_orthogonal)
+
+pub returns-clause-first : goal.returns-clause-first
+returns-clause-first c =
+    let s = (goal.at.returns-clause-first c).Start in
+    sym (c.loop-i.invariant ∙ from_end (cross_alone (test s) (treatments s)) c.loop-i.i (plots s) (omega arith))
+
+pub returns-clause-second : goal.returns-clause-second
 unfolding cross_second
-returns-after-pairs c =
-    let p = c.pairs in
-    let start = (goal.at.returns-after-pairs c).Start in
-    let none : cross_first (test start) start.args.plot_size start.args.first_size ≡ 0 = p.invariant.3 ∙ from_end (cross_alone (test start) start.args.first_size) p.i start.args.plot_size (omega arith) in
-    record {
-      first = p.invariant.1 ∙ sym none;
-      second = p.invariant.2 ∙ rw p.invariant.1 refl;
-    }
-
-pub returns-then-not-pair_orthogonal : goal.returns-then-not-pair_orthogonal
-returns-then-not-pair_orthogonal c =
-    let p = c.pairs in
-    let start = (goal.at.returns-then-not-pair_orthogonal c).Start in
-    let s = start.args in
-    let e : test start p.i c.loop-j.j ≡ false = sym c.pair_orthogonal.ensures ∙ c.if-not-pair_orthogonal.true in
-    let second : cross_partner (test start) s.first_size p.i ≡ c.loop-j.j + 1 = c.loop-j.invariant.3 ∙ from_here (test start p.i) c.loop-j.j s.first_size (omega arith) e in
-    let some : cross_alone (test start) s.first_size p.i ≡ false = ne_eqb (cross_partner (test start) s.first_size p.i) 0 (λ z. omega arith) in
-    record {
-      first = sym (p.invariant.3 ∙ from_here (cross_alone (test start) s.first_size) p.i s.plot_size (omega arith) some);
-      second = sym (cross_second_of (test start) s.first_size p.i ∙ second);
-    }
+returns-clause-second c = search rules

@@ -1,21 +1,13 @@
 -- `first_crossed` meets its contract: the first pair is that of what is left to search.
-use mathlib.Core.Path.{◌≡◌}
-use Prim.Native.Nat.{◌-◌, ◌≤◌}
+use Rattle.std.proofs.Common.{◌≡◌, ◌-◌}
 use Rattle.design.specs.Search.{first_from, cross_partner, cross_first}
-use Rattle.design.specs.Treatments.{orthogonal_at}
+use Rattle.design.specs.Sides.{test_of}
 use Rattle.design.proofs.Search.{cross_alone}
 use Rattle.design.proofs.apart.first_crossed.Given as goal
 
 abbrev pub invariant-loop-j : goal.invariant-loop-j
-invariant-loop-j l =
-    (l.j ≤ l.first_size) × (l.at ≡ 0) × (l.second ≡ 0) × (cross_partner (orthogonal_at l.n l.plot l.first) l.first_size l.i ≡ first_from (orthogonal_at l.n l.plot l.first l.i) l.j (l.first_size - l.j))
+invariant-loop-j l = cross_partner (test_of l.sides) l.sides.treatment.size l.i ≡ first_from (test_of l.sides l.i) l.j (l.sides.treatment.size - l.j)
 
-abbrev pub decreases-loop-j : goal.decreases-loop-j
-decreases-loop-j l = l.first_size - l.j
-
-abbrev pub invariant-pairs : goal.invariant-pairs
-invariant-pairs l =
-    (l.i ≤ l.plot_size) × (l.at ≡ 0) × (l.second ≡ 0) × (cross_first (orthogonal_at l.n l.plot l.first) l.plot_size l.first_size ≡ first_from (cross_alone (orthogonal_at l.n l.plot l.first) l.first_size) l.i (l.plot_size - l.i))
-
-abbrev pub decreases-pairs : goal.decreases-pairs
-decreases-pairs l = l.plot_size - l.i
+abbrev pub invariant-loop-i : goal.invariant-loop-i
+invariant-loop-i l =
+    cross_first (test_of l.sides) l.sides.plot.size l.sides.treatment.size ≡ first_from (cross_alone (test_of l.sides) l.sides.treatment.size) l.i (l.sides.plot.size - l.i)

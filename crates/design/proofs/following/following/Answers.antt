@@ -1,91 +1,117 @@
 -- `following` meets its contract: the supremum of a finer member that is finer than it is the pair's own.
-use mathlib.Core.Path.{◌≡◌, refl, sym, ◌∙◌}
-use mathlib.Core.Logic.{◌⊎◌, ⊎_elim}
-use Prim.Native.Nat.{ℕ, suc, ◌≤◌, ◌<◌}
+use mathlib.Core.Path.{◌≡◌, sym, ◌∙◌, subst}
+use mathlib.Core.Logic.{◌⊎◌, inl, inr, ⊎_elim}
+use mathlib.Core.List.{List}
+use mathlib.Core.Bool.{true}
+use Prim.Native.Nat.{ℕ, ◌*◌, ◌<◌, ◌≤◌}
 use native.Mathlib.Omega.{arith}
-use lib.ListN.{get_or}
-use Rattle.rules.specs.Factor.{Finer, classes}
+use lib.ListN.{length, get_or}
+use Rattle.std.proofs.Common.{rules, Some}
+use Rattle.rules.specs.Factor.{Finer}
 use Rattle.design.specs.State.{column_at}
-use Rattle.design.specs.Crossing.{held_of, Join}
-use Rattle.design.proofs.Joins.{plot_cells, plot_most, plot_counted, plot_follows, first_cells, first_most, first_counted, first_above, first_follows}
+use Rattle.design.specs.Crossing.{Join, Chosen}
+use Rattle.design.specs.Sides.{plot_of, treatment_of}
+use Rattle.factor.proofs.Lent.{length_part}
+use Rattle.design.proofs.FinerWords.{finer_lent, order_asked}
+use Rattle.design.proofs.Joins.{plot_entries, plot_less, plot_follows, first_entries, first_less, first_above, first_follows}
+use Rattle.design.proofs.Sides.{plot_member, treatment_member, plot_words, treatment_words, length_plot, length_treatment}
 use Rattle.design.proofs.following.following.Goals as goal
-use Rattle.design.proofs.following.following.Goals.{After-coarsest-q}
+use Rattle.design.proofs.following.following.Goals.{Start, After-coarsest-p, After-coarsest-q, In_ok-place, then-eq-2, else-eq-2}
 
 -- the supremum of the two members stands at place q
-abbrev Joined : After-coarsest-q → ℕ → Type 0
-Joined c q = let a = c.args in Join a.n (column_at a.n a.plot.now a.f.place) (column_at a.n a.first.now a.g.place) a.store.now (held_of a.size) q
+abbrev Joined : Start → ℕ → Type 0
+Joined c q = let s = c.args.sides.now in Join s.plot.plots (plot_of s c.args.i) (treatment_of s c.args.j) c.args.found.now.bytes c.args.found.now.size q
 
--- one of the two is finer than the member there
-abbrev PlotUnder : After-coarsest-q → ℕ → Type 0
-PlotUnder c q = let a = c.args in Finer a.n (column_at a.n a.plot.now a.f.place) (column_at a.n a.store.now q)
+-- the member there
+abbrev there : Start → ℕ → List ℕ
+there c q = column_at c.args.sides.now.plot.plots c.args.found.now.bytes q
 
-abbrev FirstUnder : After-coarsest-q → ℕ → Type 0
-FirstUnder c q = let a = c.args in Finer a.n (column_at a.n a.first.now a.g.place) (column_at a.n a.store.now q)
+module _ (c : Start) where
+  few : c.args.found.now.size ≤ 32
+  few = c.requires.2.growing.held.few
 
-module _ (c : After-coarsest-q) where
-  most_plots_lem : c.coarsest-p.result ≤ 32
-  most_plots_lem = let s = c in let a = s.args in
-      plot_most a.n a.plot.now a.first.now a.store.now a.counts.now a.size a.joins.now s.requires.0.held.most s.requires.2.room s.requires.4.room s.requires.0 s.requires.1 a.f.place a.g.place a.f.finer s.requires.2.place s.requires.4.place s.requires.3 c.coarsest-p.result c.coarsest-p.ensures
+  module _ (q : ℕ) where
+    -- the entry of a finer plot member
+    plot_within : Chosen c.args.joins.now c.args.j 32 (get_or c.args.sides.now.plot.finer c.args.i 0) q → q < c.args.found.now.size
+    plot_within = let s = c.args.sides.now in let p = plot_member s c.requires.0 in let t = treatment_member s c.requires.1 in
+        plot_less s.plot.ordered.most p.room t.room few c.requires.2.table c.args.i c.args.j _ p.place t.place (plot_words s c.args.i) q
 
-  most_firsts : c.coarsest-q.result ≤ 32
-  most_firsts = let s = c in let a = s.args in
-      first_most a.n a.plot.now a.first.now a.store.now a.counts.now a.size a.joins.now s.requires.0.held.most s.requires.2.room s.requires.4.room s.requires.0 s.requires.1 a.f.place a.g.place a.g.finer s.requires.2.place s.requires.4.place s.requires.5 c.coarsest-q.result c.coarsest-q.ensures
+    by_plots : Chosen c.args.joins.now c.args.j 32 (get_or c.args.sides.now.plot.finer c.args.i 0) q → Finer c.args.sides.now.plot.plots (plot_of c.args.sides.now c.args.i) (there c q) → Joined c q
+    by_plots = let s = c.args.sides.now in let p = plot_member s c.requires.0 in let t = treatment_member s c.requires.1 in
+        plot_follows s.plot.ordered.most p.room t.room few c.requires.2.table c.args.i c.args.j _ p.place t.place (plot_words s c.args.i) q
 
-  module _ (r q : ℕ) where
-    -- the cell of a finer plot member
-    by_plots_lem : r ≡ c.coarsest-p.result → r ≡ suc q → PlotUnder c q → Joined c q
-    by_plots_lem h e f = let s = c in let a = s.args in
-        plot_follows a.n a.plot.now a.first.now a.store.now a.counts.now a.size a.joins.now s.requires.0.held.most s.requires.2.room s.requires.4.room s.requires.0 s.requires.1 a.f.place a.g.place a.f.finer s.requires.2.place s.requires.4.place s.requires.3 c.coarsest-p.result c.coarsest-p.ensures q (sym h ∙ e) f
+    -- the entry of a finer treatment member
+    first_within : Chosen c.args.joins.now (32 * c.args.i) 1 (get_or c.args.sides.now.treatment.finer c.args.j 0) q → q < c.args.found.now.size
+    first_within = let s = c.args.sides.now in let p = plot_member s c.requires.0 in let t = treatment_member s c.requires.1 in
+        first_less s.plot.ordered.most p.room t.room few c.requires.2.table c.args.i c.args.j _ p.place t.place (treatment_words s c.args.j) q
 
-    -- the cell of a finer treatment member
-    by_firsts : r ≡ c.coarsest-q.result → r ≡ suc q → FirstUnder c q → Joined c q
-    by_firsts h e f = let s = c in let a = s.args in
-        first_follows a.n a.plot.now a.first.now a.store.now a.counts.now a.size a.joins.now s.requires.0.held.most s.requires.2.room s.requires.4.room s.requires.0 s.requires.1 a.f.place a.g.place a.g.finer s.requires.2.place s.requires.4.place s.requires.5 c.coarsest-q.result c.coarsest-q.ensures q (sym h ∙ e) f
+    above : Chosen c.args.joins.now (32 * c.args.i) 1 (get_or c.args.sides.now.treatment.finer c.args.j 0) q → Finer c.args.sides.now.plot.plots (plot_of c.args.sides.now c.args.i) (there c q)
+    above = let s = c.args.sides.now in let p = plot_member s c.requires.0 in let t = treatment_member s c.requires.1 in
+        first_above s.plot.ordered.most p.room t.room few c.requires.2.table c.args.i c.args.j _ p.place t.place (treatment_words s c.args.j) q
 
-    -- which the plot member is finer than
-    by_above : r ≡ c.coarsest-q.result → r ≡ suc q → PlotUnder c q
-    by_above h e = let s = c in let a = s.args in
-        first_above a.n a.plot.now a.first.now a.store.now a.counts.now a.size a.joins.now s.requires.0.held.most s.requires.2.room s.requires.4.room s.requires.0 s.requires.1 a.f.place a.g.place a.g.finer s.requires.2.place s.requires.4.place s.requires.5 c.coarsest-q.result c.coarsest-q.ensures q (sym h ∙ e)
+    by_firsts : Chosen c.args.joins.now (32 * c.args.i) 1 (get_or c.args.sides.now.treatment.finer c.args.j 0) q → Finer c.args.sides.now.plot.plots (treatment_of c.args.sides.now c.args.j) (there c q) → Joined c q
+    by_firsts = let s = c.args.sides.now in let p = plot_member s c.requires.0 in let t = treatment_member s c.requires.1 in
+        first_follows s.plot.ordered.most p.room t.room few c.requires.2.table c.args.i c.args.j _ p.place t.place (treatment_words s c.args.j) q
 
-    -- whose number of classes is known in either case
-    either : (r ≡ c.coarsest-p.result) ⊎ (r ≡ c.coarsest-q.result) → r ≡ suc q → let a = c.args in (q < 32) × (get_or a.counts.now q 0 ≡ classes (column_at a.n a.store.now q))
-    either o e = let s = c in let a = s.args in
-        ⊎_elim
-        (λ h. plot_counted a.n a.plot.now a.first.now a.store.now a.counts.now a.size a.joins.now s.requires.0.held.most s.requires.2.room s.requires.4.room s.requires.0 s.requires.1 a.f.place a.g.place a.f.finer s.requires.2.place s.requires.4.place s.requires.3 c.coarsest-p.result c.coarsest-p.ensures q (sym h ∙ e))
-        (λ h. first_counted a.n a.plot.now a.first.now a.store.now a.counts.now a.size a.joins.now s.requires.0.held.most s.requires.2.room s.requires.4.room s.requires.0 s.requires.1 a.f.place a.g.place a.g.finer s.requires.2.place s.requires.4.place s.requires.5 c.coarsest-q.result c.coarsest-q.ensures q (sym h ∙ e))
-        o
+-- the place that is chosen is one of the two
+either : (c : In_ok-place) → (c.coarsest-p.result ≡ Some c.in_ok-place.place) ⊎ (c.coarsest-q.result ≡ Some c.in_ok-place.place)
+either c = ⊎_elim (λ h. inl (sym h ∙ c.in_ok-place.was)) (λ h. inr (sym h ∙ c.in_ok-place.was)) c.fewer.ensures
+
+within : (c : In_ok-place) → c.in_ok-place.place < c.args.found.now.size
+within c = let s = (goal.at.In_ok-place c).Start in
+    ⊎_elim (λ h. plot_within s _ (c.coarsest-p.ensures _ h)) (λ h. first_within s _ (c.coarsest-q.ensures _ h)) (either c)
+
+-- the member there is on n plots
+length_there : (c : In_ok-place) → length (there (goal.at.In_ok-place c).Start c.in_ok-place.place) ≡ c.args.sides.now.plot.plots
+length_there c = let h = c.requires.2.growing.held in
+    length_part c.args.sides.now.plot.plots c.in_ok-place.place c.args.found.now.bytes (omega (arith, within c, h.room, h.most, h.few))
 
 pub coarsest-p-requires : goal.coarsest-p-requires
-coarsest-p-requires c = let a = c.args in
-    (omega (arith, c.requires.4.place), omega arith, plot_cells a.n a.plot.now a.first.now a.store.now a.counts.now a.size a.joins.now c.requires.0.held.most c.requires.2.room c.requires.4.room c.requires.0 c.requires.1 a.f.place a.g.place a.f.finer c.requires.2.place c.requires.4.place c.requires.3)
+coarsest-p-requires c = let s = c.args.sides.now in let p = plot_member s c.requires.0 in let t = treatment_member s c.requires.1 in
+    (omega (arith, t.place), omega arith, plot_entries s.plot.ordered.most p.room t.room c.requires.2.growing.held.few c.requires.2.table c.args.i c.args.j _ p.place t.place (plot_words s c.args.i))
 
 pub coarsest-q-requires : goal.coarsest-q-requires
-coarsest-q-requires c = let a = c.args in
-    (omega (arith, c.requires.2.place), omega arith, first_cells a.n a.plot.now a.first.now a.store.now a.counts.now a.size a.joins.now c.requires.0.held.most c.requires.2.room c.requires.4.room c.requires.0 c.requires.1 a.f.place a.g.place a.g.finer c.requires.2.place c.requires.4.place c.requires.5)
+coarsest-q-requires c = let s = c.args.sides.now in let p = plot_member s c.requires.0 in let t = treatment_member s c.requires.1 in
+    (omega (arith, p.place), omega arith, first_entries s.plot.ordered.most p.room t.room c.requires.2.growing.held.few c.requires.2.table c.args.i c.args.j _ p.place t.place (treatment_words s c.args.j))
 
-pub returns-then-p-q : goal.returns-then-p-q
-returns-then-p-q c = λ q e. by_plots_lem (goal.at.returns-then-p-q c).After-coarsest-q _ q refl e (by_above (goal.at.returns-then-p-q c).After-coarsest-q _ q c.if-p-q.true e)
+pub returns-then-eq : goal.returns-then-eq
+returns-then-eq c = let s = (goal.at.returns-then-eq c).Start in
+    let same : c.coarsest-p.result ≡ c.coarsest-q.result = search rules in
+    λ q e. by_plots s q (c.coarsest-p.ensures q e) (above s q (c.coarsest-q.ensures q (sym same ∙ e)))
 
-pub fewer-r-requires : goal.fewer-r-requires
-fewer-r-requires c = (most_plots_lem (goal.at.fewer-r-requires c).After-coarsest-q, most_firsts (goal.at.fewer-r-requires c).After-coarsest-q)
+pub fewer-requires-clause-first : goal.fewer-requires-clause-first
+fewer-requires-clause-first c = λ k e. omega (arith, plot_within (goal.at.fewer-requires-clause-first c).Start k (c.coarsest-p.ensures k e), c.requires.2.growing.held.few)
 
-pub under-requires : goal.under-requires
-under-requires c = let w = (goal.at.under-requires c).After-coarsest-q in
-    (c.requires.0.held.some, c.requires.0.held.most, c.requires.2, c.requires.0.held.room, λ q e. either w c.fewer-r.result q c.fewer-r.ensures e)
+pub fewer-requires-clause-second : goal.fewer-requires-clause-second
+fewer-requires-clause-second c = λ k e. omega (arith, first_within (goal.at.fewer-requires-clause-second c).Start k (c.coarsest-q.ensures k e), c.requires.2.growing.held.few)
 
-pub returns-then-under : goal.returns-then-under
-returns-then-under c = λ q e. by_plots_lem (goal.at.returns-then-under c).After-coarsest-q _ q c.if-r-p.true e (c.under.ensures c.if-under.true q e)
+pub bounds-found-place : goal.bounds-found-place
+bounds-found-place c = omega (arith, within (goal.at.bounds-found-place c).In_ok-place, c.requires.2.growing.held.few)
 
-pub returns-then-r-p : goal.returns-then-r-p
-returns-then-r-p c = λ q e. absurd (omega arith)
+pub found_finer-is_finer-requires : goal.found_finer-is_finer-requires
+found_finer-is_finer-requires c = let w = (goal.at.found_finer-is_finer-requires c).In_ok-place in
+    let s = c.args.sides.now in
+    let p = plot_member s c.requires.0 in
+    order_asked c.member.ensures c.member-supremum.ensures (length_plot s c.requires.0 c.requires.1) (length_there w) s.plot.ordered.some s.plot.ordered.most p.count (c.requires.2.growing.held.counted _ (within w))
 
-pub under-requires-2 : goal.under-requires-2
-under-requires-2 c = let w = (goal.at.under-requires-2 c).After-coarsest-q in
-    (c.requires.0.held.some, c.requires.0.held.most, c.requires.4, c.requires.0.held.room, λ q e. either w c.fewer-r.result q c.fewer-r.ensures e)
-
-pub returns-then-under-2 : goal.returns-then-under-2
-returns-then-under-2 c = let k : c.fewer-r.result ≡ c.coarsest-q.result = ⊎_elim (λ h. absurd (c.if-r-p.false h)) (λ h. h) c.fewer-r.ensures in
-    λ q e. by_firsts (goal.at.returns-then-under-2 c).After-coarsest-q _ q k e (c.under-2.ensures c.if-under-2.true q e)
+pub found_finer-is_finer-requires-else-eq-2 : goal.found_finer-is_finer-requires-else-eq-2
+found_finer-is_finer-requires-else-eq-2 c = let w = (goal.at.found_finer-is_finer-requires-else-eq-2 c).In_ok-place in
+    let s = c.args.sides.now in
+    let t = treatment_member s c.requires.1 in
+    order_asked c.member-else-eq-2.ensures c.member-supremum.ensures (length_treatment s c.requires.0 c.requires.1) (length_there w) s.plot.ordered.some s.plot.ordered.most t.count (c.requires.2.growing.held.counted _ (within w))
 
 pub returns : goal.returns
-returns c = λ q e. absurd (omega arith)
+returns c = let w = (goal.at.returns c).In_ok-place in
+    let start = (goal.at.returns c).Start in
+    let s = c.args.sides.now in
+    let place = c.in_ok-place.place in
+    λ q e.
+    let told : (c.if-eq-2.is_finer ≡ true) × (place ≡ q) = search rules in
+    subst (Joined start) told.1 (elim c.if-eq-2.branch [
+      | then-eq-2 b ↦
+          let same : c.coarsest-p.result ≡ Some place = search rules in
+          by_plots start place (c.coarsest-p.ensures place same) (finer_lent _ _ _ _ _ b.member.ensures c.member-supremum.ensures (length_plot s c.requires.0 c.requires.1) (b.found_finer-is_finer.ensures (sym b.is_finer-is ∙ told.0)))
+      | else-eq-2 b ↦
+          let other : c.coarsest-q.result ≡ Some place = ⊎_elim (λ h. absurd (search rules)) (λ h. h) (either w) in
+          by_firsts start place (c.coarsest-q.ensures place other) (finer_lent _ _ _ _ _ b.member-else-eq-2.ensures c.member-supremum.ensures (length_treatment s c.requires.0 c.requires.1) (b.found_finer-is_finer-else-eq-2.ensures (sym b.is_finer-is ∙ told.0)))
+    ])

@@ -12,6 +12,7 @@ use Rattle.rules.specs.Factor.{classes}
 use Rattle.design.specs.State.{column_at}
 use Rattle.factor.specs.Labels.{largest}
 use Rattle.factor.proofs.LargestLabel.{largest_classes}
+use Rattle.design.proofs.FinerWords.{counted_members}
 use Rattle.design.proofs.nesting.class_counts.Goals as goal
 use Rattle.design.proofs.nesting.class_counts.Goals.{After-largest}
 
@@ -52,4 +53,4 @@ pub returns : goal.returns
 returns c =
     let s = c.args in
     let e : c.loop-i.i ≡ s.size = omega arith in
-    λ p h. c.loop-i.invariant.2 p (omega arith)
+    counted_members s.n s.family.now c.loop-i.counts s.size c.requires.1 (λ p h. c.loop-i.invariant.2 p (omega arith))

@@ -39,7 +39,7 @@ judge_treatments-requires c =
     let f = (goal.at.judge_treatments-requires c).After-first_family-closed in
     let numbered = first_numbered c.args.n c.args.k (columns f) (on f) c.args.treatment_family.now (after f) (marks f) (order f) f.first_family-closed.result.size c.requires.1 c.requires.8 f.first_family-closed.ensures in
     let tells = first_tells c.args.n c.args.k (columns f) (on f) c.args.treatment_family.now (after f) (marks f) (order f) f.first_family-closed.result.size c.requires.1 c.requires.8 f.first_family-closed.ensures in
-    (c.requires.0, c.requires.1, c.requires.6, λ d. (numbered d, tells d), search rules)
+    (c.requires.0, c.requires.1, c.requires.6, λ d. (numbered d, tells d))
 
 pub returns : goal.returns
 returns c =

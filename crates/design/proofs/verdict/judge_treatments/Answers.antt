@@ -37,7 +37,6 @@ from_12-requires c =
       w.0,
       ap (λ (q : found.Places). q.first) c.first_apart-pair.ensures ∙ w.1.first,
       ap (λ (q : found.Places). q.second) c.first_apart-pair.ensures ∙ w.1.second,
-      c.requires.4,
     )
 
 pub returns : goal.returns
