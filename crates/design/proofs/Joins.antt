@@ -26,7 +26,6 @@ use Rattle.design.specs.State.{column_at, Held, PlacedMember, full, old, new, gr
 use Rattle.design.specs.Treatments.{orthogonal_at}
 use Rattle.design.specs.Crossing.{FinerBits, Placing, exceeded, begun, Growing, Grown, Adds, Stands, Join, entry_at, Joins, Tested, Chosen}
 use Rattle.factor.proofs.Lent.{length_part}
-use Rattle.design.proofs.Choosing.{zero_at}
 use Rattle.design.proofs.Placing.{place_in, placed_full, placed_old, grown_old}
 use Rattle.design.proofs.Suprema.{insert_all_more, begun_placed, over_placed, placing_over, placing_begun}
 use Rattle.design.proofs.Work.{member_column, size_members, Stood, stood, column_kept}

@@ -5,9 +5,8 @@ use mathlib.Core.Bool.{true, false}
 use mathlib.Core.List.{List, [], ◌∷◌, ◌++◌}
 use Rattle.std.proofs.Common.{Option, None, Result}
 use Prim.Native.Nat.{ℕ, ◌*◌, ◌+◌, ◌≤◌, ◌<◌}
-use native.Mathlib.Omega.{arith}
 use lib.ListN.{length, get_or, set, replicate}
-use Rattle.rules.specs.Factor.{Column, number, classes, supremum}
+use Rattle.rules.specs.Factor.{Column, number, classes}
 use Rattle.rules.proofs.Supremum.{length_supremum, number_supremum}
 use Rattle.factor.proofs.Lent.{length_part}
 use Rattle.rules.proofs.Members.{clash}

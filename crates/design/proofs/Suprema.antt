@@ -5,10 +5,10 @@ use mathlib.Core.Logic.{◌⊎◌, inl, inr}
 use mathlib.Core.Bool.{Bool, true, false}
 use mathlib.Core.List.Memᴰ
 use mathlib.Core.List.{List, [], ◌∷◌, ◌++◌}
-use Prim.Native.Nat.{ℕ, suc, ◌+◌, ◌*◌, ◌-◌, ◌≤◌, ◌<◌}
+use Prim.Native.Nat.{ℕ, suc, ◌+◌, ◌*◌, ◌≤◌, ◌<◌}
 use native.Mathlib.Omega.{arith}
 use lib.Dec.{eqb}
-use lib.ListN.{length, get_or, take, drop, length-append}
+use lib.ListN.{length, get_or, take, length-append}
 use lib.Seq.{take_at}
 use borrow.Author.Tests.{eqb-true}
 use Rattle.rules.specs.Factor.{Column, number, classes, supremum, finer, orthogonal}
@@ -19,10 +19,10 @@ use Rattle.rules.proofs.Buffer.{length_members}
 use Rattle.rules.proofs.ClassCount.{classes_most}
 use Rattle.rules.proofs.Closing.{pigeonhole, ascending_distinct}
 use Rattle.rules.proofs.Members.{clash, insert_all_has, insert_all_only, ascending_insert_all, ascending_unique}
-use Rattle.rules.proofs.Supremum.{length_supremum, number_supremum}
+use Rattle.rules.proofs.Supremum.{length_supremum}
 use Rattle.rules.proofs.WorkList.{member_in, distinct_more, length_sorted}
 use Rattle.factor.specs.Lent.{on_common, overlay}
-use Rattle.factor.proofs.Lent.{common_all, part_of, length_part}
+use Rattle.factor.proofs.Lent.{common_all, length_part}
 use Rattle.design.specs.State.{column_at, Held, PlacedMember, full, old, new, grown_to, Begun, Sorted}
 use Rattle.design.specs.Treatments.{known_finer, Member}
 use Rattle.design.specs.Crossing.{Placing, exceeded, begun}

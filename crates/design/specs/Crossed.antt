@@ -1,6 +1,6 @@
 -- What crossing plot with treatment members answers.
 -- Assumes nothing.
-use Rattle.std.specs.Prelude.{◌≡◌, Bool, false, List, [], ℕ, Result, Ok, Err, ◌<◌, length}
+use Rattle.std.specs.Prelude.{◌≡◌, List, [], ℕ, Result, Ok, Err, ◌<◌, length}
 use Rattle.rules.specs.Limits.{most_members}
 use Rattle.rules.specs.Factor.{Column}
 use Rattle.rules.specs.Family.{members_of, insert_all}

@@ -1,11 +1,11 @@
 -- The plot and the treatment members of a design, as they are crossed.
 -- Assumes nothing.
-use Rattle.std.specs.Prelude.{◌≡◌, Bool, true, List, ℕ, Option, ◌<◌}
+use Rattle.std.specs.Prelude.{Bool, List, ℕ, Option}
 use Rattle.rules.specs.Factor.{Column, supremum}
 use Rattle.rules.specs.Family.{Family, members_of}
 use Rattle.design.specs.State.{column_at}
 use Rattle.design.specs.Treatments.{orthogonal_at}
-use Rattle.design.specs.Crossing.{Growing, Placing, Joins, Join, Tested}
+use Rattle.design.specs.Crossing.{Growing, Placing, Joins, Tested}
 use Rattle.design.specs.declared.nesting.Members.{Members}
 use Rattle.design.specs.declared.nesting.Sides.{Sides}
 use Rattle.design.specs.declared.crossing.Suprema.{Suprema}

@@ -3,7 +3,7 @@
 use Rattle.std.specs.Prelude.{◌≡◌, Bool, true, false, ◌||◌, List, [], ◌∷◌, ◌++◌, map, ℕ, zero, suc, ◌*◌, ◌≤◌, ◌<◌, eqb, ltb, length, get_or}
 use Rattle.rules.specs.Limits.{most_plots, most_members, family_bytes}
 use Rattle.rules.specs.Factor.{Column, number, classes, infimum, orthogonal}
-use Rattle.rules.specs.Family.{members_of, insert_all}
+use Rattle.rules.specs.Family.{members_of}
 use Rattle.rules.specs.Closing.{only_supremum, too_many, close, infimum_all}
 use Rattle.design.specs.State.{column_at, Begun}
 

@@ -4,7 +4,6 @@ use mathlib.Core.List.{List}
 use Prim.Native.Nat.{ℕ}
 use native.Mathlib.Omega.{arith}
 use lib.ListN.{length}
-use borrow.Author.Rules.{rules}
 use Rattle.rules.specs.Factor.{Column}
 use Rattle.rules.specs.Family.{◌∈◌, columns_from, members_of}
 use Rattle.rules.specs.Closing.{Closing}
