@@ -1,7 +1,7 @@
 -- Laws of a member with one class, or with a class for each plot, in the order of members.
 -- Assumes nothing.
 use mathlib.Core.Path.{◌≡◌, sym, ap, ap₂, ◌∙◌}
-use mathlib.Core.Bool.{true}
+use mathlib.Core.Bool.{true, false}
 use mathlib.Core.List.{List}
 use Prim.Native.Nat.{ℕ, ◌<◌, ◌≤◌}
 use native.Mathlib.Omega.{arith}
@@ -18,6 +18,9 @@ use Rattle.families.specs.Lent.{column_at}
 use Rattle.families.proofs.Lent.{length_column}
 use Rattle.strata.specs.Lent.{Formed}
 use Rattle.strata.specs.Words.{Apart}
+use Rattle.strata.specs.Family.{column, IsCounted}
+use Rattle.strata.specs.declared.family.Family.{Family}
+use Rattle.strata.specs.declared.family.Counted.{Counted}
 use Rattle.strata.proofs.Lent.{accepted_members, size_members, on_plots_lem}
 
 module _ (n : ℕ) (F G : Column) where
@@ -59,3 +62,23 @@ members_apart {n} {b} {size} is i h j l e = by_cases (finer n F G) (λ f. absurd
 -- there is one
 pub some_members : {n : ℕ} {b : List ℕ} {size : ℕ} → Formed n b size → 1 ≤ size
 some_members is = omega (arith, (accepted_members is).some, size_members is)
+
+-- ---- the same of members that are counted
+
+module _ (f : Family) where
+  -- a member's labels
+  pub on_plots_of : (i : ℕ) → i < f.size → length (column f i) ≡ f.plots
+  on_plots_of i h = let few : f.size ≤ 32 = f.formed.few in length_column f.plots i f.bytes.now f.formed.few_plots (omega arith) f.formed.long
+
+  module _ (m : Counted) (is : IsCounted f m) where
+    -- a class for each plot
+    pub counted_each : (F : Column) → m.classes ≡ f.plots → finer f.plots (column f m.place) F ≡ true
+    counted_each F e = each_finer f.plots (column f m.place) F (on_plots_of m.place is.within) (sym is.counted ∙ e)
+
+    -- one class
+    pub counted_one : (F : Column) → m.classes ≡ 1 → finer f.plots F (column f m.place) ≡ true
+    counted_one F e = one_coarser f.plots F (column f m.place) (on_plots_of m.place is.within) (sym is.counted ∙ e)
+
+    -- as many classes as another before it
+    pub counted_apart : (b : Counted) → IsCounted f b → b.place < m.place → m.classes ≡ b.classes → finer f.plots (column f m.place) (column f b.place) ≡ false
+    counted_apart b at l e = members_apart f.formed m.place is.within b.place l (sym is.counted ∙ e ∙ at.counted)

@@ -3,8 +3,8 @@
 use mathlib.Core.Path.{◌≡◌, sym, ap, ◌∙◌}
 use mathlib.Core.List.{List}
 use Prim.Native.Nat.{ℕ, ◌+◌, ◌≤◌, ◌<◌}
-use lib.ListN.{get_or, set, take, replicate}
-use lib.Seq.{get_or-take}
+use lib.ListN.{length, get_or, set, take, replicate}
+use lib.Seq.{get_or-take, ext_get_or}
 use Rattle.rules.specs.Lists.{tabulate, for_places}
 use Rattle.rules.proofs.Lists.{length_tabulate, get_d_tabulate}
 use Rattle.rules.proofs.Places.{at_places_lem, tabulate_ext, places_start, places_step, places_end}
@@ -35,3 +35,8 @@ module _ {A : Type 0} (z : A) (f : ℕ → A) where
   pub up_all : (i : ℕ) → 32 ≤ i → up_to 32 i ≡ tabulate f 32
   unfolding for_places
   up_all i h = up_end 32 i h ∙ tabulate_ext (λ k. get_or (tabulate f 32) k z) f 32 (λ k l. get_d_tabulate f 32 k z l)
+
+-- an array that is known place by place
+pub tabulated : {A : Type 0} (f : ℕ → A) (xs : List A) (n : ℕ) (z : A) → length xs ≡ n → ((k : ℕ) → k < n → get_or xs k z ≡ f k) → xs ≡ tabulate f n
+tabulated f xs n z l h =
+    ext_get_or z xs (tabulate f n) (l ∙ sym (length_tabulate f n)) (λ k m. let i : k < n = rw l at m in h k i ∙ sym (get_d_tabulate f n k z i))

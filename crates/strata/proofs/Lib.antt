@@ -1,4 +1,5 @@
 pub mod Lent
+pub mod Slices
 pub mod Extreme
 pub mod Fill
 pub mod RelationWords
@@ -7,3 +8,4 @@ pub mod Sums
 pub mod DegreeTurns
 pub mod StratumLaws
 pub mod Implied
+pub mod Pairs

@@ -24,7 +24,8 @@ use Rattle.strata.specs.declared.stratum.Analysis.{Analysis}
 use Rattle.strata.proofs.Lent.{formed_of, by_refusal, none_refused}
 use Rattle.refusal.specs.declared.Refusal.{Refusal}
 use Rattle.refusal.specs.Numbers.{number_of}
-use Rattle.std.proofs.Common.{Some, None, Result, Ok, Err}
+use Rattle.std.proofs.Common.{Option, Some, None, Result, Ok, Err}
+use Rattle.std.specs.Option.{ok_or}
 
 module _ (n : ℕ) (b : List ℕ) (size : ℕ) where
   -- what is answered as the relation compares
@@ -135,3 +136,12 @@ module _ (n : ℕ) (b : List ℕ) (size : ℕ) (r : List ℕ) (tsize : ℕ) wher
       → analysis_in a ≡ analysis_from question16 n b size r tsize → analysis_in a ≡ strata_analysis n b size r tsize
   strata_yes a w v f g e =
       e ∙ ap (with_degrees n (members_of n b size) (members_of n r tsize)) (sym (strata_15_on n b size r tsize w v (formed_of n b size f).formed (formed_of n r tsize g).formed))
+
+-- what `ok_or` made of an `Option`
+pub asked_none : {A E : Type 0} (o : Option A) (e q : E) → ◌≡◌ {A = Result A E} (Err q) (ok_or o e) → (o ≡ None) × (q ≡ e)
+asked_none None e q h = (refl, cc)
+asked_none (Some x) e q h = absurd cc
+
+pub asked_some : {A E : Type 0} (o : Option A) (e : E) (x : A) → ◌≡◌ {A = Result A E} (Ok x) (ok_or o e) → o ≡ Some x
+asked_some None e x h = absurd cc
+asked_some (Some y) e x h = cc

@@ -9,8 +9,8 @@ use native.Mathlib.Numerals.{add-one, one-add}
 use native.Mathlib.Omega.{arith}
 use lib.Dec.{eqb}
 use lib.IntN.{ℤ, pos, ◌-ℤ◌}
-use lib.ListN.{length, get_or}
-use lib.Seq.{ext_get_or}
+use lib.ListN.{length, get_or, take}
+use lib.Seq.{ext_get_or, get_or-take}
 use mir.Syntax.{w64}
 use mir.Val.{SFits}
 use Rattle.rules.specs.Factor.{Column, every, finer}
@@ -24,7 +24,7 @@ use Rattle.rules.proofs.Members.{clash}
 use Rattle.rules.proofs.Tests.{every_at, every_all}
 use Rattle.rules.proofs.Buffer.{length_members, member_is}
 use Rattle.rules.proofs.Lists.{length_tabulate, get_d_tabulate}
-use Rattle.rules.proofs.Places.{at_places_lem}
+use Rattle.rules.proofs.Places.{at_places_lem, tabulate_ext}
 use Rattle.rules.proofs.Words.{word_ext, bit_word}
 use Rattle.rules.proofs.Bits.{every_ext, every_suc}
 use Rattle.rules.proofs.WellFormed.{Accepted}
@@ -33,8 +33,11 @@ use Rattle.rules.proofs.DegreesLaws.{length_degrees}
 use Rattle.rules.proofs.Totals.{length_residuals, residual_at_lem}
 use Rattle.families.specs.Lent.{column_at}
 use Rattle.strata.specs.Lent.{Formed}
-use Rattle.strata.specs.Words.{candidate_word, below, coarsest, first_passing}
-use Rattle.strata.specs.Sums.{AllSmall, sum_passing, residual_at}
+use Rattle.strata.specs.Words.{candidate_word, below, coarsest, first_passing, numbered}
+use Rattle.std.proofs.Common.{Option, Some, None}
+use Rattle.std.specs.Option.{MatchOption}
+use Rattle.strata.specs.Sums.{AllSmall, sum_passing, residual_at, residuals_of}
+use Rattle.strata.proofs.Slices.{taken_length}
 use Rattle.strata.proofs.Lent.{accepted_members, size_members, on_plots_lem}
 use Rattle.strata.proofs.RelationWords.{words_of, bit_at_lem}
 use Rattle.strata.proofs.Sums.{pass_ext, sum_at_is, left_fits}
@@ -98,6 +101,12 @@ module _ (n : ℕ) (P : Family) (is : Accepted P) (on : (i : ℕ) → i < length
       w : ℕ
       w = word_of (λ p. finer n (get_or P p []) T) (length P)
 
+-- words that agree
+pub coarsest_ext : (vs ws : List ℕ) (size among : ℕ) → ((q : ℕ) → q < size → get_or vs q 0 ≡ get_or ws q 0) → (p : ℕ) → coarsest vs size among p ≡ coarsest ws size among p
+unfolding coarsest
+coarsest_ext vs ws size among h p =
+    ap (λ (x : Bool). bit_at among p && x) (every_ext (λ q. below (get_or vs q 0) among p q) (λ q. below (get_or ws q 0) among p q) size (λ q l. ap (λ (v : ℕ). below v among p q) (h q l)))
+
 -- ---- the first that passes
 
 module _ (t : ℕ → Bool) (i k : ℕ) where
@@ -133,6 +142,32 @@ passing_ext s t i (suc k) h =
     by_cases (t i)
     (λ q. passing_yes s i k (e ∙ q) ∙ sym (passing_yes t i k q))
     (λ q. passing_no s i k (e ∙ q) ∙ passing_ext s t (suc i) k (λ j l. let m : i + suc j ≡ suc i + j = omega arith in rw m at (h (suc j) (omega arith))) ∙ sym (passing_no t i k q))
+
+-- it is one of those tried
+pub passing_le : (t : ℕ → Bool) (i k : ℕ) → first_passing t i k ≤ i + k
+unfolding first_passing
+passing_le t i zero = omega arith
+passing_le t i (suc k) = by_cases (t i) (λ e. rw (passing_yes t i k e) (omega arith)) (λ e. rw (passing_no t i k e) (omega (arith, passing_le t (suc i) k)))
+
+-- the first number that passes, found by its neighbours
+first_here : (t : ℕ → Bool) (i k n : ℕ) → ((j : ℕ) → i ≤ j → j < i + k → t j ≡ false) → t (i + k) ≡ true → k < n → first_passing t i n ≡ suc (i + k)
+first_here t i k zero h e l = absurd (not-suc-le-zero l)
+first_here t i zero (suc n) h e l = let z : i + 0 ≡ i = omega arith in rw z (passing_yes t i n (rw z at e))
+first_here t i (suc k) (suc n) h e l =
+    let m : i + suc k ≡ suc i + k = omega arith in
+    passing_no t i n (h i (omega arith) (omega arith)) ∙ rw m (first_here t (suc i) k n (λ j a b. h j (omega arith) (omega arith)) (rw m at e) (omega arith))
+
+none_here : (t : ℕ → Bool) (i n : ℕ) → ((j : ℕ) → i ≤ j → j < i + n → t j ≡ false) → first_passing t i n ≡ 0
+unfolding first_passing
+none_here t i zero h = refl
+none_here t i (suc n) h = passing_no t i n (h i (omega arith) (omega arith)) ∙ none_here t (suc i) n (λ j a b. h j (omega arith) (omega arith))
+
+pub first_is : (t : ℕ → Bool) (n : ℕ) (r : Option ℕ)
+    → MatchOption r ((k : ℕ) → 0 ≤ k → k < n → t k ≡ false) (λ i. (0 ≤ i) × (i < n) × (t i ≡ true) × ((k : ℕ) → 0 ≤ k → k < i → t k ≡ false)) → numbered r ≡ first_passing t 0 n
+first_is t n None h = sym (none_here t 0 n (λ j a b. h j a (omega arith)))
+first_is t n (Some i) h =
+    let z : 0 + i ≡ i = zero-add i in
+    sym (first_here t 0 i n (λ j a b. h.3 j a (omega arith)) (rw z h.2) h.1 ∙ ap suc z)
 
 module _ (q : Column → Bool) where
   failing_yes : (i : ℕ) (F : Column) (S : Family) → q F ≡ true → first_failing (λ G. not (q G)) i (F ∷ S) ≡ i
@@ -235,3 +270,14 @@ module _ (own numbers : List ℤ) (places : List ℕ) (m p : ℕ) where
   pub residual_fits : m ≤ 32 → AllSmall own → AllSmall numbers → SFits w64 (residual_at own numbers places m p)
   unfolding residual_at
   residual_fits h ho hn = left_fits (get_or own p (pos 0)) (λ t. eqb (get_or places t 0) (suc p)) (λ t. get_or numbers t (pos 0)) m h (ho p) hn
+
+-- the first numbers alone
+module _ (own numbers : List ℤ) (places : List ℕ) (p m : ℕ) (hp : p ≤ length own) (hm : m ≤ length places) where
+  pub residuals_taken : residuals_of (take p own) (take m numbers) (take m places) ≡ for_places (pos 0) (tabulate (residual_at own numbers places m) p)
+  unfolding residual_at
+  residuals_taken =
+      ap₂ (λ (k l : ℕ). for_places (pos 0) (tabulate (residual_at (take p own) (take m numbers) (take m places) k) l)) (taken_length places m hm) (taken_length own p hp)
+      ∙ ap (for_places (pos 0)) (tabulate_ext (residual_at (take p own) (take m numbers) (take m places) m) (residual_at own numbers places m) p
+      (λ k l. ap₂ ◌-ℤ◌ (get_or-take p own k (pos 0) l)
+      (pass_ext (λ t. eqb (get_or (take m places) t 0) (suc k)) (λ t. eqb (get_or places t 0) (suc k)) (λ t. get_or (take m numbers) t (pos 0)) (λ t. get_or numbers t (pos 0)) m
+      (λ t h. ap (λ (x : ℕ). eqb x (suc k)) (get_or-take m places t 0 h)) (λ t h. get_or-take m numbers t (pos 0) h))))

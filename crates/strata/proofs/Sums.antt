@@ -47,6 +47,10 @@ pass_ext s t d e (suc m) h k =
     (λ q. pass_yes s d m (h m (omega arith) ∙ q) ∙ ap₂ ◌+ℤ◌ (pass_ext s t d e m (λ j l. h j (omega arith)) (λ j l. k j (omega arith))) (k m (omega arith)) ∙ sym (pass_yes t e m q))
     (λ q. pass_no s d m (h m (omega arith) ∙ q) ∙ pass_ext s t d e m (λ j l. h j (omega arith)) (λ j l. k j (omega arith)) ∙ sym (pass_no t e m q))
 
+-- the first numbers alone
+pub sum_taken : (t : ℕ → Bool) (ds : List ℤ) (m : ℕ) → sum_passing t (λ j. get_or (take m ds) j (pos 0)) m ≡ sum_passing t (λ j. get_or ds j (pos 0)) m
+sum_taken t ds m = pass_ext t t (λ j. get_or (take m ds) j (pos 0)) (λ j. get_or ds j (pos 0)) m (λ j l. refl) (λ j l. get_or-take m ds j (pos 0) l)
+
 -- no place from m on passes
 pub pass_more : (t : ℕ → Bool) (d : ℕ → ℤ) (m n : ℕ) → m ≤ n → ((j : ℕ) → m ≤ j → j < n → t j ≡ false) → sum_passing t d m ≡ sum_passing t d n
 pass_more t d m zero h f = let e : m ≡ 0 = omega arith in rw e

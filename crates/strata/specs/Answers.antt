@@ -1,12 +1,12 @@
 -- What the entries answer, read as the answers of the rules.
 -- Assumes nothing.
-use Rattle.std.specs.Prelude.{◌≡◌, Bool, true, false, List, [], map, ℕ, eqb, ℤ, pos, Result, Ok, Err}
+use Rattle.std.specs.Prelude.{◌≡◌, true, false, List, [], ℕ, eqb, ℤ, pos, Result, Ok, Err}
 use Rattle.rules.specs.Family.{Family, members_of}
 use Rattle.rules.specs.Lists.{for_places}
 use Rattle.rules.specs.Relation.{RelationAnswer, relation_refused}
 use Rattle.rules.specs.Comparison.{BitsCompared}
 use Rattle.rules.specs.Degrees.{DegreesAnswer, degrees, degrees_refused}
-use Rattle.rules.specs.Strata.{StrataAnswer, stratum, all_have_stratum, strata, strata_refused}
+use Rattle.rules.specs.Strata.{StrataAnswer, strata, strata_refused}
 use Rattle.refusal.specs.declared.Refusal.{Refusal}
 use Rattle.refusal.specs.Numbers.{number_of}
 use Rattle.strata.specs.declared.order.Relation.{Relation}
@@ -58,13 +58,6 @@ analysis_of n plots plot_size treatments treatment_size a = with_degrees n (memb
 abbrev pub analysis_from : (ℕ → Family → Family → StrataAnswer) → ℕ → List ℕ → ℕ → List ℕ → ℕ → AnalysisAnswer
 analysis_from question n plots plot_size treatments treatment_size =
     analysis_of n plots plot_size treatments treatment_size (question n (members_of n plots plot_size) (members_of n treatments treatment_size))
-
--- the places of the strata of a treatment family in a plot family, by places; and whether each member has one
-abbrev pub strata_places : ℕ → List ℕ → ℕ → List ℕ → ℕ → List ℕ
-strata_places n plots plot_size treatments treatment_size = for_places 0 (map (stratum n (members_of n plots plot_size)) (members_of n treatments treatment_size))
-
-abbrev pub all_placed : ℕ → List ℕ → ℕ → List ℕ → ℕ → Bool
-all_placed n plots plot_size treatments treatment_size = all_have_stratum n (members_of n plots plot_size) (members_of n treatments treatment_size)
 
 -- strata of the families that two buffers lend, with the degrees of freedom
 abbrev pub strata_analysis : ℕ → List ℕ → ℕ → List ℕ → ℕ → AnalysisAnswer

@@ -1,6 +1,6 @@
 -- Signed sums over places, counted from 0.
 -- Assumes nothing.
-use Rattle.std.specs.Prelude.{Bool, true, false, List, ℕ, zero, suc, ◌≤◌, eqb, ℤ, pos, ◌+ℤ◌, ◌-ℤ◌, nat_abs, get_or}
+use Rattle.std.specs.Prelude.{◌≡◌, Bool, true, false, List, ℕ, zero, suc, ◌≤◌, eqb, ℤ, pos, ◌+ℤ◌, ◌-ℤ◌, nat_abs, length, get_or}
 use Rattle.rules.specs.Limits.{most_members}
 use Rattle.rules.specs.Lists.{tabulate, for_places}
 
@@ -21,10 +21,11 @@ unfoldable pub residual_at : List ℤ → List ℤ → List ℕ → ℕ → ℕ 
 unfolding sum_passing
 residual_at own numbers places m p = get_or own p (pos 0) -ℤ sum_passing (λ t. eqb (get_or places t 0) (suc p)) (λ t. get_or numbers t (pos 0)) m
 
--- what is left to each of the first k places, by places
-abbrev pub residuals_of : List ℤ → List ℤ → List ℕ → ℕ → ℕ → List ℤ
-residuals_of own numbers places m k = for_places (pos 0) (tabulate (residual_at own numbers places m) k)
+-- what is left to each place that has a number of its own, by places
+abbrev pub residuals_of : List ℤ → List ℤ → List ℕ → List ℤ
+residuals_of own numbers places = for_places (pos 0) (tabulate (residual_at own numbers places (length places)) (length own))
 
--- small numbers of plot and treatment members
-abbrev pub Unsubtracted : ℕ → ℕ → List ℤ → List ℤ → Type 0
-Unsubtracted k m own numbers = (k ≤ most_members) × (m ≤ most_members) × AllSmall own × AllSmall numbers
+-- small numbers of plot members, small numbers of treatment members, and as many places
+abbrev pub Unsubtracted : List ℤ → List ℤ → List ℕ → Type 0
+Unsubtracted own numbers places =
+    (length own ≤ most_members) × (length places ≤ most_members) × (length numbers ≡ length places) × AllSmall own × AllSmall numbers

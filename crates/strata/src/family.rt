@@ -1,12 +1,7 @@
 // Families that question 15 accepts, in lent memory. Members are counted from 0.
-ghost use Rattle.std.specs.Prelude.{◌≡◌, ◌≤◌, ◌<◌, true, false, None, Some, length, IfOk, IfErr};
-ghost use Rattle.rules.specs.Limits.{most_plots, most_members, family_bytes};
-ghost use Rattle.rules.specs.Factor.{number, classes, finer};
-ghost use Rattle.families.specs.Lent.{column_at, formed_in};
-ghost use Rattle.strata.specs.Lent.{Formed, family_refusal};
+ghost use Rattle.std.specs.Prelude.{◌≡◌};
+ghost use Rattle.strata.specs.Lent.{Formed};
 
-use factor::largest;
-use families::member;
 use refusal::Refusal;
 
 // 1 to 32 members in the numbering and order of the rules, no two alike, in a buffer that is long enough.
@@ -18,7 +13,28 @@ pub struct Family<'a> {
     ghost formed: { Formed plots bytes.now size },
 }
 
+// A plot family and a treatment family, on the same plots.
+#[derive(Clone, Copy)]
+pub struct Pair<'a> {
+    pub plot: Family<'a>,
+    pub treatment: Family<'a>,
+    ghost same_plots: { treatment.plots ≡ plot.plots },
+}
+
+// A member, by its place, with its number of classes.
+#[derive(Clone, Copy)]
+pub struct Counted {
+    pub place: usize,
+    pub classes: usize,
+}
+
 impl<'a> Family<'a> {
+    ghost use Rattle.std.specs.Prelude.{◌≡◌, ◌<◌, true, false, None, Some, IfOk, IfErr};
+    ghost use Rattle.rules.specs.Factor.{finer};
+    ghost use Rattle.families.specs.Lent.{formed_in};
+    ghost use Rattle.strata.specs.Lent.{family_refusal};
+    ghost use Rattle.strata.specs.Family.{column, IsCounted};
+
     // The family that a buffer lends, once 15 says yes.
     pub fn new(bytes: &'a [u8], plots: usize, size: usize) -> Result<Self, Refusal>
         ensures ok { IfOk result (λ f. (f.bytes.now ≡ bytes.now) × (f.plots ≡ plots) × (f.size ≡ size) × (formed_in plots bytes.now size ≡ true)) }
@@ -40,21 +56,31 @@ impl<'a> Family<'a> {
         }
         Family::new(bytes, plots, size)
     }
-}
 
-// Whether member `i` of `f` is finer than or equivalent to member `j` of `g`.
-pub fn member_finer(f: &[u8], i: usize, g: &[u8], j: usize, n: usize) -> bool
-    requires { (n ≤ most_plots) × (family_bytes ≤ length f.now) × (family_bytes ≤ length g.now) × (i < most_members) × (j < most_members) }
-    ensures { result ≡ finer n (column_at n f.now i) (column_at n g.now j) }
-{
-    factor::finer(member(f, i, n), member(g, j, n))
-}
+    // The labels of member `i`.
+    fn member(&self, i: usize) -> &'a [u8]
+        ensures { result.now ≡ column self.now i }
+    {
+        families::member(self.bytes, i, self.plots)
+    }
 
-// How many classes a numbered member has: its largest number.
-pub fn member_classes(family: &[u8], i: usize, n: usize) -> usize
-    requires { (n ≤ most_plots) × (family_bytes ≤ length family.now) × (i < most_members) × (number (column_at n family.now i) ≡ column_at n family.now i) }
-    ensures { result ≡ classes (column_at n family.now i) }
-{
-    let k = largest(member(family, i, n));
-    k as usize
+    // Member `i` with its number of classes, which is its largest number.
+    pub fn counted(&self, i: usize) -> Counted
+        requires { i < self.now.size }
+        ensures member { IsCounted self.now result }
+        ensures place { result.place ≡ i }
+    {
+        Counted {
+            place: i,
+            classes: usize::from(factor::largest(self.member(i))),
+        }
+    }
+
+    // Whether member `i` is finer than or equivalent to member `j` of another family on the same plots.
+    pub fn finer(&self, i: usize, other: &Family<'a>, j: usize) -> bool
+        requires { (i < self.now.size) × (j < other.now.size) × (self.now.plots ≡ other.now.plots) }
+        ensures { result ≡ finer self.now.plots (column self.now i) (column other.now j) }
+    {
+        factor::finer(self.member(i), other.member(j))
+    }
 }

@@ -7,7 +7,7 @@ ghost use Rattle.rules.specs.Degrees.{degrees_of_freedom};
 ghost use Rattle.rules.specs.Strata.{strata};
 ghost use Rattle.strata.specs.Answers.{relation_in, RelationCompared, degrees_in, strata_in, analysis_in, strata_analysis};
 
-use family::Family;
+use family::{Family, Pair};
 use limits::MEMBERS;
 pub use order::Relation;
 use refusal::Refusal;
@@ -24,7 +24,7 @@ pub fn relation(family: &[u8], plots: usize, size: usize) -> Result<Relation, Re
     ensures compared { RelationCompared plots family.now size (relation_in result) }
 {
     let family = Family::accepted(family, plots, size)?;
-    Ok(order::report(family.bytes, family.plots, family.size))
+    Ok(order::of_family(&family))
 }
 
 // The degrees of freedom of each member of a family, closed or not. All 0 past the size.
@@ -36,7 +36,7 @@ pub fn degrees_of_freedom(
     ensures { degrees_in result ≡ degrees_of_freedom plots family.now size }
 {
     let family = Family::accepted(family, plots, size)?;
-    Ok(degrees::of_family(family.bytes, family.plots, family.size))
+    Ok(degrees::of_family(&family))
 }
 
 // The strata of a treatment family in a plot family, and the residuals.
@@ -76,11 +76,5 @@ pub fn analysis(
     }
     let plot = Family::new(plot_family, plots, plot_size)?;
     let treatment = Family::new(treatment_family, plots, treatment_size)?;
-    stratum::from_16(
-        plot.bytes,
-        plot.size,
-        treatment.bytes,
-        treatment.size,
-        plots,
-    )
+    stratum::from_16(&Pair { plot, treatment })
 }

@@ -1,18 +1,18 @@
 // Strata and residuals. Places are counted from 0 inside, from 1 in the answers.
-ghost use Rattle.std.specs.Prelude.{◌≡◌, not, ◌≤◌, ◌<◌, eqb, get_or};
+ghost use Rattle.std.specs.Prelude.{◌≡◌, ◌≤◌, ◌<◌, true, false, eqb, get_or, length, IfSome, MatchOption};
 ghost use Rattle.rules.specs.Limits.{most_members};
-ghost use Rattle.rules.specs.Factor.{every, classes, finer};
+ghost use Rattle.rules.specs.Factor.{classes, finer};
 ghost use Rattle.rules.specs.Lists.{word_of};
 ghost use Rattle.rules.specs.Strata.{question16};
-ghost use Rattle.families.specs.Lent.{column_at};
-ghost use Rattle.strata.specs.Answers.{analysis_in, analysis_from, strata_places, all_placed};
-ghost use Rattle.strata.specs.Lent.{Formed};
+ghost use Rattle.strata.specs.Answers.{analysis_in, analysis_from};
+ghost use Rattle.strata.specs.Family.{column};
+ghost use Rattle.strata.specs.Pair.{CandidatesBefore, CandidatesAsked, candidates_of, treatment_at, strata_places, all_placed};
 ghost use Rattle.strata.specs.Sums.{Unsubtracted, residuals_of};
-ghost use Rattle.strata.specs.Words.{CandidatesBefore, CandidatesAsked, PlacesAsked, candidate_word, below, coarsest, first_passing};
+ghost use Rattle.strata.specs.Words.{WordsOf, numbered, below, coarsest, first_passing};
 
 use crate::degrees;
 use crate::degrees::less;
-use crate::family::{member_classes, member_finer};
+use crate::family::{Family, Pair};
 use crate::order::{coarser_words, has};
 use limits::MEMBERS;
 use refusal::Refusal;
@@ -36,60 +36,39 @@ pub struct Analysis {
     pub degrees: [i64; MEMBERS],
 }
 
-// The place of the member with a class for each plot, which only the last can be; 32 where there is none.
-fn finest_place(family: &[u8], n: usize, size: usize) -> usize
-    requires { Formed n family.now size }
-    ensures { result < size → classes (column_at n family.now result) ≡ n }
+// The place of the member with a class for each plot, which only the last can be.
+fn finest_place(family: &Family) -> Option<usize>
+    ensures { IfSome result (λ p. classes (column family.now p) ≡ family.now.plots) }
 {
-    let last = size - 1;
-    if member_classes(family, last, n) == n {
-        return last;
-    }
-    MEMBERS
+    let last = family.size - 1;
+    (family.counted(last).classes == family.plots).then_some(last)
 }
 
 // Whether plot member `p` is finer than or equivalent to treatment member `t`. It is where it has a class for each plot, or where one
 // of the coarser members in its word is, as `among` tells of those before it; else the columns decide.
 fn is_candidate(
-    plot_family: &[u8],
+    pair: &Pair,
     p: usize,
     word: u32,
     among: u32,
-    treatment_family: &[u8],
     t: usize,
-    n: usize,
-    finest: usize,
+    finest: Option<usize>,
 ) -> bool
-    requires { CandidatesBefore n plot_family.now p word among treatment_family.now t finest }
-    ensures { result ≡ finer n (column_at n plot_family.now p) (column_at n treatment_family.now t) }
+    requires { CandidatesBefore pair.now p word among t finest }
+    ensures { result ≡ finer pair.now.plot.plots (column pair.now.plot p) (treatment_at pair.now t) }
 {
-    if word & among != 0 {
-        return true;
-    }
-    if finest == p {
-        return true;
-    }
-    member_finer(plot_family, p, treatment_family, t, n)
+    word & among != 0 || finest == Some(p) || pair.plot.finer(p, &pair.treatment, t)
 }
 
 // The plot members that are finer than or equivalent to treatment member `t`.
-fn candidates(
-    plot_family: &[u8],
-    plot_size: usize,
-    words: &[u32; MEMBERS],
-    treatment_family: &[u8],
-    t: usize,
-    n: usize,
-    finest: usize,
-) -> u32
-    requires { CandidatesAsked n plot_family.now plot_size words.now treatment_family.now t finest }
-    ensures { result ≡ candidate_word n plot_family.now plot_size treatment_family.now t }
+fn candidates(pair: &Pair, words: &[u32; MEMBERS], t: usize, finest: Option<usize>) -> u32
+    requires { CandidatesAsked pair.now words.now t finest }
+    ensures { result ≡ candidates_of pair.now t }
 {
-    let mut among: u32 = 0;
-    for p in 0..plot_size {
-        let word = words[p];
-        if is_candidate(plot_family, p, word, among, treatment_family, t, n, finest) {
-            among = among | (1u32 << p);
+    let mut among = 0;
+    for (p, &word) in words[..pair.plot.size].iter().enumerate() {
+        if is_candidate(pair, p, word, among, t, finest) {
+            among |= 1u32 << p;
         }
     }
     among
@@ -100,150 +79,88 @@ fn is_below(word: u32, among: u32, p: usize, q: usize) -> bool
     requires { (p < most_members) × (q < most_members) }
     ensures { result ≡ below word among p q }
 {
-    if !has(among, q) {
-        return true;
-    }
-    if q == p {
-        return true;
-    }
-    has(word, p)
+    !has(among, q) || q == p || has(word, p)
 }
 
 // Whether `p` is a candidate to which every other candidate is finer.
-fn is_coarsest(words: &[u32; MEMBERS], size: usize, among: u32, p: usize) -> bool
-    requires { (size ≤ most_members) × (p < most_members) }
-    ensures { result ≡ coarsest words.now size among p }
+fn is_coarsest(words: &[u32], among: u32, p: usize) -> bool
+    requires { (length words.now ≤ most_members) × (p < most_members) }
+    ensures { result ≡ coarsest words.now (length words.now) among p }
 {
     if !has(among, p) {
         return false;
     }
-    for q in 0..size {
-        if !is_below(words[q], among, p, q) {
+    for (q, &word) in words.iter().enumerate() {
+        if !is_below(word, among, p, q) {
             return false;
         }
     }
     true
 }
 
-// The place of the coarsest candidate, from 1, or 0 where there is none.
-fn coarsest_place(words: &[u32; MEMBERS], size: usize, among: u32) -> usize
-    requires { size ≤ most_members }
-    ensures { result ≡ first_passing (coarsest words.now size among) 0 size }
+// The place of the coarsest candidate.
+fn coarsest_place(words: &[u32], among: u32) -> Option<usize>
+    requires { length words.now ≤ most_members }
+    ensures { numbered result ≡ first_passing (coarsest words.now (length words.now) among) 0 (length words.now) }
 {
-    for p in 0..size {
-        if is_coarsest(words, size, among, p) {
-            return p + 1;
-        }
-    }
-    0
+    (0..words.len()).find(|&p| is_coarsest(words, among, p))
 }
 
-// Whether each of the first `size` places is one.
-fn all_placed(places: &[usize; MEMBERS], size: usize) -> bool
-    requires { size ≤ most_members }
-    ensures { result ≡ every size (λ t. not (eqb (get_or places.now t 0) 0)) }
+// The places of the strata of all treatment members, from 1. 16: None where one has no stratum.
+fn places(pair: &Pair, words: &[u32; MEMBERS]) -> Option<[usize; MEMBERS]>
+    requires { WordsOf pair.now.plot words.now }
+    ensures { MatchOption result (all_placed pair.now ≡ false) (λ found. (all_placed pair.now ≡ true) × (found ≡ strata_places pair.now)) }
 {
-    for t in 0..size {
-        if places[t] == 0 {
-            return false;
-        }
+    let finest = finest_place(&pair.plot);
+    let mut places = [0; MEMBERS];
+    for t in 0..pair.treatment.size {
+        let among = candidates(pair, words, t, finest);
+        let place = coarsest_place(&words[..pair.plot.size], among)?;
+        places[t] = place + 1;
     }
-    true
+    Some(places)
 }
 
-// Writes the places of the strata of all treatment members where there are zeros. 16: whether each has one.
-fn fill_places(
-    plot_family: &[u8],
-    plot_size: usize,
-    treatment_family: &[u8],
-    treatment_size: usize,
-    n: usize,
-    words: &[u32; MEMBERS],
-    places: &mut [usize; MEMBERS],
-) -> bool
-    requires { PlacesAsked n plot_family.now plot_size treatment_family.now treatment_size words.now places.old }
-    ensures answer { result ≡ all_placed n plot_family.now plot_size treatment_family.now treatment_size }
-    ensures places { places.new ≡ strata_places n plot_family.now plot_size treatment_family.now treatment_size }
+// The treatment members whose stratum has the place `place`, from 1.
+fn stratum_word(places: &[usize], place: usize) -> u32
+    requires { length places.now ≤ most_members }
+    ensures { result ≡ word_of (λ t. eqb (get_or places.now t 0) place) (length places.now) }
 {
-    let finest = finest_place(plot_family, n, plot_size);
-    for t in 0..treatment_size {
-        let among = candidates(
-            plot_family,
-            plot_size,
-            words,
-            treatment_family,
-            t,
-            n,
-            finest,
-        );
-        let place = coarsest_place(words, plot_size, among);
-        places[t] = place;
-    }
-    all_placed(places, treatment_size)
-}
-
-// The treatment members whose stratum has the place `place`.
-fn stratum_word(places: &[usize; MEMBERS], size: usize, place: usize) -> u32
-    requires { size ≤ most_members }
-    ensures { result ≡ word_of (λ t. eqb (get_or places.now t 0) place) size }
-{
-    let mut word: u32 = 0;
-    for t in 0..size {
-        if places[t] == place {
-            word = word | (1u32 << t);
+    let mut word = 0;
+    for (t, &other) in places.iter().enumerate() {
+        if other == place {
+            word |= 1u32 << t;
         }
     }
     word
 }
 
 // What is left to each plot member when the numbers of the treatment members in its stratum are taken from its own.
-fn residuals(
-    own: &[i64; MEMBERS],
-    plot_size: usize,
-    numbers: &[i64; MEMBERS],
-    places: &[usize; MEMBERS],
-    treatment_size: usize,
-) -> [i64; MEMBERS]
-    requires { Unsubtracted plot_size treatment_size own.now numbers.now }
-    ensures { result ≡ residuals_of own.now numbers.now places.now treatment_size plot_size }
+fn residuals(own: &[i64], numbers: &[i64], places: &[usize]) -> [i64; MEMBERS]
+    requires { Unsubtracted own.now numbers.now places.now }
+    ensures { result ≡ residuals_of own.now numbers.now places.now }
 {
-    let mut left = [0i64; MEMBERS];
-    for p in 0..plot_size {
-        let word = stratum_word(places, treatment_size, p + 1);
-        let start = own[p];
-        let number = less(start, word, numbers, treatment_size);
+    let mut left = [0; MEMBERS];
+    for (p, &start) in own.iter().enumerate() {
+        let number = less(start, stratum_word(places, p + 1), numbers);
         left[p] = number;
     }
     left
 }
 
-// From question 16 on, of families that 15 accepts.
-pub fn from_16(
-    plot_family: &[u8],
-    plot_size: usize,
-    treatment_family: &[u8],
-    treatment_size: usize,
-    n: usize,
-) -> Result<Analysis, Refusal>
-    requires { Formed n plot_family.now plot_size × Formed n treatment_family.now treatment_size }
-    ensures { analysis_in result ≡ analysis_from question16 n plot_family.now plot_size treatment_family.now treatment_size }
+// From question 16 on.
+pub fn from_16(pair: &Pair) -> Result<Analysis, Refusal>
+    ensures { analysis_in result ≡ analysis_from question16 pair.now.plot.plots pair.now.plot.bytes.now pair.now.plot.size pair.now.treatment.bytes.now pair.now.treatment.size }
 {
-    let words = coarser_words(plot_family, n, plot_size);
-    let mut places = [0usize; MEMBERS];
-    if !fill_places(
-        plot_family,
-        plot_size,
-        treatment_family,
-        treatment_size,
-        n,
-        &words,
-        &mut places,
-    ) {
-        return Err(Refusal::Stratum);
-    }
-    let totals = degrees::by_words(plot_family, n, plot_size, &words);
-    let degrees = degrees::of_family(treatment_family, n, treatment_size);
-    let residuals = residuals(&totals, plot_size, &degrees, &places, treatment_size);
+    let words = coarser_words(&pair.plot);
+    let places = places(pair, &words).ok_or(Refusal::Stratum)?;
+    let totals = degrees::by_words(&pair.plot, &words);
+    let degrees = degrees::of_family(&pair.treatment);
+    let residuals = residuals(
+        &totals[..pair.plot.size],
+        &degrees[..pair.treatment.size],
+        &places[..pair.treatment.size],
+    );
     Ok(Analysis {
         strata: Strata { places, residuals },
         totals,

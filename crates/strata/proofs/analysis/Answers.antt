@@ -46,13 +46,6 @@ returns-in_err-treatment c =
     let f = formed_of a.plots p a.plot_size c.in_ok-plot.ensures.ok.3 in
     rw (e.1, e.2, o.0) (strata_no a.plots p a.plot_size r a.treatment_size Family refl (strata_15_treatment a.plots p a.plot_size r a.treatment_size w v f.formed (not_formed a.plots r a.treatment_size (within_limits_lem a.plots (length r) v) o.1)))
 
-pub from_16-requires : goal.from_16-requires
-from_16-requires c =
-    let a = c.args in
-    let o = c.in_ok-plot.ensures.ok in
-    let t = c.in_ok-treatment.ensures.ok in
-    (rw (o.0, o.2) (formed_of a.plots a.plot_family.now a.plot_size o.3), rw (t.0, t.2) (formed_of a.plots a.treatment_family.now a.treatment_size t.3))
-
 pub returns : goal.returns
 unfolding family_within
 returns c =
@@ -61,4 +54,4 @@ returns c =
     let t = c.in_ok-treatment.ensures.ok in
     let w = sym c.within.ensures ∙ c.if-not-within.false in
     let v = sym c.within-else-not-within.ensures ∙ c.if-not-within-2.false in
-    strata_yes a.plots a.plot_family.now a.plot_size a.treatment_family.now a.treatment_size c.from_16.result w v o.3 t.3 (rw (o.0, o.2, t.0, t.2) at c.from_16.ensures)
+    strata_yes a.plots a.plot_family.now a.plot_size a.treatment_family.now a.treatment_size c.from_16.result w v o.3 t.3 (rw (o.0, o.1, o.2, t.0, t.2) at c.from_16.ensures)

@@ -17,5 +17,5 @@ pub returns : goal.returns
 returns c =
     let a = c.args in
     let o = c.in_ok-family.ensures.ok in
-    let e : relation_in (Ok c.report.result) ≡ relation a.plots a.family.now a.size = rw (o.0, o.1, o.2) at c.report.ensures ∙ relation_yes a.plots a.family.now a.size o.3 in
-    record { answer = e; compared = compared a.plots a.family.now a.size (Ok c.report.result) e }
+    let e : relation_in (Ok c.of_family.result) ≡ relation a.plots a.family.now a.size = rw (o.0, o.1, o.2) at c.of_family.ensures ∙ relation_yes a.plots a.family.now a.size o.3 in
+    record { answer = e; compared = compared a.plots a.family.now a.size (Ok c.of_family.result) e }

@@ -1,23 +1,21 @@
 -- `counted_finer` meets its contract: the numbers of classes tell, or the columns decide.
-use mathlib.Core.Path.{sym, ◌∙◌}
-use native.Mathlib.Omega.{arith}
-use Rattle.families.specs.Lent.{column_at}
-use Rattle.families.proofs.Lent.{length_column}
-use Rattle.strata.proofs.Extreme.{each_finer, one_coarser}
+use Rattle.std.proofs.Common.{sym, ap, ⊎_elim, ◌∙◌, not}
+use borrow.Author.Tests.{eq-eqb}
+use Rattle.strata.specs.Family.{column}
+use Rattle.strata.proofs.Extreme.{counted_each, counted_one, counted_apart}
 use Rattle.strata.proofs.order.counted_finer.Goals as goal
+use Rattle.strata.proofs.order.counted_finer.Goals.{then-member-family, else-member-family}
 
-pub returns-then-k-n : goal.returns-then-k-n
-returns-then-k-n c =
+pub returns-then-before-eq1 : goal.returns-then-before-eq1
+returns-then-before-eq1 c =
     let a = c.args in
-    let b = a.family.now in
-    sym (each_finer a.n (column_at a.n b a.i) (column_at a.n b a.j) (length_column a.n a.i b (omega arith) (omega arith) (omega arith)) (sym c.requires.4 ∙ c.if-k-n.true))
+    let f = a.family.now in
+    elim c.if-member-family.branch [
+      | then-member-family w ↦ w.t-5-is ∙ eq-eqb _ _ w.if-member-family.true ∙ sym (counted_each f a.member c.requires.0 (column f a.before.place) w.if-member-family.true)
+      | else-member-family w ↦ w.t-5-is ∙ ⊎_elim (λ e. absurd (w.if-member-family.false e)) (λ p. eq-eqb _ _ p.1 ∙ sym (counted_one f a.before c.requires.1 (column f a.member.place) p.1)) c.if-before-eq1.either
+    ]
 
-pub returns-then-other-eq1 : goal.returns-then-other-eq1
-returns-then-other-eq1 c =
+pub returns-else-member-before : goal.returns-else-member-before
+returns-else-member-before c =
     let a = c.args in
-    let b = a.family.now in
-    sym (one_coarser a.n (column_at a.n b a.i) (column_at a.n b a.j) (length_column a.n a.j b (omega arith) (omega arith) (omega arith)) (sym c.requires.5 ∙ c.if-other-eq1.true))
-
-pub returns-then-k-other : goal.returns-then-k-other
-returns-then-k-other c =
-    sym (c.requires.6 c.args.j c.requires.3 (sym c.requires.4 ∙ c.if-k-other.true ∙ c.requires.5))
+    ap not (eq-eqb _ _ c.if-member-before.false) ∙ sym (counted_apart a.family.now a.member c.requires.0 a.before c.requires.1 c.requires.2 c.if-member-before.false)

@@ -1,13 +1,8 @@
--- `direct_word_lem` meets its contract: the words of the coarser members are masked out one by one.
+-- `direct_word` meets its contract: the words of the coarser members are masked out one by one.
 use mathlib.Core.Path.{◌≡◌}
-use Prim.Native.Nat.{◌-◌, ◌≤◌}
-use lib.ListN.{get_or}
 use Rattle.rules.specs.Lists.{word_of}
 use Rattle.strata.specs.Words.{direct_bit}
 use Rattle.strata.proofs.order.direct_word.Given as goal
 
 abbrev pub invariant-loop-j : goal.invariant-loop-j
-invariant-loop-j l = (l.j ≤ l.i) × (l.coarser ≡ get_or l.words l.i 0) × (l.word ≡ word_of (direct_bit l.words l.i l.j) 32)
-
-abbrev pub decreases-loop-j : goal.decreases-loop-j
-decreases-loop-j l = l.i - l.j
+invariant-loop-j l = l.word ≡ word_of (direct_bit l.words l.i l.j) 32

@@ -2,7 +2,7 @@ use mathlib.Core.Path.{◌≡◌, refl, sym, ap, ◌∙◌}
 use mathlib.Core.Bool.{Bool, true, false}
 use Prim.Native.Nat.{ℕ}
 use native.Mathlib.Omega.{arith}
-use lib.ListN.{get_or}
+use lib.ListN.{get_or, length}
 use Rattle.rules.specs.Factor.{every}
 use Rattle.rules.specs.Lists.{bit_at}
 use Rattle.strata.specs.Words.{below, coarsest}
@@ -18,7 +18,7 @@ returns-then-not-has c =
 
 pub loop-q-init : goal.loop-q-init
 unfolding every
-loop-q-init c = (omega arith, refl)
+loop-q-init c = refl
 
 pub returns-then-not-is_below : goal.returns-then-not-is_below
 unfolding coarsest
@@ -26,13 +26,13 @@ returns-then-not-is_below c =
     let s = c.args in
     let f : ℕ → Bool = λ k. below (get_or s.words.now k 0) s.among s.p k in
     let e : bit_at s.among s.p ≡ true = sym c.has.ensures ∙ c.if-not-has.false in
-    rw (e, every_fails f s.size c.loop-q.q (omega arith) (sym c.is_below.ensures ∙ c.if-not-is_below.true))
+    rw (e, every_fails f (length s.words.now) c.loop-q.q (omega arith) (sym c.is_below.ensures ∙ c.if-not-is_below.true))
 
 pub loop-q-preserved : goal.loop-q-preserved
 loop-q-preserved c =
     let s = c.args in
     let f : ℕ → Bool = λ k. below (get_or s.words.now k 0) s.among s.p k in
-    (omega arith, every_on f c.loop-q.q c.loop-q.invariant.1 (sym c.is_below.ensures ∙ c.if-not-is_below.false))
+    every_on f c.loop-q.q c.loop-q.invariant (sym c.is_below.ensures ∙ c.if-not-is_below.false)
 
 pub returns : goal.returns
 unfolding coarsest
@@ -40,6 +40,6 @@ returns c =
     let s = c.args in
     let f : ℕ → Bool = λ k. below (get_or s.words.now k 0) s.among s.p k in
     let e : bit_at s.among s.p ≡ true = sym c.has.ensures ∙ c.if-not-has.false in
-    let q : c.loop-q.q ≡ s.size = omega arith in
-    let all : every s.size f ≡ true = ap (λ (m : ℕ). every m f) (sym q) ∙ c.loop-q.invariant.1 in
+    let q : c.loop-q.q ≡ length s.words.now = omega arith in
+    let all : every (length s.words.now) f ≡ true = ap (λ (m : ℕ). every m f) (sym q) ∙ c.loop-q.invariant in
     rw (e, all)

@@ -2,7 +2,7 @@ use mathlib.Core.Path.{◌≡◌, ap, ap₂, ◌∙◌}
 use Prim.Native.Nat.{ℕ}
 use native.Mathlib.Omega.{arith}
 use lib.IntN.{ℤ, pos, ◌-ℤ◌}
-use lib.ListN.{get_or}
+use lib.ListN.{get_or, length}
 use mir.Syntax.{w64}
 use mir.Val.{of_z, to_z}
 use mir.ValLaws.{to_z-of_z}
@@ -16,29 +16,31 @@ use Rattle.strata.proofs.stratum.residuals.Goals as goal
 pub loop-p-init : goal.loop-p-init
 loop-p-init c =
     let a = c.args in
-    (omega arith, up_start (pos 0) (residual_at a.own.now a.numbers.now a.places.now a.treatment_size) a.plot_size)
+    up_start (pos 0) (residual_at a.own.now a.numbers.now a.places.now (length a.places.now)) (length a.own.now)
 
 pub less-number-requires : goal.less-number-requires
 less-number-requires c =
     let x = get_or c.args.own.now c.loop-p.p (pos 0) in
-    let h = c.requires.2 c.loop-p.p in
-    (omega arith, rw (to_z-of_z w64 x (small_fits x h)) h, c.requires.3)
+    let h = c.requires.3 c.loop-p.p in
+    (omega arith, rw (to_z-of_z w64 x (small_fits x h)) h, c.requires.4)
 
 pub loop-p-preserved : goal.loop-p-preserved
 loop-p-preserved c =
     let a = c.args in
     let p = c.loop-p.p in
+    let m = length a.places.now in
     let x = get_or a.own.now p (pos 0) in
-    let f = residual_at a.own.now a.numbers.now a.places.now a.treatment_size in
+    let f = residual_at a.own.now a.numbers.now a.places.now m in
     let e : c.less-number.result ≡ f p =
     c.less-number.ensures
-    ∙ ap₂ (λ (z : ℤ) (w : ℕ). z -ℤ sum_passing (bit_at w) (λ j. get_or a.numbers.now j (pos 0)) a.treatment_size) (to_z-of_z w64 x (small_fits x (c.requires.2 p))) c.stratum_word-word.ensures
-    ∙ residual_turn a.own.now a.numbers.now a.places.now a.treatment_size p in
+    ∙ ap (λ (k : ℕ). to_z w64 (of_z w64 x) -ℤ sum_passing (bit_at c.stratum_word.result) (λ j. get_or a.numbers.now j (pos 0)) k) c.requires.2
+    ∙ ap₂ (λ (z : ℤ) (w : ℕ). z -ℤ sum_passing (bit_at w) (λ j. get_or a.numbers.now j (pos 0)) m) (to_z-of_z w64 x (small_fits x (c.requires.3 p))) c.stratum_word.ensures
+    ∙ residual_turn a.own.now a.numbers.now a.places.now m p in
     let v : to_z w64 (of_z w64 c.less-number.result) ≡ f p =
-    ap (λ (z : ℤ). to_z w64 (of_z w64 z)) e ∙ to_z-of_z w64 (f p) (residual_fits a.own.now a.numbers.now a.places.now a.treatment_size p (omega arith) c.requires.2 c.requires.3) in
-    (omega arith, rw (c.loop-p.invariant.1, v) (up_step (pos 0) f a.plot_size p (omega arith) (omega arith)))
+    ap (λ (z : ℤ). to_z w64 (of_z w64 z)) e ∙ to_z-of_z w64 (f p) (residual_fits a.own.now a.numbers.now a.places.now m p (omega arith) c.requires.3 c.requires.4) in
+    rw (c.loop-p.invariant, v) (up_step (pos 0) f (length a.own.now) p (omega arith) (omega arith))
 
 pub returns : goal.returns
 returns c =
     let a = c.args in
-    c.loop-p.invariant.1 ∙ up_end (pos 0) (residual_at a.own.now a.numbers.now a.places.now a.treatment_size) a.plot_size c.loop-p.p (omega arith)
+    c.loop-p.invariant ∙ up_end (pos 0) (residual_at a.own.now a.numbers.now a.places.now (length a.places.now)) (length a.own.now) c.loop-p.p (omega arith)
