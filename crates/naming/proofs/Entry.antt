@@ -25,25 +25,24 @@ use Rattle.rules.proofs.Sheet.{and_left, and_right, header_form}
 use Rattle.sheet.specs.Answers.{first_line, headed}
 use Rattle.sheet.specs.declared.Counts.{Counts}
 use Rattle.sheet.specs.declared.header.Header.{Header}
-use Rattle.sheet.proofs.HeaderLaws.{headed_yes}
+use Rattle.sheet.proofs.QuestionLaws.{headed_some}
 use Rattle.naming.specs.declared.columns.Look.{Look}
 use Rattle.naming.specs.declared.Kind.{Kind}
 use Rattle.naming.specs.declared.Kind.TheVariants.{Plot, Treatment}
 use Rattle.naming.specs.Answers.{kind_of, look_of, CountedIn, look_fits, member_fits, name_by, naming_by, starting_with, name_numbers, name_numbers_of}
 use Rattle.naming.specs.Columns.{InTable, own_of, looked_of, own_names, look_names}
-use Rattle.std.specs.Prelude.{Result, Ok, Err}
+use Rattle.std.specs.Prelude.{Some, Result, Ok, Err}
 use Rattle.refusal.specs.declared.Refusal.{Refusal}
 use Rattle.refusal.specs.Numbers.{number_of}
 
 -- ---- the columns looked at
 
 module _ (text : List ℕ) (q : question3 text ≡ true) where
-  pub counted_in : (h : Header) → h ≡ headed text → (n : ℕ) → CountedIn text (record { plots = n; plot_columns = h.plot_columns; treatment_columns = h.treatment_columns })
+  pub counted_in : (h : Header) → Some h ≡ headed text → (n : ℕ) → CountedIn text (record { plots = n; plot_columns = h.plot_columns; treatment_columns = h.treatment_columns })
   unfolding first_line
-  counted_in h e n = record { plot_columns_holds = ap (λ (x : Header). x.plot_columns) is; treatment_columns_holds = ap (λ (x : Header). x.treatment_columns) is }
-    where
-      is : h ≡ first_line text
-      is = e ∙ headed_yes text q
+  counted_in h e n =
+      let is : h ≡ first_line text = (headed_some text h e).1 in
+      record { plot_columns_holds = ap (λ (x : Header). x.plot_columns) is; treatment_columns_holds = ap (λ (x : Header). x.treatment_columns) is }
 
 -- by the columns counted in the first line they are the rules'
 module _ (text : List ℕ) (counts : Counts) (c : CountedIn text counts) where

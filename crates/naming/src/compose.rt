@@ -19,10 +19,10 @@ use limits::{Level, NAME, PLOTS};
 fn put_marked(text: &[u8], mark: u8, c: usize, out: &mut [u8], at: usize) -> usize
     ensures { Wrote out.old at (get_or (column_names mark (header text.now)) c []) out.new result }
 {
-    let span = sheet::column_name(text, mark, c);
-    let start = span.start;
-    let end = span.end;
-    decimal::write_bytes(&text[start..end], out, at)
+    match sheet::column_name(text, mark, c) {
+        Some(span) => decimal::write_bytes(&text[span], out, at),
+        None => at,
+    }
 }
 
 // Writes the name of column `c` of those looked at.

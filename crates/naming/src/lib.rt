@@ -107,18 +107,14 @@ pub fn member_name(
     if !(1..=TEXT).contains(&text.len()) {
         return Err(Refusal::TextLength);
     }
-    let h = sheet::read_header(text);
-    let end = h.end;
-    if end == 0 {
-        return Err(Refusal::FirstLine);
-    }
+    let header = sheet::read_header(text).ok_or(Refusal::FirstLine)?;
     if !questions::within(plots, size, place, levels.len(), family.len(), name.len()) {
         return Err(Refusal::Limits);
     }
     let counts = Counts {
         plots,
-        plot_columns: h.plot_columns,
-        treatment_columns: h.treatment_columns,
+        plot_columns: header.plot_columns,
+        treatment_columns: header.treatment_columns,
     };
     let source = Source {
         text,
