@@ -20,7 +20,8 @@ use Rattle.rules.proofs.Grammar.{Begins, some, formula_begins}
 use Rattle.rules.proofs.Formula.{counts_names, written_good, plots_some, answered_18, formula_planned}
 use Rattle.rules.proofs.SheetText.{buffer_sheet}
 use Rattle.writer.specs.Answers.{writing_numbers, answer_numbers}
-use Rattle.writer.specs.declared.Writing.TheVariants.{Refused}
+use Rattle.std.proofs.Common.{Err}
+use Rattle.refusal.specs.declared.Refusal.TheVariants.{Limits}
 use Rattle.writer.specs.Rows.{columns_at}
 use Rattle.block_formula.specs.Text.{to_end, readable}
 use Rattle.block_formula.specs.Plots.{columns_in}
@@ -35,7 +36,7 @@ unfolding formula_sheet
 short_6 text outLength h = rw (lt-leb most_text outLength h, formula_sheet)
 
 -- what is answered and left where the buffer is too short
-pub short_numbers : (text : List ℕ) (m : ℕ) → m < 32768 → writing_numbers (Refused 6) ≡ answer_numbers (formula_sheet text m)
+pub short_numbers : (text : List ℕ) (m : ℕ) → m < 32768 → writing_numbers (Err Limits) ≡ answer_numbers (formula_sheet text m)
 unfolding writing_numbers answer_numbers
 short_numbers text m h = rw (short_6 text m h)
 

@@ -5,9 +5,12 @@ use mathlib.Core.Bool.{Bool, true, false, not, ◌&&◌}
 use mathlib.Core.List.{List, [], ◌∷◌, ◌++◌, map}
 use Prim.Native.Nat.{ℕ, ◌+◌, ◌≤◌, ◌<◌}
 use native.Mathlib.Numerals.{add-one}
+use lib.Dec.{eqb}
+use lib.Pointwise.{pointwise}
 use lib.ListN.{length, get_or, drop, drop_of_length-le}
 use lib.Seq.{drop-cons}
 use borrow.Author.Tests.{eq-eqb, ne_eqb}
+use Rattle.rules.proofs.Numbering.{by_cases}
 use Rattle.rules.specs.Sheet.{letter_or_digit, tab, plot_mark, same_bytes, new_name, names_differ}
 use Rattle.rules.specs.SheetText.{plot_heading}
 use Rattle.rules.specs.Formula.{equals}
@@ -16,15 +19,6 @@ use Rattle.block_formula.specs.Text.{in_count, heading_part, headings_from}
 -- ---- a byte more
 
 module _ (b : Bool) (x : ℕ) where
-  pub count_starts : x ≡ equals → in_count b x ≡ true
-  count_starts e = rw (eq-eqb x equals e)
-
-  pub count_goes : (x ≡ equals → ⊥) → letter_or_digit x ≡ true → in_count b x ≡ b
-  count_goes n l = rw (ne_eqb x equals n, l)
-
-  pub count_stops : (x ≡ equals → ⊥) → letter_or_digit x ≡ false → in_count b x ≡ false
-  count_stops n l = rw (ne_eqb x equals n, l)
-
   pub part_next : x ≡ equals → heading_part b x ≡ tab ∷ plot_mark ∷ 58 ∷ []
   unfolding heading_part
   part_next e = rw (eq-eqb x equals e, heading_part)
@@ -55,6 +49,14 @@ module _ (text : List ℕ) (i : ℕ) (b : Bool) where
   headings_end h = ap (headings_from b) (drop_of_length-le text h)
 
 -- ---- names that differ
+
+-- slices that are equal have the same bytes
+pub equal_bytes : (xs ys : List ℕ) → pointwise eqb xs ys ≡ same_bytes xs ys
+unfolding same_bytes
+equal_bytes [] [] = refl
+equal_bytes [] (y ∷ ys) = refl
+equal_bytes (x ∷ xs) [] = refl
+equal_bytes (x ∷ xs) (y ∷ ys) = by_cases (eqb x y) (λ e. rw e (equal_bytes xs ys)) (λ e. rw e)
 
 module _ (ns : List (List ℕ)) where
   module _ (name : List ℕ) (j : ℕ) where

@@ -8,22 +8,23 @@ use native.Mathlib.Nat.{not-suc-le-zero, le_of_suc-le-suc}
 use native.Mathlib.Numerals.{add-one, one-add}
 use native.Mathlib.Omega.{arith}
 use lib.Dec.{eqb, ltb}
-use lib.ListN.{length, get_or, set, drop, replicate, length-append, length-replicate, get_or-replicate, replicate-append-replicate, drop_of_length-le, get_or-append}
+use lib.ListN.{length, get_or, drop, replicate, length-append, length-replicate, get_or-replicate, replicate-append-replicate, drop_of_length-le, get_or-append}
 use lib.Seq.{drop-cons, get_or-append-add}
-use borrow.Author.Tests.{eq-eqb, ne_eqb, lt-ltb, le-ltb, ltb-true, ltb-false}
+use borrow.Author.Tests.{eq-eqb, ne_eqb, lt-ltb, ltb-true, ltb-false}
 use Rattle.rules.specs.Limits.{most_columns}
 use Rattle.rules.specs.Lists.{tabulate}
 use Rattle.rules.specs.Sheet.{all, past, letter_or_digit}
 use Rattle.rules.specs.Parents.{slash}
 use Rattle.rules.specs.Formula.{Operator, Formula, item, join, names_of, nests, nested_in, seen, equals, open_bracket, close_bracket, star, operators, operator_of, Part, items, Written, by_name, by_brackets, by_item, by_operator}
-use Rattle.rules.proofs.Lists.{get_d_tabulate, set_tabulate}
+use Rattle.rules.proofs.Lists.{get_d_tabulate, tabulate_get_d}
+use Rattle.rules.proofs.Places.{tabulate_ext}
 use Rattle.rules.proofs.Numbering.{by_cases}
 use Rattle.rules.proofs.Members.{clash}
 use Rattle.rules.proofs.Sheet.{and_left, and_right}
 use Rattle.rules.proofs.SheetText.{name_free, past_part}
 use Rattle.rules.proofs.Formula.{nested_before}
 use Rattle.block_formula.proofs.PartLaws.{Each, of_none, of_one, of_both, Joins, operator_equals, apart, name_plain, count_plain}
-use Rattle.block_formula.specs.Text.{after_name, depth_after, nests_after, later_nested, nested_text, seen_text}
+use Rattle.block_formula.specs.Text.{after_name, depth_after, nests_after, later_nested, nested_text, sees, seen_text}
 
 -- ---- the state after a byte
 
@@ -47,12 +48,6 @@ module _ (h x : ℕ) where
   module _ (b : Bool) where
     pub nests_inside : eqb h 0 ≡ false → nests_after h b x ≡ b
     nests_inside e = rw (e, nests_after)
-
-    pub nests_slash : eqb h 0 ≡ true → eqb x slash ≡ true → nests_after h b x ≡ true
-    nests_slash e g = rw (e, g, nests_after)
-
-    pub nests_star : eqb h 0 ≡ true → eqb x slash ≡ false → eqb x star ≡ true → nests_after h b x ≡ false
-    nests_star e g k = rw (e, g, k, nests_after)
 
     pub nests_stays : eqb h 0 ≡ true → eqb x slash ≡ false → eqb x star ≡ false → nests_after h b x ≡ b
     nests_stays e g k = rw (e, g, k, nests_after)
@@ -119,34 +114,19 @@ module _ (xs : List ℕ) (i : ℕ) where
 -- ---- an array of marks
 
 module _ (text : List ℕ) (i : ℕ) where
-  -- the names before j that name i is nested in
-  abbrev pub marked : ℕ → List Bool
-  marked j = tabulate (λ k. ltb k j && nested_text text i k) most_columns
+  -- one that stands before it
+  pub sees_nested : (j : ℕ) → (i ≡ j → ⊥) → j < i → sees text i j ≡ get_or (later_nested 0 false (after_name j text)) (i - j - 1) false
+  unfolding nested_text
+  sees_nested j n l =
+      let k : i - j - 1 ≡ i - suc j = omega arith in
+      rw (ne_eqb i j n, lt-ltb j i l, k)
 
-  -- at first there is none
-  pub none_marked : replicate most_columns false ≡ marked 0
-  unfolding tabulate
-  none_marked = refl
-
-  -- a turn marks name j
-  pub mark_next : (j : ℕ) → j < most_columns → set (marked j) j (nested_text text i j) ≡ marked (j + 1)
-  mark_next j h =
-      set_tabulate false (λ k. ltb k j && nested_text text i k) (λ k. ltb k (j + 1) && nested_text text i k) most_columns j (nested_text text i j) h
-      (rw (lt-ltb j (j + 1) (omega arith)))
-      (λ k n. ap (λ (b : Bool). b && nested_text text i k) (by_cases (ltb k j)
-      (λ e. lt-ltb k (j + 1) (omega (arith, ltb-true k j e)) ∙ sym e)
-      (λ e. le-ltb k (j + 1) (above k n (ltb-false k j e)) ∙ sym e)))
-    where
-      above : (k : ℕ) → (k ≡ j → ⊥) → j ≤ k → j + 1 ≤ k
-      above k n h = omega arith
-
-  -- with its own mark the array is what name i sees
-  pub mark_self : i < most_columns → set (marked i) i true ≡ seen_text text i
+  -- an array of the marks of all names is what name i sees
+  pub seen_all : (marks : List Bool) → length marks ≡ most_columns → ((k : ℕ) → k < most_columns → get_or marks k false ≡ sees text i k) → marks ≡ seen_text text i
   unfolding seen_text
-  mark_self h =
-      set_tabulate false (λ k. ltb k i && nested_text text i k) (λ k. eqb i k || ltb k i && nested_text text i k) most_columns i true h
-      (rw (eq-eqb i i refl))
-      (λ k n. rw (ne_eqb i k (λ e. n (sym e))))
+  seen_all marks long same =
+      sym (tabulate_get_d false marks) ∙ ap (tabulate (λ k. get_or marks k false)) long
+      ∙ tabulate_ext (λ k. get_or marks k false) (λ k. sees text i k) most_columns same
 
 -- ---- operators
 

@@ -12,11 +12,12 @@ use lib.ListN.{length, get_or, take, drop}
 use lib.Seq.{get_or-drop, drop-cons, drop-length, take-suc, take_all, paste}
 use borrow.Author.Tests.{leb-true, leb-false}
 use Rattle.rules.specs.Limits.{most_plots, most_columns}
+use Rattle.rules.specs.Lists.{tabulate}
 use Rattle.rules.specs.Factor.{Column}
 use Rattle.rules.specs.Family.{members_of}
 use Rattle.rules.specs.Formula.{Formula, names_of, counts_of, plot_count, column_of, seen, columns_of}
 use Rattle.rules.proofs.Numbering.{by_cases}
-use Rattle.rules.proofs.Lists.{length_tabulate, get_d_tabulate}
+use Rattle.rules.proofs.Lists.{length_tabulate, get_d_tabulate, tabulate_get_d}
 use Rattle.rules.proofs.Places.{tabulate_ext}
 use Rattle.rules.proofs.Buffer.{put, members_add}
 use Rattle.rules.proofs.Agreement.{later, Split, split}
@@ -188,9 +189,11 @@ module _ (cs : List ℕ) (marks : List Bool) (plots : ℕ) where
   pub length_levels : length (levels_by cs marks plots) ≡ plots
   length_levels = length_tabulate (λ u. suc (code_of cs (in_set marks) u)) plots
 
-  -- the level of plot u
-  pub level_at : (u : ℕ) → u < plots → code_of cs (in_set marks) u + 1 ≡ get_or (levels_by cs marks plots) u 0
-  level_at u h = add-one (code_of cs (in_set marks) u) ∙ sym (get_d_tabulate (λ u. suc (code_of cs (in_set marks) u)) plots u 0 h)
+  -- a list of the levels of all plots is the column
+  pub levels_all : (column : List ℕ) → length column ≡ plots → ((u : ℕ) → u < plots → get_or column u 0 ≡ suc (code_of cs (in_set marks) u)) → column ≡ levels_by cs marks plots
+  levels_all column long same =
+      sym (tabulate_get_d 0 column) ∙ ap (tabulate (λ u. get_or column u 0)) long
+      ∙ tabulate_ext (λ u. get_or column u 0) (λ u. suc (code_of cs (in_set marks) u)) plots same
 
 module _ (text cs : List ℕ) (plots : ℕ) where
   -- the column of name i

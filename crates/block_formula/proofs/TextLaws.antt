@@ -8,6 +8,7 @@ use native.Mathlib.Nat.{not-suc-le-zero}
 use native.Mathlib.Omega.{arith}
 use lib.Dec.{eqb}
 use lib.ListN.{length, length-append, length-map}
+use Rattle.std.specs.Option.{unwrap_or}
 use Rattle.rules.specs.Limits.{least_count, most_count}
 use Rattle.rules.specs.Sheet.{within, tab, newline, up_to, has, all, fields, free, digit, letter_or_digit, no_leading_zero, is_name, plot_mark, is_column, is_kind, column_names, header, decimal, joined}
 use Rattle.rules.specs.SheetText.{plot_heading}
@@ -35,7 +36,7 @@ counts_plain [] rest a = refl
 counts_plain (y ∷ ys) rest a =
     counts_skip y (ys ++ rest) (apart y equals (and_left (letter_or_digit y) (all letter_or_digit ys) a) refl) ∙ counts_plain ys rest (and_right (letter_or_digit y) (all letter_or_digit ys) a)
 
-count_is : (ds : List ℕ) → is_count ds ≡ true → count_of ds ≡ decimal ds
+count_is : (ds : List ℕ) → is_count ds ≡ true → unwrap_or (count_of ds) 0 ≡ decimal ds
 unfolding count_of
 count_is ds c = rw (c, count_of)
 
@@ -48,7 +49,7 @@ unfolding counts_in counts_of is_count
 counts_part (by_name name ds n c) k rest d =
     ap counts_in (append_assoc name (equals ∷ ds) rest)
     ∙ counts_plain name (equals ∷ ds ++ rest) (name_plain name n)
-    ∙ ap₂ (λ (v : ℕ) (r : List ℕ). v ∷ r) (ap count_of (leading_all ds rest (digits c) d) ∙ count_is ds c) (counts_plain ds rest (count_plain ds c))
+    ∙ ap₂ (λ (v : ℕ) (r : List ℕ). v ∷ r) (ap (λ (r : List ℕ). unwrap_or (count_of r) 0) (leading_all ds rest (digits c) d) ∙ count_is ds c) (counts_plain ds rest (count_plain ds c))
   where
     digits : is_count ds ≡ true → all digit ds ≡ true
     digits e = and_right (no_leading_zero ds) (all digit ds) (and_left (no_leading_zero ds && all digit ds) (within least_count most_count (decimal ds)) e)

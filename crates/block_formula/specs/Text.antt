@@ -1,7 +1,7 @@
 -- What the bytes of a formula tell, one after the other: where a part of it ends, its counts, the headings of its names, and which names a name is
 -- nested in. That these are the formula's own is shown in proofs/.
 -- Assumes nothing.
-use Rattle.std.specs.Prelude.{Bool, true, false, not, ◌&&◌, ◌||◌, List, [], ◌∷◌, ◌++◌, map, ℕ, zero, suc, ◌+◌, ◌-◌, eqb, ltb, length, get_or, drop}
+use Rattle.std.specs.Prelude.{Bool, true, false, not, ◌&&◌, ◌||◌, Option, Some, None, unwrap_or, List, [], ◌∷◌, ◌++◌, map, ℕ, zero, suc, ◌+◌, ◌-◌, eqb, ltb, length, get_or, drop}
 use Rattle.rules.specs.Limits.{most_formula, most_columns}
 use Rattle.rules.specs.Lists.{tabulate}
 use Rattle.rules.specs.Sheet.{within, tab, past, letter_or_digit, plot_mark, decimal, decimal_from, header, column_names, new_name}
@@ -11,15 +11,15 @@ use Rattle.rules.specs.Formula.{open_bracket, close_bracket, star, equals, opera
 
 -- ---- parts
 
--- the place after a part that was read in a text of n bytes; 0 where none was
-abbrev pub end_in : ℕ → Parsed → ℕ
-end_in n nothing = 0
-end_in n (parsed f rest) = n - length rest
+-- the text after a part, where one was read
+abbrev pub rest_of : Parsed → Option (List ℕ)
+rest_of nothing = None
+rest_of (parsed f rest) = Some rest
 
--- the operators that may follow an item: both, or after the first only that one; 0 stands for both
-abbrev pub allowed : ℕ → List ℕ
-allowed zero = operators
-allowed (suc x) = suc x ∷ []
+-- the operators that may follow an item: both, or after the first only that one
+abbrev pub allowed : Option ℕ → List ℕ
+allowed None = operators
+allowed (Some x) = x ∷ []
 
 -- nothing is left over
 abbrev pub to_end : Parsed → Bool
@@ -34,16 +34,16 @@ readable text = within 1 most_formula (length text) && to_end (formula_at (suc (
 
 -- ---- counts
 
--- the count that digits write; 0 where they write none
-unfoldable pub count_of : List ℕ → ℕ
+-- the count that digits write, if they write one
+unfoldable pub count_of : List ℕ → Option ℕ
 unfolding is_count decimal_from
-count_of ds = elim (is_count ds) [ true ↦ decimal ds | false ↦ 0 ]
+count_of ds = elim (is_count ds) [ true ↦ Some (decimal ds) | false ↦ None ]
 
--- the counts, one after each `=`
+-- the counts, one after each `=`, with 0 where none is written
 unfoldable pub counts_in : List ℕ → List ℕ
 unfolding count_of leading
 counts_in [] = []
-counts_in (x ∷ xs) = elim (eqb x equals) [ true ↦ count_of (leading xs) ∷ counts_in xs | false ↦ counts_in xs ]
+counts_in (x ∷ xs) = elim (eqb x equals) [ true ↦ unwrap_or (count_of (leading xs)) 0 ∷ counts_in xs | false ↦ counts_in xs ]
 
 -- ---- headings
 
@@ -98,7 +98,11 @@ unfoldable pub nested_text : List ℕ → ℕ → ℕ → Bool
 unfolding later_nested after_name
 nested_text text i j = get_or (later_nested 0 false (after_name j text)) (i - suc j) false
 
--- the names in which plots must agree to share a level of name i: itself, and those it is nested in
+-- plots must agree in name j to share a level of name i: it is that name, or that name is nested in it
+abbrev pub sees : List ℕ → ℕ → ℕ → Bool
+sees text i j = eqb i j || ltb j i && nested_text text i j
+
+-- the names in which plots must agree to share a level of name i
 unfoldable pub seen_text : List ℕ → ℕ → List Bool
 unfolding nested_text tabulate
-seen_text text i = tabulate (λ j. eqb i j || ltb j i && nested_text text i j) most_columns
+seen_text text i = tabulate (λ j. sees text i j) most_columns

@@ -1,91 +1,69 @@
-// Whether a text is written as a formula is.
-ghost use Rattle.std.specs.Prelude.{◌≡◌, ◌≤◌, length, drop};
+// Whether a text is written as a formula is: what follows each part that it begins with.
+ghost use Rattle.std.specs.Prelude.{◌≡◌, ◌==◌, option_copied};
+ghost use Rattle.std.specs.List.{position};
 ghost use Rattle.rules.specs.Sheet.{has};
-ghost use Rattle.rules.specs.Formula.{operators, named, item_by, formula_at};
-ghost use Rattle.block_formula.specs.Text.{end_in, allowed, readable};
+ghost use Rattle.rules.specs.Formula.{equals, operators, named, item_by, formula_at};
+ghost use Rattle.block_formula.specs.Text.{rest_of, allowed, readable};
 
 use crate::counts;
 use limits::FORMULA;
 
-// The place after the name, `=` and count that start at `at`; 0 where they are not there.
-fn named_end(text: &[u8], at: usize) -> usize
-    requires { at ≤ length text.now }
-    ensures { result ≡ end_in (length text.now) (named (drop at text.now)) }
+// The place of the first `=`.
+fn equals_place(text: &[u8]) -> Option<usize>
+    ensures { result ≡ position (λ x. x == equals) text.now }
 {
-    let rest = &text[at..];
-    let e = sheet::place_of(rest, b'=');
-    if rest.len() <= e {
-        return 0;
+    text.iter().position(|&x| x == b'=')
+}
+
+// What follows the name, `=` and count that a text begins with.
+fn after_named(text: &[u8]) -> Option<&[u8]>
+    ensures { option_copied result ≡ rest_of (named text.now) }
+{
+    let end = equals_place(text)?;
+    if !sheet::is_name(&text[..end]) {
+        return None;
     }
-    if !sheet::is_name(&rest[..e]) {
-        return 0;
-    }
-    let start = at + e + 1;
-    let end = counts::digits_end(text, start);
-    if counts::count(&text[start..end]) == 0 {
-        return 0;
-    }
-    end
+    let rest = &text[end + 1..];
+    let digits = counts::digits(rest);
+    counts::count(digits)?;
+    Some(&rest[digits.len()..])
 }
 
 // Whether a byte is an operator that may follow an item: any, or only the one named.
-fn may_follow(x: u8, only: u8) -> bool
+fn may_follow(x: u8, only: Option<u8>) -> bool
     ensures { result ≡ has x (allowed only) }
 {
-    if only == 0 {
-        if x == b'/' {
-            return true;
-        }
-        return x == b'*';
+    match only {
+        Some(operator) => x == operator,
+        None => x == b'/' || x == b'*',
     }
-    x == only
 }
 
-// The place after the item that starts at `at`; 0 where there is none. Formulas in brackets are read in so many steps.
-#[cycle(formula_end_item_end)]
-fn item_end(text: &[u8], at: usize, steps: usize) -> usize
-    ensures { result ≡ end_in (length text.now) (item_by (formula_at steps operators) (drop at text.now)) }
+// What follows the item that a text begins with. Formulas in brackets are read in so many steps.
+#[cycle(after_formula_after_item)]
+fn after_item(text: &[u8], steps: usize) -> Option<&[u8]>
+    ensures { option_copied result ≡ rest_of (item_by (formula_at steps operators) text.now) }
 {
-    if text.len() <= at {
-        return 0;
+    let (&first, inner) = text.split_first()?;
+    if first != b'(' {
+        return after_named(text);
     }
-    if text[at] != b'(' {
-        return named_end(text, at);
-    }
-    let e = formula_end(text, at + 1, 0, steps);
-    if e == 0 {
-        return 0;
-    }
-    if text.len() <= e {
-        return 0;
-    }
-    if text[e] != b')' {
-        return 0;
-    }
-    e + 1
+    let (&last, rest) = after_formula(inner, None, steps)?.split_first()?;
+    (last == b')').then_some(rest)
 }
 
-// The place after the formula that starts at `at`, whose operators are all `only`, if that is not 0; 0 where there is none. Each item and each
-// bracket takes a step, and so many may be taken.
-#[cycle(formula_end_item_end)]
-fn formula_end(text: &[u8], at: usize, only: u8, steps: usize) -> usize
-    ensures { result ≡ end_in (length text.now) (formula_at steps (allowed only) (drop at text.now)) }
+// What follows the formula that a text begins with, whose operators are all `only`, if one is named. Each item and each bracket takes a step, and
+// so many may be taken.
+#[cycle(after_formula_after_item)]
+fn after_formula(text: &[u8], only: Option<u8>, steps: usize) -> Option<&[u8]>
+    ensures { option_copied result ≡ rest_of (formula_at steps (allowed only) text.now) }
 {
-    if steps == 0 {
-        return 0;
+    let left = steps.checked_sub(1)?;
+    let rest = after_item(text, left)?;
+    match rest.split_first() {
+        Some((&x, later)) if may_follow(x, only) => after_formula(later, Some(x), left),
+        _ => Some(rest),
     }
-    let e = item_end(text, at, steps - 1);
-    if e == 0 {
-        return 0;
-    }
-    if text.len() <= e {
-        return e;
-    }
-    let x = text[e];
-    if !may_follow(x, only) {
-        return e;
-    }
-    formula_end(text, e + 1, x, steps - 1)
 }
 
 // Whether a text is a formula but for its names, which may be alike.
@@ -93,11 +71,6 @@ pub fn is_readable(text: &[u8]) -> bool
     ensures { result ≡ readable text.now }
 {
     let n = text.len();
-    if n < 1 {
-        return false;
-    }
-    if FORMULA < n {
-        return false;
-    }
-    formula_end(text, 0, 0, n + 1) == n
+    (1..=FORMULA).contains(&n)
+        && after_formula(text, None, n + 1).is_some_and(|rest| rest.is_empty())
 }

@@ -11,16 +11,10 @@ use decimal::{write_byte, write_bytes};
 fn in_count(counting: bool, x: u8) -> bool
     ensures { result ≡ in_count counting x }
 {
-    if x == b'=' {
-        return true;
-    }
-    if sheet::letter_or_digit(x) {
-        return counting;
-    }
-    false
+    x == b'=' || sheet::letter_or_digit(x) && counting
 }
 
-// Writes what a byte adds to the headings.
+// Writes what a byte adds to the headings. Whether it belongs to a count is what the walk over the text knows of it.
 fn write_part(counting: bool, x: u8, out: &mut [u8], at: usize) -> usize
     ensures { Wrote out.old at (heading_part counting x) out.new result }
 {
@@ -42,8 +36,7 @@ pub fn write_headings(text: &[u8], out: &mut [u8]) -> usize
 {
     let mut next = write_bytes(b"p:", out, 0);
     let mut counting = false;
-    for i in 0..text.len() {
-        let x = text[i];
+    for &x in text {
         next = write_part(counting, x, out, next);
         counting = in_count(counting, x);
     }
@@ -54,10 +47,10 @@ pub fn write_headings(text: &[u8], out: &mut [u8]) -> usize
 fn name(line: &[u8], i: usize) -> &[u8]
     ensures { result.now ≡ get_or (names_in line.now) i [] }
 {
-    let span = sheet::column_name(line, b'p', i);
-    let start = span.start;
-    let end = span.end;
-    &line[start..end]
+    match sheet::column_name(line, b'p', i) {
+        Some(span) => &line[span],
+        None => &[],
+    }
 }
 
 // Whether no name after name `i` of so many is the same.
@@ -65,8 +58,9 @@ fn new_name(line: &[u8], i: usize, names: usize) -> bool
     requires { (names ≡ length (names_in line.now)) × (i < names) }
     ensures { result ≡ new_at (names_in line.now) i }
 {
+    // a range, since names are parts of the line; of `(i + 1..names).all(..)` the proof does not learn which names were compared
     for j in i + 1..names {
-        if sheet::same_bytes(name(line, i), name(line, j)) {
+        if name(line, i) == name(line, j) {
             return false;
         }
     }
@@ -78,6 +72,7 @@ pub fn names_differ(line: &[u8], names: usize) -> bool
     requires { names ≡ length (names_in line.now) }
     ensures { result ≡ names_differ (map plot_heading (names_in line.now)) }
 {
+    // a range, as in `new_name`
     for i in 0..names {
         if !new_name(line, i, names) {
             return false;

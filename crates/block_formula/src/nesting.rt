@@ -1,25 +1,25 @@
 // Which names of a formula a name is nested in.
-ghost use Rattle.std.specs.Prelude.{◌≡◌, ◌<◌, ◌≤◌, length, get_or, drop, false};
-ghost use Rattle.rules.specs.Limits.{most_columns, most_formula};
-ghost use Rattle.block_formula.specs.Text.{after_name, depth_after, nests_after, later_nested, seen_text};
+ghost use Rattle.std.specs.Prelude.{◌≡◌, ◌<◌, ◌≤◌, length, get_or, false};
+ghost use Rattle.rules.specs.Limits.{most_formula};
+ghost use Rattle.block_formula.specs.Text.{after_name, depth_after, nests_after, later_nested, sees, seen_text};
 
 use limits::COLUMNS;
 
-// The place after the `=` of name `j`, from 0; the text's length where there is none.
-fn after_name(text: &[u8], j: usize) -> usize
-    ensures place { drop result text.now ≡ after_name j text.now }
-    ensures inside { result ≤ length text.now }
+// The bytes after the `=` of name `j`, from 0; none where there is no such name.
+fn after_name(text: &[u8], j: usize) -> &[u8]
+    ensures bytes { result.now ≡ after_name j text.now }
+    ensures inside { length result.now ≤ length text.now }
 {
     let mut left = j;
-    for i in 0..text.len() {
-        if text[i] == b'=' {
+    for (i, &x) in text.iter().enumerate() {
+        if x == b'=' {
             if left == 0 {
-                return i + 1;
+                return &text[i + 1..];
             }
             left -= 1;
         }
     }
-    text.len()
+    &[]
 }
 
 // How many brackets are open after a byte, where `depth` were before it.
@@ -27,44 +27,33 @@ fn depth_after(depth: usize, x: u8) -> usize
     requires { depth < most_formula }
     ensures { result ≡ depth_after depth x }
 {
-    if x == b'(' {
-        return depth + 1;
+    match x {
+        b'(' => depth + 1,
+        b')' => depth.saturating_sub(1),
+        _ => depth,
     }
-    if x == b')' {
-        if depth == 0 {
-            return 0;
-        }
-        return depth - 1;
-    }
-    depth
 }
 
 // Whether the last operator outside of brackets is `/` after a byte, where it was so or not before it.
 fn nests_after(depth: usize, nests: bool, x: u8) -> bool
     ensures { result ≡ nests_after depth nests x }
 {
-    if depth != 0 {
-        return nests;
+    if depth == 0 {
+        x == b'/' || x != b'*' && nests
+    } else {
+        nests
     }
-    if x == b'/' {
-        return true;
-    }
-    if x == b'*' {
-        return false;
-    }
-    nests
 }
 
-// Whether name `later`, from 0, of those from `start` on is nested in the name before `start`.
-fn later_nested(text: &[u8], start: usize, later: usize) -> bool
+// Whether name `later`, from 0, of those in a text is nested in the name before the text.
+fn later_nested(text: &[u8], later: usize) -> bool
     requires { length text.now ≤ most_formula }
-    ensures { result ≡ get_or (later_nested 0 false (drop start text.now)) later false }
+    ensures { result ≡ get_or (later_nested 0 false text.now) later false }
 {
     let mut left = later;
     let mut depth = 0;
     let mut nests = false;
-    for i in start..text.len() {
-        let x = text[i];
+    for &x in text {
         if x == b'=' {
             if left == 0 {
                 return nests;
@@ -78,15 +67,23 @@ fn later_nested(text: &[u8], start: usize, later: usize) -> bool
     false
 }
 
+// Whether plots must agree in name `j` to share a level of name `i`: it is that name, or that name is nested in it.
+#[tactic(auto, using(crate::proofs::NestingLaws::sees_nested))]
+fn sees(text: &[u8], i: usize, j: usize) -> bool
+    requires { length text.now ≤ most_formula }
+    ensures { result ≡ sees text.now i j }
+{
+    i == j || j < i && later_nested(after_name(text, j), i - j - 1)
+}
+
 // The names in which plots must agree to share a level of name `i`: itself, and those it is nested in.
 pub fn seen_names(text: &[u8], i: usize) -> [bool; COLUMNS]
-    requires { (length text.now ≤ most_formula) × (i < most_columns) }
+    requires { length text.now ≤ most_formula }
     ensures { result ≡ seen_text text.now i }
 {
     let mut seen = [false; COLUMNS];
-    for j in 0..i {
-        seen[j] = later_nested(text, after_name(text, j), i - j - 1);
+    for (j, mark) in seen.iter_mut().enumerate() {
+        *mark = sees(text, i, j);
     }
-    seen[i] = true;
     seen
 }

@@ -1,49 +1,65 @@
 // The plots of a formula: all combinations of the counts, the first name slowest, and their levels.
-ghost use Rattle.std.specs.Prelude.{◌≡◌, ◌+◌, ◌*◌, ◌<◌, ◌≤◌, length};
-ghost use Rattle.std.proofs.Math.Seq.{paste};
-ghost use Rattle.rules.specs.Limits.{most_plots};
+ghost use Rattle.std.specs.Prelude.{◌≡◌, ◌<◌, length};
 ghost use Rattle.rules.specs.Family.{members_of};
 ghost use Rattle.block_formula.specs.Plots.{code_of, Counted, in_set, levels_by, Placed, columns_in};
 
 use crate::nesting;
 use limits::{COLUMNS, Level, PLOTS};
 
-// The place, from 0, of plot `u`'s combination of the names seen among all combinations of these.
-fn code(counts: &[u8], seen: [bool; COLUMNS], plots: usize, u: usize) -> usize
-    requires { Counted counts.now plots × (u < plots) }
-    ensures { result ≡ code_of counts.now (in_set seen) u }
-{
-    let mut code = 0;
-    let mut rest = u;
-    let mut size = plots;
-    for j in 0..counts.len() {
-        let c = counts[j] as usize;
-        size /= c;
-        if seen[j] {
-            code = code * c + rest / size;
+// The counts of a formula within the limits, and how many plots they make.
+#[derive(Clone, Copy)]
+pub struct Plots<'a> {
+    counts: &'a [u8],
+    plots: usize,
+    ghost counted: { Counted counts.now plots },
+}
+
+impl<'a> Plots<'a> {
+    pub fn new(counts: &'a [u8], plots: usize) -> Plots<'a>
+        requires { Counted counts.now plots }
+        ensures { (result.counts.now ≡ counts.now) × (result.plots ≡ plots) }
+    {
+        Plots { counts, plots }
+    }
+
+    // The place, from 0, of plot `u`'s combination of the names seen among all combinations of these.
+    fn code(&self, seen: [bool; COLUMNS], u: usize) -> usize
+        requires { u < self.now.plots }
+        ensures { result ≡ code_of self.now.counts.now (in_set seen) u }
+    {
+        let mut code = 0;
+        let mut rest = u;
+        let mut size = self.plots;
+        for (&count, &is_seen) in self.counts.iter().zip(&seen) {
+            let count = usize::from(count);
+            size /= count;
+            if is_seen {
+                code = code * count + rest / size;
+            }
+            rest %= size;
         }
-        rest %= size;
+        code
     }
-    code
-}
 
-// Writes the levels of column `i`, from 0.
-fn write_column(counts: &[u8], seen: [bool; COLUMNS], plots: usize, i: usize, levels: &mut [Level])
-    requires { Counted counts.now plots × (most_plots * i + plots ≤ length levels.old) }
-    ensures { levels.new ≡ paste levels.old (most_plots * i) (levels_by counts.now seen plots) plots }
-{
-    for u in 0..plots {
-        levels[PLOTS * i + u] = (code(counts, seen, plots, u) + 1) as Level;
+    // Writes the levels of a column, one for each plot.
+    fn write_column(&self, seen: [bool; COLUMNS], column: &mut [Level])
+        requires { length column.old ≡ self.now.plots }
+        ensures { column.new ≡ levels_by self.now.counts.now seen self.now.plots }
+    {
+        for (u, level) in column.iter_mut().enumerate() {
+            *level = (self.code(seen, u) + 1) as Level;
+        }
     }
-}
 
-// Writes the columns of all names.
-pub fn write_columns(text: &[u8], counts: &[u8], plots: usize, levels: &mut [Level])
-    requires { Counted counts.now plots × Placed text.now levels.old }
-    ensures { members_of plots levels.new (length counts.now) ≡ columns_in text.now counts.now plots }
-{
-    for i in 0..counts.len() {
-        let seen = nesting::seen_names(text, i);
-        write_column(counts, seen, plots, i, levels);
+    // Writes the columns of all names.
+    pub fn write_columns(&self, text: &[u8], levels: &mut [Level])
+        requires { Placed text.now levels.old }
+        ensures { members_of self.now.plots levels.new (length self.now.counts.now) ≡ columns_in text.now self.now.counts.now self.now.plots }
+    {
+        for i in 0..self.counts.len() {
+            let seen = nesting::seen_names(text, i);
+            let start = PLOTS * i;
+            self.write_column(seen, &mut levels[start..start + self.plots]);
+        }
     }
 }

@@ -4,7 +4,7 @@ use mathlib.Core.Path.{◌≡◌, refl, sym, ap, ap₂, ◌∙◌}
 use mathlib.Core.Bool.{false}
 use mathlib.Core.List.{List, ◌++◌, map, append_assoc}
 use native.Mathlib.Omega.{arith}
-use lib.ListN.{length, take, drop, replicate, length-append, length-take, length-replicate}
+use lib.ListN.{length, take, drop, replicate, length-append, length-replicate}
 use lib.Seq.{take_at}
 use Rattle.rules.specs.Sheet.{plot_mark, column_names, header, joined, names_differ}
 use Rattle.rules.specs.SheetText.{plot_heading}
@@ -12,7 +12,6 @@ use Rattle.rules.specs.Formula.{Formula, names_of, counts_of, plot_count, header
 use Rattle.rules.proofs.Formula.{counts_names, written_good}
 use Rattle.decimal.proofs.Writing.{written_all, place_all, wrote_length}
 use Rattle.writer.specs.Answers.{writing_numbers, answer_numbers}
-use Rattle.factor.specs.Lent.{overlay}
 use Rattle.block_formula.specs.Text.{headings}
 use Rattle.block_formula.proofs.TextLaws.{counts_are, next_heading, headings_are, headings_short, line_names}
 use Rattle.block_formula.proofs.AnswerLaws.{Readable, is_readable, alike_17, is_formula, names_18, plots_18, within_limits_lem}
@@ -55,22 +54,11 @@ line_is c =
     let n : c.write_headings-end.result - 3 ≡ length line = omega (arith, size_is c, line_length c) in
     ap₂ take n (c.write_headings-end.ensures.1 ∙ written_all (zeros 770) t (fits c) ∙ ap (λ (l : List ℕ). l ++ rest) (headings-is c) ∙ append_assoc line next_heading rest) ∙ take_at line (next_heading ++ rest) (length line) refl
 
-counts-number : (c : After-write_headings-end) → c.read_counts-names.result ≡ length (counts_of (formula c))
-counts-number c = c.read_counts-names.ensures.answer ∙ ap length (counts_are (parsed c).written)
+counts_is : (c : After-write_headings-end) → c.read_counts-counts.result.now ≡ counts_of (formula c)
+counts_is c = c.read_counts-counts.ensures ∙ counts_are (parsed c).written
 
-names-are : (c : After-write_headings-end) → c.read_counts-names.result ≡ length (names_of (formula c))
-names-are c = counts-number c ∙ counts_names (formula c)
-
-counts_is : (c : After-write_headings-end) → take c.read_counts-names.result c.read_counts-names.new.counts ≡ counts_of (formula c)
-counts_is c =
-    let cs = counts_of (formula c) in
-    ap₂ take (counts-number c) (c.read_counts-names.ensures.list ∙ ap (overlay (zeros 256)) (counts_are (parsed c).written)) ∙ take_at cs (drop (length cs) (zeros 256)) (length cs) refl
-
-counts-length : (c : After-write_headings-end) → c.read_counts-names.result ≡ length (take c.read_counts-names.result c.read_counts-names.new.counts)
-counts-length c = counts-number c ∙ sym (ap length (counts_is c))
-
-counts-long : (c : After-write_headings-end) → c.read_counts-names.result ≤ length c.read_counts-names.new.counts
-counts-long c = omega (arith, counts-length c, length-take c.read_counts-names.result c.read_counts-names.new.counts)
+names-are : (c : After-write_headings-end) → length c.read_counts-counts.result.now ≡ length (names_of (formula c))
+names-are c = ap length (counts_is c) ∙ counts_names (formula c)
 
 -- the names in the first line are the formula's
 names-is : (c : After-write_headings-end) → column_names plot_mark (header (take (c.write_headings-end.result - 3) c.write_headings-end.new.out)) ≡ names_of (formula c)
@@ -81,8 +69,8 @@ differ-is : (c : After-names_differ) → c.names_differ.result ≡ names_differ 
 unfolding header_of
 differ-is c = c.names_differ.ensures ∙ ap (λ (ns : List (List ℕ)). names_differ (map plot_heading ns)) (names-is (goal.at.After-names_differ c).After-write_headings-end)
 
-pub read_counts-names-requires : goal.read_counts-names-requires
-read_counts-names-requires c = (is_readable c.args.formula.now c.requires.1).most
+pub read_counts-counts-requires : goal.read_counts-counts-requires
+read_counts-counts-requires c = (is_readable c.args.formula.now c.requires.1).most
 
 pub overflow_sub-end : goal.overflow_sub-end
 overflow_sub-end c =
@@ -114,25 +102,15 @@ returns-then-not-names_differ c =
       sheet = refl;
     }
 
-pub returns-then-names-gt-COLUMNS : goal.returns-then-names-gt-COLUMNS
+pub returns-then-counts-gt-COLUMNS : goal.returns-then-counts-gt-COLUMNS
 unfolding writing_numbers answer_numbers
-returns-then-names-gt-COLUMNS c =
-    let w = (goal.at.returns-then-names-gt-COLUMNS c).After-write_headings-end in
+returns-then-counts-gt-COLUMNS c =
+    let w = (goal.at.returns-then-counts-gt-COLUMNS c).After-write_headings-end in
     let a = w.args in
-    rw (names_18 a.formula.now (length a.out.now) w.requires.0 (parsed w) (sym (differ-is (goal.at.returns-then-names-gt-COLUMNS c).After-names_differ) ∙ c.if-not-names_differ.false) (omega (arith, names-are w))) record {
+    rw (names_18 a.formula.now (length a.out.now) w.requires.0 (parsed w) (sym (differ-is (goal.at.returns-then-counts-gt-COLUMNS c).After-names_differ) ∙ c.if-not-names_differ.false) (omega (arith, names-are w))) record {
       answer = refl;
       sheet = refl;
     }
-
-pub slice_bounds-counts-end : goal.slice_bounds-counts-end
-slice_bounds-counts-end c =
-    let w = (goal.at.slice_bounds-counts-end c).After-write_headings-end in
-    omega (arith, counts-long w)
-
-pub slice_bounds-plot_count-end : goal.slice_bounds-plot_count-end
-slice_bounds-plot_count-end c =
-    let w = (goal.at.slice_bounds-plot_count-end c).After-write_headings-end in
-    counts-length w
 
 pub returns-then-plots-gt-PLOTS : goal.returns-then-plots-gt-PLOTS
 unfolding writing_numbers answer_numbers
@@ -144,16 +122,6 @@ returns-then-plots-gt-PLOTS c =
       answer = refl;
       sheet = refl;
     }
-
-pub slice_bounds-counts-end-2 : goal.slice_bounds-counts-end-2
-slice_bounds-counts-end-2 c =
-    let w = (goal.at.slice_bounds-counts-end-2 c).After-write_headings-end in
-    omega (arith, counts-long w)
-
-pub slice_bounds-write_plots-end : goal.slice_bounds-write_plots-end
-slice_bounds-write_plots-end c =
-    let w = (goal.at.slice_bounds-write_plots-end c).After-write_headings-end in
-    counts-length w
 
 pub write_plots-requires : goal.write_plots-requires
 write_plots-requires c =

@@ -2,7 +2,8 @@
 use Prim.Native.Nat.{ℕ, ◌≤◌}
 use mathlib.Core.Path.{◌≡◌, sym, ap, ap₂, ◌∙◌, subst}
 use mathlib.Core.Bool.{true}
-use mathlib.Core.List.{List}
+use mathlib.Core.List.{List, [], ◌∷◌}
+use Rattle.std.proofs.Common.{length-take-le}
 use native.Mathlib.Omega.{arith}
 use lib.ListN.{length, length-replicate}
 use Rattle.rules.specs.Factor.{Column}
@@ -24,14 +25,18 @@ written_is {plots = plots} w e =
     ap₂ (λ (l : List ℕ) (Ds : List Column). sheet_bytes l plots Ds) w.line_is e ∙ sheet_bytes_lem plots (header_of w.formula) (columns_of w.formula)
     ∙ ap (λ (n : ℕ). sheet_text n (header_of w.formula) (columns_of w.formula)) w.plots_are
 
-pub shared_ref_as_front-write_sheet : goal.shared_ref_as_front-write_sheet
-shared_ref_as_front-write_sheet c = few_names c.requires
+pub slice_bounds-columns-end : goal.slice_bounds-columns-end
+slice_bounds-columns-end c = sym (length-take-le (length c.args.counts.now) (0 ∷ 1 ∷ 2 ∷ 3 ∷ 4 ∷ 5 ∷ []) (few_names c.requires))
+
+pub new-requires : goal.new-requires
+new-requires c =
+    let p = c.requires in
+    record { names = few_names p; plots_are = p.plots_are ∙ ap plot_count (sym p.counts_are); few = few_plots p }
 
 pub write_columns-requires : goal.write_columns-requires
 write_columns-requires c =
-    let p = c.requires in
     let z : ℕ = 0 in
-    (record { names = few_names p; plots_are = p.plots_are ∙ ap plot_count (sym p.counts_are); few = few_plots p }, record { short = p.is_formula.most; room = omega (arith, length-replicate 2880 z) })
+    record { short = c.requires.is_formula.most; room = omega (arith, length-replicate 2880 z) }
 
 pub returns : goal.returns
 unfolding writing_numbers answer_numbers
@@ -42,12 +47,12 @@ returns c =
     let text = a.formula.now in
     let sheet = sheet_of p.formula in
     let k = c.write_columns in
-    let levels = k.new.levels in
+    let written = rw (c.new.ensures.0, c.new.ensures.1) at k.ensures in
     let m = length a.counts.now in
-    let columns = first_columns a.plots levels m (few_names p) ∙ k.ensures ∙ columns_in_lem p in
+    let columns = first_columns a.plots k.new.levels m (few_names p) ∙ written ∙ columns_in_lem p in
     let answer = answered_0 text p.formula (length out) p.room p.is_formula p.limits in
     let fits : length sheet ≤ length out = subst (λ (x : SheetAnswer). length x.sheet ≤ length out) answer (formula_fits text (length out)) in
-    let wrote = wrote_as out 0 (written_is p columns) c.write_sheet-size.ensures in
+    let wrote = wrote_as out 0 (written_is p columns) c.write_sheet.ensures in
     rw answer record {
       answer = ap (λ (n : ℕ). record { accepted = true; refusal = 0; size = n }) (wrote.0 ∙ place_all out sheet fits);
       sheet = wrote.1 ∙ written_all out sheet fits;

@@ -1,13 +1,7 @@
--- `nesting::seen_names`: the loop's invariant: the array marks the names before `j` that name `i` is nested in.
-use Prim.Native.Nat.{◌-◌, ◌≤◌}
-use mathlib.Core.Path.{◌≡◌}
-use lib.ListN.{length}
-use Rattle.rules.specs.Limits.{most_columns}
-use Rattle.block_formula.proofs.NestingLaws.{marked}
+-- `nesting::seen_names`: the loop's invariant: the marks before `j` are those of the names that name `i` sees.
+use Rattle.std.proofs.Common.{◌≡◌, ◌<◌, ℕ, false, get_or}
+use Rattle.block_formula.specs.Text.{sees}
 use Rattle.block_formula.proofs.nesting.seen_names.Given as goal
 
 abbrev pub invariant-loop-j : goal.invariant-loop-j
-invariant-loop-j l = (l.j ≤ l.i) × (length l.seen ≡ most_columns) × (l.seen ≡ marked l.text l.i l.j)
-
-abbrev pub decreases-loop-j : goal.decreases-loop-j
-decreases-loop-j l = l.i - l.j
+invariant-loop-j l = (k : ℕ) → k < l.j → get_or l.mark-items k false ≡ sees l.text l.i k
