@@ -20,7 +20,7 @@ use Rattle.rules.proofs.Orthogonality.{same_test, orthogonal_test_plots}
 use Rattle.factor.specs.Lent.{plots_of}
 use Rattle.factor.specs.Sizes.{labelled, sizes}
 use Rattle.standing.specs.Joining.{Below, OneClass, EntriesJoin, spread}
-use Rattle.standing.specs.Cells.{CellsInside, LabelSizes, EntrySizes, Listed, cell_size, even_cells}
+use Rattle.standing.specs.Cells.{LabelSizes, EntrySizes, Listed, cell_size, even_cells}
 use Rattle.standing.proofs.Joining.{joins_supremum, spread_at}
 
 -- ---- the cell of two labels
@@ -44,10 +44,10 @@ cell_unique w x y a b hy hb e =
     (q, omega arith)))
 
 -- cells of labels below a and w
-pub inside_below : (a w n : ℕ) (F G : Column) → length G ≡ length F → Below a F → Below w G → a * w ≤ n → CellsInside w n F G
+pub inside_below : (a w n : ℕ) (F G : Column) → length G ≡ length F → Below a F → Below w G → a * w ≤ n → (u : ℕ) → u < length F → w * at F u + at G u < n
 inside_below a w n F G l bf bg h u hu =
     let hg : at G u < w = bg u (rw l hu) in
-    (hg, omega (arith, cell_below w a (at F u) (at G u) (bf u hu) hg, mul_comm a w))
+    omega (arith, cell_below w a (at F u) (at G u) (bf u hu) hg, mul_comm a w)
 
 -- ---- sizes of labels
 
@@ -95,9 +95,9 @@ module _ (t : List ℕ) (F : Column) where
   entry_sizes_one one r e u hu = e u hu ∙ sym (count_all (length F) _ (λ v hv. eq-eqb _ _ (one u v hu hv)))
 
   -- the plots of each entry are counted
-  pub entry_sizes_all : (r : List ℕ) → ((y : ℕ) → y < 256 → at r y ≡ labelled (length F) (spread t F) y) → ((x : ℕ) → at t x < 256) → EntrySizes t F r
+  pub entry_sizes_all : (r : List ℕ) → ((y : ℕ) → y < 256 → at r y ≡ labelled (length F) (spread t F) y) → ((u : ℕ) → u < length F → at t (at F u) < 256) → EntrySizes t F r
   unfolding class_size labelled
-  entry_sizes_all r e bytes u hu = e (at t (at F u)) (bytes (at F u)) ∙ ap (labelled (length F) (spread t F)) (sym (spread_at t F u hu))
+  entry_sizes_all r e bytes u hu = e (at t (at F u)) (bytes u hu) ∙ ap (labelled (length F) (spread t F)) (sym (spread_at t F u hu))
 
   -- how many plots have the entry y, and a label below x
   unfoldable pub entered : ℕ → ℕ → ℕ

@@ -2,15 +2,16 @@
 -- Assumes nothing.
 use mathlib.Core.Path.{◌≡◌, refl, sym, ap, ap₂, ◌∙◌}
 use mathlib.Core.Bool.{true, false}
-use mathlib.Core.List.{List, [], ◌∷◌, ◌++◌, map}
+use mathlib.Core.List.{List, [], ◌∷◌, ◌++◌, map, append-nil}
 use Prim.Native.Nat.{ℕ, zero, suc, ◌+◌, ◌≤◌, ◌<◌}
-use native.Mathlib.Nat.{not-suc-le-zero, le_of_suc-le-suc, suc_inj}
-use native.Mathlib.Numerals.{add-one}
+use native.Mathlib.Nat.{not-suc-le-zero, le_of_suc-le-suc}
 use native.Mathlib.Omega.{arith}
 use lib.Dec.{eqb}
-use lib.ListN.{length, take, drop, set, length-map, replicate, take-append-drop}
-use lib.Seq.{get_or-set_same, get_or-set_other, drop-cons, get_or_at, length-take-le, ext_get_or}
+use lib.ListN.{length, get_or, take, drop, set, length-map, replicate, take-append-drop}
+use lib.Seq.{get_or-set_same, get_or-set_other, drop-cons, drop-length, take-length, get_or_at, get_or-take, length-take-le, ext_get_or}
 use borrow.Author.Tests.{eqb-true, eqb-false, eq-eqb, ne_eqb}
+use Rattle.std.proofs.Common.{Option, None, Some}
+use Rattle.std.proofs.lemmas.List.{take-map}
 use Rattle.rules.specs.Factor.{Column, at, Same, Equivalent, index_of, relabel, number, classes, universal, supremum}
 use Rattle.rules.proofs.Numbering.{by_cases, eqb_self, has_get_d, get_d_place, numbering_at, number_same, length_number}
 use Rattle.rules.proofs.Supremum.{length_relabel, number_supremum}
@@ -19,8 +20,9 @@ use Rattle.rules.proofs.Columns.{classes_equivalent, Earlier}
 use Rattle.rules.proofs.Extremes.{number_universal, length_universal}
 use Rattle.rules.proofs.ClassCount.{finer_universal, classes_universal}
 use Rattle.factor.proofs.Fill.{filled, length_filled, get_d_filled}
-use Rattle.factor.proofs.Table.{get_d_zeros}
 use Rattle.standing.specs.Cells.{Stands}
+use Rattle.standing.specs.Numbers.{or_none}
+use Rattle.standing.proofs.NumberTable.{get_none}
 use Rattle.standing.specs.Joining.{Below, Own, OneEntry, OneClass, Links, EntriesJoin, Among, InOrder, LabelsNumbered, relabelled, spread}
 
 -- ---- entries of labels
@@ -57,6 +59,11 @@ rename_no : (a b x : ℕ) → (x ≡ a → ⊥) → rename a b x ≡ x
 unfolding rename
 rename_no a b x e = rw (ne_eqb x a e, rename)
 
+-- bytes stay bytes
+rename_byte : (a b x : ℕ) → b < 256 → x < 256 → rename a b x < 256
+rename_byte a b x hb hx =
+    by_cases (eqb x a) (λ e. rw (rename_yes a b x (eqb-true x a e)) hb) (λ e. rw (rename_no a b x (eqb-false x a e)) hx)
+
 -- relabelling a list is renaming its elements
 relabel_map : (a b : ℕ) (L : Column) → relabel a b L ≡ map (rename a b) L
 unfolding relabel
@@ -71,6 +78,11 @@ relabel_at : (a b : ℕ) (L : Column) (u : ℕ) → u < length L → at (relabel
 relabel_at a b L u h = rw (relabel_map a b L) (at_map (rename a b) L u h)
 
 -- the next entry of a list that is relabelled from its start
+-- a list that is relabelled to its end
+pub filled_all : (L r : List ℕ) (i : ℕ) → length r ≡ length L → i ≡ length L → filled L r i ≡ r
+filled_all L r i l e =
+    rw e (ap₂ (λ (a b : List ℕ). a ++ b) (ap (λ (n : ℕ). take n r) (sym l) ∙ take-length r) (drop-length L) ∙ append-nil r)
+
 module _ (a b : ℕ) (L l : Column) (u : ℕ) (h : u < length L) (e : l ≡ filled L (relabel a b L) u) where
   next_entry : at l u ≡ at L u
   next_entry =
@@ -108,6 +120,18 @@ module _ (top : ℕ) (t : List ℕ) (h : top ≤ length t) where
   unfolding relabelled
   relabelled_at a b x k = get_d_filled t (relabel a b t) top x 0 k (rw length_relabel h) ∙ relabel_at a b t x (omega arith)
 
+  pub relabelled_byte : (a b x : ℕ) → x < top → b < 256 → at t x < 256 → at (relabelled top a b t) x < 256
+  relabelled_byte a b x k hb hx = rw (relabelled_at a b x k) (rename_byte a b (at t x) hb hx)
+
+-- a part of a list that is relabelled
+relabel_take : (a b n : ℕ) (L : Column) → relabel a b (take n L) ≡ take n (relabel a b L)
+relabel_take a b n L =
+    relabel_map a b (take n L) ∙ sym (take-map (rename a b) n L) ∙ sym (ap (take n) (relabel_map a b L))
+
+pub relabelled_part : (top a b : ℕ) (t new : List ℕ) → new ≡ relabel a b (take top t) → new ++ drop top t ≡ relabelled top a b t
+unfolding relabelled
+relabelled_part top a b t new e = ap (λ (l : List ℕ). l ++ drop top t) (e ∙ relabel_take a b top t)
+
 -- ---- joining along the classes of G
 
 module _ (F G : Column) where
@@ -115,23 +139,23 @@ module _ (F G : Column) where
   abbrev pub Sound : List ℕ → Type 0
   Sound t = (h : ℕ → ℕ) → Links F G h → (u v : ℕ) → u < length F → v < length F → at t (at F u) ≡ at t (at F v) → h (at F u) ≡ h (at F v)
 
-  -- the F-label of a plot of p's G-class, plus 1, is held for that class; its entry is that of p's label
-  record Link (u : ℕ) (first t : List ℕ) (p : ℕ) : Type 0 where
+  -- the F-label of a plot of p's G-class is held for that class; its entry is that of p's label
+  record Link (u : ℕ) (first : List (Option ℕ)) (t : List ℕ) (p : ℕ) : Type 0 where
     plot : ℕ
     less : plot < u
     shares : Same G plot p
-    holds : at first (at G p) ≡ suc (at F plot)
+    holds : get_or first (at G p) None ≡ Some (at F plot)
     entry : at t (at F plot) ≡ at t (at F p)
 
   -- such a label is held for each class with a plot before plot u, and for no other
-  pub record Linked (u : ℕ) (first t : List ℕ) : Type 0 where
+  pub record Linked (u : ℕ) (first : List (Option ℕ)) (t : List ℕ) : Type 0 where
     known : (p : ℕ) → p < u → Link u first t p
-    only : (y : ℕ) → 0 < at first y → Earlier G u y
+    only : (y x : ℕ) → get_or first y None ≡ Some x → Earlier G u y
 
-  pub linked_none : (t : List ℕ) → Linked 0 (replicate 256 0) t
+  pub linked_none : (t : List ℕ) → Linked 0 (replicate 256 None) t
   linked_none t = record {
     known = λ p h. absurd (not-suc-le-zero h);
-    only = λ y h. absurd (not-suc-le-zero (rw (get_d_zeros 256 y) at h));
+    only = λ y x e. absurd (cc (get_none 256 y));
   }
 
   later : {u y : ℕ} → Earlier G u y → Earlier G (u + 1) y
@@ -141,38 +165,31 @@ module _ (F G : Column) where
   last_or_before p u h ne = omega (arith, ne)
 
   -- plot u is the first of its class
-  pub linked_new : (u : ℕ) (first t : List ℕ) → Linked u first t → at first (at G u) ≡ 0 → at G u < length first → Linked (u + 1) (set first (at G u) (at F u + 1)) t
+  pub linked_new : (u : ℕ) (first : List (Option ℕ)) (t : List ℕ) → Linked u first t → get_or first (at G u) None ≡ None → at G u < length first → Linked (u + 1) (set first (at G u) (Some (at F u))) t
   linked_new u first t linked z h = record {
     known = λ p hp. by_cases (eqb p u)
         (λ e. let q : p ≡ u = eqb-true p u e in
-        record { plot = u; less = omega arith; shares = ap (at G) (sym q); holds = ap (λ (x : ℕ). at (set first (at G u) (at F u + 1)) (at G x)) q ∙ get_or-set_same first (at G u) (at F u + 1) 0 h ∙ add-one (at F u); entry = ap (λ (x : ℕ). at t (at F x)) (sym q) })
+        record { plot = u; less = omega arith; shares = ap (at G) (sym q); holds = ap (λ (x : ℕ). get_or (set first (at G u) (Some (at F u))) (at G x) None) q ∙ get_or-set_same first (at G u) (Some (at F u)) None h; entry = ap (λ (x : ℕ). at t (at F x)) (sym q) })
         (λ e. let k = linked.known p (last_or_before p u hp (eqb-false p u e)) in
-        let ne : at G p ≡ at G u → ⊥ = λ q. let s : at first (at G p) ≡ 0 = ap (at first) q ∙ z in omega (arith, k.holds) in
-        record { plot = k.plot; less = omega (arith, k.less); shares = k.shares; holds = get_or-set_other first (at G u) (at G p) (at F u + 1) 0 ne ∙ k.holds; entry = k.entry });
-    only = λ y hy. by_cases (eqb y (at G u))
+        let ne : at G p ≡ at G u → ⊥ = λ q. let s : get_or first (at G p) None ≡ None = ap (λ (y : ℕ). get_or first y None) q ∙ z in cc (k.holds) in
+        record { plot = k.plot; less = omega (arith, k.less); shares = k.shares; holds = get_or-set_other first (at G u) (at G p) (Some (at F u)) None ne ∙ k.holds; entry = k.entry });
+    only = λ y x hy. by_cases (eqb y (at G u))
         (λ e. record { plot = u; less = omega arith; label = sym (eqb-true y (at G u) e) })
-        (λ e. later (linked.only y (rw (get_or-set_other first (at G u) y (at F u + 1) 0 (eqb-false y (at G u) e)) at hy)));
+        (λ e. later (linked.only y x (sym (get_or-set_other first (at G u) y (Some (at F u)) None (eqb-false y (at G u) e)) ∙ hy)));
   }
 
   -- a plot of its class was before it
-  pub record Met (u : ℕ) (first t : List ℕ) : Type 0 where
+  pub record Met (u : ℕ) (first : List (Option ℕ)) (t : List ℕ) : Type 0 where
     pub plot : ℕ
     pub less : plot < u
     pub shares : Same G plot u
-    pub holds : at first (at G u) ≡ suc (at F plot)
+    pub holds : get_or first (at G u) None ≡ Some (at F plot)
 
-  pub met : (u : ℕ) (first t : List ℕ) → Linked u first t → (at first (at G u) ≡ 0 → ⊥) → Met u first t
-  met u first t linked ne =
-      let e = linked.only (at G u) (omega (arith, ne)) in
+  pub met : (u : ℕ) (first : List (Option ℕ)) (t : List ℕ) → Linked u first t → (w : ℕ) → get_or first (at G u) None ≡ Some w → Met u first t
+  met u first t linked w held =
+      let e = linked.only (at G u) w held in
       let k = linked.known e.plot e.less in
-      record { plot = k.plot; less = k.less; shares = k.shares ∙ e.label; holds = ap (at first) (sym e.label) ∙ k.holds }
-
-  -- what is held is no more than 256
-  pub held_small : (u : ℕ) (first t : List ℕ) → Linked u first t → u ≤ length F → ((v : ℕ) → at F v < 256) → at first (at G u) ≤ 256
-  held_small u first t linked h bytes =
-      by_cases (eqb (at first (at G u)) 0)
-      (λ e. let z : at first (at G u) ≡ 0 = eqb-true _ 0 e in omega arith)
-      (λ e. let m = met u first t linked (eqb-false _ 0 e) in omega (arith, m.holds, bytes m.plot))
+      record { plot = k.plot; less = k.less; shares = k.shares ∙ e.label; holds = ap (λ (y : ℕ). get_or first y None) (sym e.label) ∙ k.holds }
 
 module _ (F G : Column) (l : length G ≡ length F) where
   pub sound_own : (t : List ℕ) → Own F t → Sound F G t
@@ -227,7 +244,7 @@ module _ (F G : Column) (l : length G ≡ length F) where
         go (kept x) (kept y) = sound val links u v hu hv (sym x ∙ e ∙ y)
 
   -- the labels of the two plots get one entry
-  module _ (u : ℕ) (first t : List ℕ) (linked : Linked F G u first t) (sound : Sound F G t) (m : Met F G u first t) (hu : u < length F) (top : ℕ) (h : top ≤ length t) (below : Below top F) where
+  module _ (u : ℕ) (first : List (Option ℕ)) (t : List ℕ) (linked : Linked F G u first t) (sound : Sound F G t) (m : Met F G u first t) (hu : u < length F) (top : ℕ) (h : top ≤ length t) (below : Below top F) where
     before : m.plot < length F
     before = omega (arith, m.less)
 
@@ -235,29 +252,37 @@ module _ (F G : Column) (l : length G ≡ length F) where
     linked_old = record {
       known = λ p hp. by_cases (eqb p u)
           (λ e. let q : p ≡ u = eqb-true p u e in
-          record { plot = m.plot; less = omega (arith, m.less); shares = m.shares ∙ ap (at G) (sym q); holds = ap (λ (x : ℕ). at first (at G x)) q ∙ m.holds; entry = sym (merge_links top t h below u m.plot hu before) ∙ ap (λ (x : ℕ). at (relabelled top (at t (at F u)) (at t (at F m.plot)) t) (at F x)) (sym q) })
+          record { plot = m.plot; less = omega (arith, m.less); shares = m.shares ∙ ap (at G) (sym q); holds = ap (λ (x : ℕ). get_or first (at G x) None) q ∙ m.holds; entry = sym (merge_links top t h below u m.plot hu before) ∙ ap (λ (x : ℕ). at (relabelled top (at t (at F u)) (at t (at F m.plot)) t) (at F x)) (sym q) })
           (λ e. let less-u = last_or_before F G p u hp (eqb-false p u e) in
           let k = linked.known p less-u in
           record { plot = k.plot; less = omega (arith, k.less); shares = k.shares; holds = k.holds; entry = merge_keeps top t h below u m.plot hu before k.plot p (omega (arith, k.less)) (omega (arith, less-u)) k.entry });
-      only = λ y hy. later F G (linked.only y hy);
+      only = λ y x hy. later F G (linked.only y x hy);
     }
 
     pub sound_old : Sound F G (relabelled top (at t (at F u)) (at t (at F m.plot)) t)
     sound_old = merge_sound top t h below u m.plot hu before sound (sym m.shares)
 
   -- all plots are linked
-  pub joined_all : (first t : List ℕ) → Linked F G (length F) first t → Sound F G t → EntriesJoin F G t
+  pub joined_all : (first : List (Option ℕ)) (t : List ℕ) → Linked F G (length F) first t → Sound F G t → EntriesJoin F G t
   joined_all first t linked sound = record { links = along; least = sound }
     where
       along : Links F G (at t)
       along u v hu hv e =
           let p = linked.known u hu in
           let q = linked.known v hv in
-          sym p.entry ∙ ap (at t) (suc_inj (sym p.holds ∙ ap (at first) e ∙ q.holds)) ∙ q.entry
+          let held : Some (at F p.plot) ≡ Some (at F q.plot) = sym p.holds ∙ ap (λ (y : ℕ). get_or first y None) e ∙ q.holds in
+          sym p.entry ∙ ap (at t) (ap or_none held) ∙ q.entry
 
   -- all labels have one entry
   pub joined_one : (top : ℕ) (t : List ℕ) → Below top F → OneEntry top t → Sound F G t → EntriesJoin F G t
   joined_one top t below one sound = record { links = λ u v hu hv e. one (at F u) (at F v) (below u hu) (below v hv); least = sound }
+
+-- the list of the first entries has one value
+pub one_value : (top b : ℕ) (t : List ℕ) → top ≤ length t → ((k : ℕ) → k < length (take top t) → at (take top t) k ≡ b) → OneEntry top t
+one_value top b t h same x y hx hy = value x hx ∙ sym (value y hy)
+  where
+    value : (z : ℕ) → z < top → at t z ≡ b
+    value z k = sym (get_or-take top t z 0 k) ∙ same z (rw (length-take-le top t h) k)
 
 -- ---- the classes that the entries make
 
@@ -296,11 +321,6 @@ module _ (F G : Column) (l : length G ≡ length F) where
           spread_at t F u hu ∙ ap (at t) (sym p.first) ∙ joins.links p.plot q.plot p.less q.less (p.second ∙ e ∙ sym q.second) ∙ ap (at t) q.first ∙ sym (spread_at t F v hv));
     }
 
-  -- one entry makes one class
-  module _ (top : ℕ) (t : List ℕ) (below : Below top F) (one : OneEntry top t) where
-    pub one_entry : (u v : ℕ) → u < length F → v < length F → Same (spread t F) u v
-    one_entry u v hu hv = spread_at t F u hu ∙ one (at F u) (at F v) (below u hu) (below v hv) ∙ sym (spread_at t F v hv)
-
   -- ---- the numbers of the entries
 
   module _ (t : List ℕ) (e : Equivalent (length F) (spread t F) (supremum F G)) where
@@ -313,6 +333,10 @@ module _ (F G : Column) (l : length G ≡ length F) where
     -- they have its number of classes
     pub classes_spread : classes (spread t F) ≡ classes (supremum F G)
     classes_spread = classes_equivalent (length F) (spread t F) (supremum F G) (length_spread t F) (length_supremum' (length F) F G refl l) e
+
+-- one entry makes one class
+pub one_entry : (F : Column) (top : ℕ) (t : List ℕ) → Below top F → OneEntry top t → OneClass t F
+one_entry F top t below one u v hu hv = spread_at t F u hu ∙ one (at F u) (at F v) (below u hu) (below v hv) ∙ sym (spread_at t F v hv)
 
 -- one entry of all plots makes one class
 module _ (t : List ℕ) (F : Column) (one : OneClass t F) where

@@ -1,3 +1,4 @@
+mod NumberTable
 pub mod Codes
 pub mod Joining
 pub mod CellTable

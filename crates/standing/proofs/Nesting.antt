@@ -6,16 +6,18 @@ use mathlib.Core.List.{List}
 use Prim.Native.Nat.{ℕ, ◌+◌, ◌*◌, ◌≤◌}
 use native.Mathlib.Omega.{arith}
 use lib.ListN.{length, take}
-use Rattle.rules.specs.Factor.{Column, Finer, number, classes, supremum, finer, orthogonal}
+use Rattle.std.proofs.Common.{inl, inr}
+use Rattle.rules.specs.Factor.{Column, Finer, number, classes, infimum, supremum, finer, orthogonal}
 use Rattle.rules.specs.Comparison.{first_fitting, comparison, passes, pair_passes}
 use Rattle.rules.proofs.Columns.{classes_number}
 use Rattle.rules.proofs.Classes.{finer_test}
 use Rattle.rules.proofs.Tests.{orthogonal_test, orthogonal_sym}
 use Rattle.rules.proofs.Orthogonality.{same_test}
-use Rattle.rules.proofs.Bounds.{nested_orthogonal, supremum_comm, supremum_coarser_is}
+use Rattle.rules.proofs.Bounds.{nested_orthogonal, infimum_comm, supremum_comm, supremum_coarser_is}
 use Rattle.rules.proofs.Comparison.{comparison_passes}
 use Rattle.factor.specs.Lent.{column_at, common, test_common}
 use Rattle.factor.proofs.Lent.{length_part, test_parts}
+use Rattle.standing.specs.Cells.{Paired}
 
 -- where G is finer than F: the supremum is F itself, numbered, and they are orthogonal
 module _ (F G : Column) (l : length G ≡ length F) (e : finer (length F) G F ≡ true) where
@@ -37,6 +39,20 @@ orthogonal_flip n F G l_f l_g =
     same_test (orthogonal n F G) (orthogonal n G F)
     (λ e. (orthogonal_test n G F).1 (orthogonal_sym n F G l_f l_g ((orthogonal_test n F G).0 e)))
     (λ e. (orthogonal_test n F G).1 (orthogonal_sym n G F l_g l_f ((orthogonal_test n G F).0 e)))
+
+-- what two columns make is the same in both orders
+module _ (n : ℕ) (X Y A B : Column) (lx : length X ≡ n) (ly : length Y ≡ n) (paired : Paired A B X Y) where
+  pub paired_infimum : infimum A B ≡ infimum X Y
+  paired_infimum = elim paired [ inl p ↦ ap₂ infimum p.0 p.1 | inr p ↦ ap₂ infimum p.0 p.1 ∙ infimum_comm n Y X ly lx ]
+
+  pub paired_supremum : supremum A B ≡ supremum X Y
+  paired_supremum = elim paired [ inl p ↦ ap₂ supremum p.0 p.1 | inr p ↦ ap₂ supremum p.0 p.1 ∙ supremum_comm n Y X ly lx ]
+
+  pub paired_orthogonal : orthogonal (length A) A B ≡ orthogonal n X Y
+  paired_orthogonal = elim paired [
+    | inl p ↦ ap₂ (λ (F G : Column). orthogonal (length F) F G) p.0 p.1 ∙ ap (λ (m : ℕ). orthogonal m X Y) lx
+    | inr p ↦ ap₂ (λ (F G : Column). orthogonal (length F) F G) p.0 p.1 ∙ ap (λ (m : ℕ). orthogonal m Y X) ly ∙ orthogonal_flip n Y X ly lx
+  ]
 
 -- ---- how two lent columns stand, by the tests over their common plots
 

@@ -1,10 +1,10 @@
 -- Cells: a cell is what a class of F and a class of G have in common. It is known by the two labels.
 -- Assumes nothing.
-use Rattle.std.specs.Prelude.{◌≡◌, Bool, true, false, List, ℕ, zero, suc, ◌+◌, ◌*◌, ◌≤◌, ◌<◌, eqb, length, take, replicate}
+use Rattle.std.specs.Prelude.{◌≡◌, Bool, true, false, List, ℕ, zero, suc, ◌+◌, ◌*◌, ◌≤◌, ◌<◌, ◌⊎◌, eqb, length, take}
 use Rattle.rules.specs.Limits.{most_plots}
 use Rattle.rules.specs.Factor.{Column, at, every, classes, class_size, infimum}
 use Rattle.factor.specs.Sizes.{labelled}
-use Rattle.standing.specs.Joining.{Below, InOrder, OneClass, spread}
+use Rattle.standing.specs.Joining.{Below, InOrder, spread}
 
 -- one of the first n plots has the labels x and y
 pub record Plot (n : ℕ) (F G : Column) (x y : ℕ) : Type 0 where
@@ -12,10 +12,6 @@ pub record Plot (n : ℕ) (F G : Column) (x y : ℕ) : Type 0 where
   pub less : plot < n
   pub first : at F plot ≡ x
   pub second : at G plot ≡ y
-
--- labels x and y make cell w × x + y: the G-labels are below w, and all cells are below n
-abbrev pub CellsInside : ℕ → ℕ → Column → Column → Type 0
-CellsInside w n F G = (u : ℕ) → u < length F → (at G u < w) × (w * at F u + at G u < n)
 
 -- one of the first u plots is in the cell listed at place i, which is the class i + 1 of the infimum
 pub record Cell (u : ℕ) (F G X Y : Column) (i : ℕ) : Type 0 where
@@ -70,50 +66,23 @@ unfoldable pub sum_at : (ℕ → ℕ) → Column → ℕ → ℕ → ℕ
 sum_at t H zero x = 0
 sum_at t H (suc i) x = sum_at t H i x + elim (eqb x (at H i)) [ true ↦ t i | false ↦ 0 ]
 
--- ---- what the functions over two columns and their cells start from
-
 -- two columns of one length; the labels of F are below a, those of G below w
-abbrev pub InRanges : ℕ → ℕ → Column → Column → Type 0
-InRanges a w F G = (length F ≤ most_plots) × (length G ≡ length F) × (a ≤ 256) × (w ≤ 256) × Below a F × Below w G
+pub record InRanges (a w : ℕ) (F G : Column) : Type 0 where
+  pub few : length F ≤ most_plots
+  pub even : length G ≡ length F
+  pub few_f : a ≤ 256
+  pub few_g : w ≤ 256
+  pub below_f : Below a F
+  pub below_g : Below w G
 
--- no cell is numbered yet, and none listed
-abbrev pub Unnumbered : ℕ → Column → Column → List ℕ → Column → Column → Type 0
-Unnumbered w F G numbers X Y =
-    (length F ≤ most_plots) × (length G ≡ length F) × (length numbers ≤ 65536) × CellsInside w (length numbers) F G
-    × (numbers ≡ replicate (length numbers) 0) × Cover 0 F G X Y 0
-
--- two columns of one length whose infimum stands at the start of an array, and no cell listed yet
-abbrev pub Unlisted : Column → Column → List ℕ → Column → Column → Type 0
-Unlisted F G below X Y = (length F ≤ most_plots) × (length G ≡ length F) × (take (length F) below ≡ infimum F G) × Cover 0 F G X Y 0
+-- two columns in the one order or in the other
+abbrev pub Paired : Column → Column → Column → Column → Type 0
+Paired F G X Y = ((F ≡ X) × (G ≡ Y)) ⊎ ((F ≡ Y) × (G ≡ X))
 
 -- the sum of the sizes of the cells that have the label z in H
 abbrev pub label_sum : List ℕ → Column → ℕ → ℕ
 label_sum sizes H z = sum_at (cell_size sizes) H (length H) z
 
--- the listed cells, with sums that a byte holds
-abbrev pub Unsummed : List ℕ → Column → Type 0
-Unsummed sizes H = (length H ≤ most_plots) × ((z : ℕ) → label_sum sizes H z ≤ most_plots)
-
 -- the table has at each label what the sizes of the cells that have it sum up to
 abbrev pub Summed : List ℕ → Column → List ℕ → Type 0
 Summed sizes H sums = (z : ℕ) → z < 256 → at sums z ≡ label_sum sizes H z
-
--- entries of labels, and the plots of each label
-abbrev pub EntriesAsked : List ℕ → Column → List ℕ → ℕ → Bool → Type 0
-EntriesAsked t F inF top one = (length t ≡ 256) × (length F ≤ most_plots) × (top ≤ 256) × Below top F × LabelSizes F inF × (one ≡ true → OneClass t F)
-
--- entries of labels, and the listed cells
-abbrev pub CellsJudged : List ℕ → Column → Column → Type 0
-CellsJudged t X Y = (length t ≡ 256) × (length X ≤ most_plots) × (length Y ≡ length X)
-
--- two columns of one length, the labels of G below w, and no cell listed yet
-abbrev pub Uncovered : ℕ → Column → Column → Column → Column → Type 0
-Uncovered w F G X Y = (length F ≤ most_plots) × (length G ≡ length F) × (w ≤ 256) × Below w G × Cover 0 F G X Y 0
-
--- two columns of one length, the labels of F below a, and the labels of the cells that have a plot
-abbrev pub LabelsListed : ℕ → Column → Column → Column → Column → Type 0
-LabelsListed a F G X Y = (length F ≤ most_plots) × (length G ≡ length F) × (a ≤ 256) × Below a F × Listed F G X Y
-
--- the same, the labels of G bytes, with the sizes of the infimum's classes
-abbrev pub CellsListed : ℕ → Column → Column → List ℕ → Column → Column → Type 0
-CellsListed a F G sizes X Y = LabelsListed a F G X Y × Below 256 G × LabelSizes (infimum F G) sizes

@@ -1,7 +1,6 @@
 -- Tables over labels for the supremum.
 -- Assumes nothing.
-use Rattle.std.specs.Prelude.{◌≡◌, Bool, true, List, [], map, ◌++◌, ℕ, ◌≤◌, ◌<◌, eqb, length, take, drop}
-use Rattle.rules.specs.Limits.{most_plots}
+use Rattle.std.specs.Prelude.{◌≡◌, List, [], map, ◌++◌, ℕ, ◌≤◌, ◌<◌, eqb, length, take, drop}
 use Rattle.rules.specs.Factor.{Column, at, Same, labels, number, relabel}
 
 -- every label of F is below top, or none is below low
@@ -60,8 +59,3 @@ InOrder F X = (t : List ℕ) → labels eqb [] (spread t F) ≡ labels eqb [] (s
 -- r has for each of the first i labels of X the number of its entry
 abbrev pub LabelsNumbered : List ℕ → Column → ℕ → List ℕ → Type 0
 LabelsNumbered t X i r = (j : ℕ) → j < i → at r (at X j) ≡ at (number (spread t X)) j
-
--- entries of labels, which are listed in X by first appearance; whether it is known that all plots have one
-abbrev pub JoinsListed : List ℕ → Column → Column → Bool → Type 0
-JoinsListed t F X one =
-    (length t ≡ 256) × (length F ≤ most_plots) × (length X ≤ most_plots) × Among F X × InOrder F X × (one ≡ true → (0 < length F) × OneClass t F)

@@ -1,3 +1,4 @@
 pub mod Joining
+pub mod Numbers
 pub mod Cells
 pub mod Cases

@@ -9,7 +9,7 @@ use factor::finer;
 use limits::PLOTS;
 
 // The five cases, each said of the first factor; of those that fit the first. `Orthogonal` is said where neither is finer.
-#[derive(Clone, Copy)]
+#[derive(Clone, Copy, Debug, PartialEq, Eq)]
 pub enum Comparison {
     Equivalent,
     Finer,
@@ -22,21 +22,17 @@ pub enum Comparison {
 pub fn compare(f: &[u8], g: &[u8]) -> Comparison
     ensures { case_of result ≡ test_common comparison f.now g.now }
 {
-    let below = finer(f, g);
-    let above = finer(g, f);
-    if below {
-        if above {
-            return Comparison::Equivalent;
+    match (finer(f, g), finer(g, f)) {
+        (true, true) => Comparison::Equivalent,
+        (true, false) => Comparison::Finer,
+        (false, true) => Comparison::Coarser,
+        (false, false) => {
+            let mut supremum = [0u8; PLOTS];
+            if crossing_of(f, g, &mut supremum).orthogonal {
+                Comparison::Orthogonal
+            } else {
+                Comparison::NotOrthogonal
+            }
         }
-        return Comparison::Finer;
     }
-    if above {
-        return Comparison::Coarser;
-    }
-    let mut supremum = [0u8; PLOTS];
-    let crossing = crossing_of(f, g, &mut supremum);
-    if crossing.orthogonal {
-        return Comparison::Orthogonal;
-    }
-    Comparison::NotOrthogonal
 }

@@ -3,11 +3,13 @@
 #![tactic(auto)]
 
 mod cells;
+mod columns;
 mod comparing;
 mod join;
 mod labels;
 mod many;
 mod meet;
+mod numbers;
 mod pair;
 
 pub use comparing::{Comparison, compare};

@@ -1,12 +1,13 @@
 // The infimum of two factors.
-ghost use Rattle.std.specs.Prelude.{◌≡◌, length};
+ghost use Rattle.std.specs.Prelude.{◌≡◌, ◌*◌, ◌≤◌, length, take};
 ghost use Rattle.rules.specs.Factor.{classes, infimum};
 ghost use Rattle.factor.specs.Lent.{on_common, overlay};
-ghost use Rattle.standing.specs.Cells.{Cover, InRanges, Unnumbered};
+ghost use Rattle.standing.specs.Cells.{Listed};
 
-use crate::labels::past_labels;
-use crate::many::number_many;
-use factor::common_plots;
+use crate::cells::Cells;
+use crate::columns::Columns;
+use crate::many::infimum_many;
+use crate::numbers::Numbers;
 use limits::PLOTS;
 
 // Labels x of the one factor and y of the other, below w, make cell w × x + y. A small table is cleared in less time, and most pairs of
@@ -22,70 +23,61 @@ pub fn infimum(f: &[u8], g: &[u8], out: &mut [u8; PLOTS]) -> usize
     ensures answer { result ≡ classes (on_common infimum f.now g.now) }
     ensures numbers { out.new ≡ overlay out.old (on_common infimum f.now g.now) }
 {
-    let n = common_plots(f.len(), g.len());
-    let a = past_labels(&f[..n]);
-    let w = past_labels(&g[..n]);
-    let mut cell_f = [0u8; PLOTS];
-    let mut cell_g = [0u8; PLOTS];
-    infimum_listed(&f[..n], &g[..n], a, w, &mut cell_f, &mut cell_g, out)
+    number_infimum(Columns::common(f, g), out)
 }
 
-// The same for two columns of one length; the labels of `f` are below `a`, those of `g` below `w`. Lists the labels of the cells: the
-// cell at place i is the class i + 1 of the infimum.
-pub(crate) fn infimum_listed(
-    f: &[u8],
-    g: &[u8],
-    a: usize,
-    w: usize,
-    cell_f: &mut [u8; PLOTS],
-    cell_g: &mut [u8; PLOTS],
-    out: &mut [u8; PLOTS],
-) -> usize
-    requires { InRanges a w f.now g.now × Cover 0 f.now g.now cell_f.old cell_g.old 0 }
-    ensures answer { result ≡ classes (infimum f.now g.now) }
-    ensures list { Cover (length f.now) f.now g.now cell_f.new cell_g.new result }
-    ensures numbers { out.new ≡ overlay out.old (infimum f.now g.now) }
+// The same for two columns of one length.
+fn number_infimum(columns: Columns, out: &mut [u8; PLOTS]) -> usize
+    ensures answer { result ≡ classes (infimum columns.entry.f.now columns.entry.g.now) }
+    ensures numbers { out.new ≡ overlay out.old (infimum columns.entry.f.now columns.entry.g.now) }
 {
-    let cells = a * w;
+    let cells = columns.past_f * columns.past_g;
     if cells <= FEW_CELLS {
-        let mut few = [0u8; FEW_CELLS];
-        return number_cells(f, g, w, &mut few, cell_f, cell_g, out);
+        return number_cells::<FEW_CELLS>(columns, out);
     }
     if cells <= CELLS {
-        let mut some = [0u8; CELLS];
-        return number_cells(f, g, w, &mut some, cell_f, cell_g, out);
+        return number_cells::<CELLS>(columns, out);
     }
-    number_many(f, g, w, cell_f, cell_g, out)
+    infimum_many(columns.f, columns.g, columns.past_g, out)
 }
 
-// The same with a table that has the number of each cell, which is 0 at first.
-fn number_cells(
-    f: &[u8],
-    g: &[u8],
-    w: usize,
-    numbers: &mut [u8],
-    cell_f: &mut [u8; PLOTS],
-    cell_g: &mut [u8; PLOTS],
-    out: &mut [u8; PLOTS],
-) -> usize
-    requires { Unnumbered w f.now g.now numbers.old cell_f.old cell_g.old }
-    ensures answer { result ≡ classes (infimum f.now g.now) }
-    ensures list { Cover (length f.now) f.now g.now cell_f.new cell_g.new result }
-    ensures numbers { out.new ≡ overlay out.old (infimum f.now g.now) }
+// The same with a table that has the number of each cell, of which there are at most `N`.
+fn number_cells<const N: usize>(columns: Columns, out: &mut [u8; PLOTS]) -> usize
+    requires inside { columns.past_f * columns.past_g ≤ N }
+    requires fits { N ≤ 65536 }
+    ensures answer { result ≡ classes (infimum columns.entry.f.now columns.entry.g.now) }
+    ensures numbers { out.new ≡ overlay out.old (infimum columns.entry.f.now columns.entry.g.now) }
 {
-    let room: &mut [u8] = out;
-    let mut k: usize = 0;
-    for u in 0..f.len() {
-        let x = f[u];
-        let y = g[u];
-        let i = w * x as usize + y as usize;
-        if numbers[i] == 0 {
-            cell_f[k] = x;
-            cell_g[k] = y;
-            k += 1;
-            numbers[i] = k as u8;
-        }
-        room[u] = numbers[i];
+    let mut numbers = Numbers::<N>::new();
+    for (u, &x) in columns.f.iter().enumerate() {
+        let y = columns.g[u];
+        let cell = columns.past_g * x as usize + y as usize;
+        out[u] = numbers.number(cell);
     }
-    k
+    numbers.count
+}
+
+// Numbers the classes of the infimum and lists the cells that have a plot: that at place i is the class i + 1 of the infimum.
+pub(crate) fn infimum_listed(columns: Columns, out: &mut [u8; PLOTS]) -> Cells
+    ensures answer { result.count ≡ classes (infimum columns.entry.f.now columns.entry.g.now) }
+    ensures list { Listed columns.entry.f.now columns.entry.g.now (take result.count result.f) (take result.count result.g) }
+    ensures numbers { out.new ≡ overlay out.old (infimum columns.entry.f.now columns.entry.g.now) }
+{
+    number_infimum(columns, out);
+    list_cells(columns, out)
+}
+
+// Lists the labels of the cells by the numbers of the infimum: a cell is met first where the number is new.
+fn list_cells(columns: Columns, below: &[u8; PLOTS]) -> Cells
+    requires { take (length columns.f.now) below.now ≡ infimum columns.f.now columns.g.now }
+    ensures answer { result.count ≡ classes (infimum columns.entry.f.now columns.entry.g.now) }
+    ensures list { Listed columns.entry.f.now columns.entry.g.now (take result.count result.f) (take result.count result.g) }
+{
+    let mut cells = Cells::new();
+    for (u, &x) in columns.f.iter().enumerate() {
+        if cells.count < below[u] as usize {
+            cells.push(x, columns.g[u]);
+        }
+    }
+    cells
 }

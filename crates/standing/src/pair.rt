@@ -1,16 +1,16 @@
 // What two factors make together: their infimum with their supremum, and their supremum with whether they are orthogonal.
-ghost use Rattle.std.specs.Prelude.{◌≡◌, length};
+ghost use Rattle.std.specs.Prelude.{◌≡◌, length, take};
 ghost use Rattle.rules.specs.Factor.{classes, infimum, supremum, orthogonal};
 ghost use Rattle.rules.specs.Comparison.{pair_passes};
 ghost use Rattle.factor.specs.Lent.{on_common, test_common, overlay};
-ghost use Rattle.standing.specs.Cells.{InRanges, CellsListed, LabelsListed};
+ghost use Rattle.standing.specs.Cells.{LabelSizes, Listed};
 
-use crate::cells::{entry_sizes, even_cells, sum_cells};
+use crate::cells::{Cells, even_cells, sum_cells};
+use crate::columns::Columns;
 use crate::join::{join_labels, number_joins};
-use crate::labels::past_labels;
 use crate::many::infimum_many;
 use crate::meet::infimum_listed;
-use factor::{common_plots, finer, label_sizes};
+use factor::{finer, label_sizes};
 use limits::PLOTS;
 
 // Numbers of classes: of the infimum of two factors and of their supremum.
@@ -34,57 +34,34 @@ pub fn bounds_of(f: &[u8], g: &[u8], below: &mut [u8; PLOTS], above: &mut [u8; P
     ensures below { below.new ≡ overlay below.old (on_common infimum f.now g.now) }
     ensures above { above.new ≡ overlay above.old (on_common supremum f.now g.now) }
 {
-    let n = common_plots(f.len(), g.len());
-    let a = past_labels(&f[..n]);
-    let b = past_labels(&g[..n]);
-    if b < a {
-        return bounds_whole(&g[..n], &f[..n], b, a, below, above);
-    }
-    bounds_whole(&f[..n], &g[..n], a, b, below, above)
+    bounds_whole(Columns::common(f, g).smaller_first(), below, above)
 }
 
-// The same for two columns of one length; the labels of `f` are below `a`, those of `g` below `w`. Plots of one cell have the same labels,
-// so the supremum is told by the cells.
-fn bounds_whole(
-    f: &[u8],
-    g: &[u8],
-    a: usize,
-    w: usize,
-    below: &mut [u8; PLOTS],
-    above: &mut [u8; PLOTS],
-) -> Bounds
-    requires { InRanges a w f.now g.now }
-    ensures infimum { result.infimum ≡ classes (infimum f.now g.now) }
-    ensures supremum { result.supremum ≡ classes (supremum f.now g.now) }
-    ensures below { below.new ≡ overlay below.old (infimum f.now g.now) }
-    ensures above { above.new ≡ overlay above.old (supremum f.now g.now) }
+// The same for two columns of one length. Plots of one cell have the same labels, so the supremum is told by the cells.
+fn bounds_whole(columns: Columns, below: &mut [u8; PLOTS], above: &mut [u8; PLOTS]) -> Bounds
+    ensures infimum { result.infimum ≡ classes (infimum columns.entry.f.now columns.entry.g.now) }
+    ensures supremum { result.supremum ≡ classes (supremum columns.entry.f.now columns.entry.g.now) }
+    ensures below { below.new ≡ overlay below.old (infimum columns.entry.f.now columns.entry.g.now) }
+    ensures above { above.new ≡ overlay above.old (supremum columns.entry.f.now columns.entry.g.now) }
 {
-    let mut cell_f = [0u8; PLOTS];
-    let mut cell_g = [0u8; PLOTS];
-    let k = infimum_listed(f, g, a, w, &mut cell_f, &mut cell_g, below);
-    let m = supremum_listed(f, g, a, &cell_f[..k], &cell_g[..k], above);
+    let cells = infimum_listed(columns, below);
+    let supremum = supremum_listed(columns, &cells, above);
     Bounds {
-        infimum: k,
-        supremum: m,
+        infimum: cells.count,
+        supremum,
     }
 }
 
-// Numbers the classes of the supremum by the labels `x` and `y` of the cells that have a plot; answers how many there are.
-fn supremum_listed(
-    f: &[u8],
-    g: &[u8],
-    a: usize,
-    x: &[u8],
-    y: &[u8],
-    above: &mut [u8; PLOTS],
-) -> usize
-    requires { LabelsListed a f.now g.now x.now y.now }
-    ensures supremum { result ≡ classes (supremum f.now g.now) }
-    ensures above { above.new ≡ overlay above.old (supremum f.now g.now) }
+// Numbers the classes of the supremum by the cells that have a plot; answers how many there are.
+fn supremum_listed(columns: Columns, cells: &Cells, above: &mut [u8; PLOTS]) -> usize
+    requires { Listed columns.f.now columns.g.now (take cells.now.count cells.now.f) (take cells.now.count cells.now.g) }
+    ensures supremum { result ≡ classes (supremum columns.entry.f.now columns.entry.g.now) }
+    ensures above { above.new ≡ overlay above.old (supremum columns.entry.f.now columns.entry.g.now) }
 {
-    let mut table = [0u8; 256];
-    let one = join_labels(x, y, a, &mut table);
-    number_joins(&table, f, x, one, above)
+    let x = cells.first();
+    let y = cells.second();
+    let joins = join_labels(x, y, columns.past_f);
+    number_joins(&joins, columns.f, x, above)
 }
 
 // Numbers the classes of the supremum of two columns over their common plots; answers how many there are, and whether the
@@ -94,75 +71,62 @@ pub fn crossing_of(f: &[u8], g: &[u8], above: &mut [u8; PLOTS]) -> Crossing
     ensures orthogonal { result.orthogonal ≡ test_common pair_passes f.now g.now }
     ensures above { above.new ≡ overlay above.old (on_common supremum f.now g.now) }
 {
-    let n = common_plots(f.len(), g.len());
-    let a = past_labels(&f[..n]);
-    let b = past_labels(&g[..n]);
-    if b < a {
-        return crossing_whole(&g[..n], &f[..n], b, a, above);
-    }
-    crossing_whole(&f[..n], &g[..n], a, b, above)
+    crossing_whole(Columns::common(f, g).smaller_first(), above)
 }
 
-// The same for two columns of one length; the labels of `f` are below `a`, those of `g` below `w`. Of nested factors the one with more
-// labels is the finer, unless labels are left out; that it is finer a walk tells which ends at the first plot that denies it. The supremum
-// is then `f`, numbered: its infimum with itself.
-fn crossing_whole(f: &[u8], g: &[u8], a: usize, w: usize, above: &mut [u8; PLOTS]) -> Crossing
-    requires { InRanges a w f.now g.now }
-    ensures supremum { result.supremum ≡ classes (supremum f.now g.now) }
-    ensures orthogonal { result.orthogonal ≡ orthogonal (length f.now) f.now g.now }
-    ensures above { above.new ≡ overlay above.old (supremum f.now g.now) }
+// The same for two columns of one length. Of nested factors the one with more labels is the finer, unless labels are left out; that it is finer
+// a walk tells which ends at the first plot that denies it. The supremum is then `f`, numbered: its infimum with itself.
+fn crossing_whole(columns: Columns, above: &mut [u8; PLOTS]) -> Crossing
+    ensures supremum { result.supremum ≡ classes (supremum columns.entry.f.now columns.entry.g.now) }
+    ensures orthogonal { result.orthogonal ≡ orthogonal (length columns.entry.f.now) columns.entry.f.now columns.entry.g.now }
+    ensures above { above.new ≡ overlay above.old (supremum columns.entry.f.now columns.entry.g.now) }
 {
-    if finer(g, f) {
-        let k = infimum_many(f, f, a, above);
+    if finer(columns.g, columns.f) {
+        let supremum = infimum_many(columns.f, columns.f, columns.past_f, above);
         return Crossing {
-            supremum: k,
+            supremum,
             orthogonal: true,
         };
     }
-    crossing_cells(f, g, a, w, above)
+    crossing_cells(columns, above)
 }
 
 // The same for columns of which the second need not be finer: by the cells and their sizes, which are those of the infimum's classes.
-fn crossing_cells(f: &[u8], g: &[u8], a: usize, w: usize, above: &mut [u8; PLOTS]) -> Crossing
-    requires { InRanges a w f.now g.now }
-    ensures supremum { result.supremum ≡ classes (supremum f.now g.now) }
-    ensures orthogonal { result.orthogonal ≡ orthogonal (length f.now) f.now g.now }
-    ensures above { above.new ≡ overlay above.old (supremum f.now g.now) }
+fn crossing_cells(columns: Columns, above: &mut [u8; PLOTS]) -> Crossing
+    ensures supremum { result.supremum ≡ classes (supremum columns.entry.f.now columns.entry.g.now) }
+    ensures orthogonal { result.orthogonal ≡ orthogonal (length columns.entry.f.now) columns.entry.f.now columns.entry.g.now }
+    ensures above { above.new ≡ overlay above.old (supremum columns.entry.f.now columns.entry.g.now) }
 {
-    let n = f.len();
-    let mut cell_f = [0u8; PLOTS];
-    let mut cell_g = [0u8; PLOTS];
     let mut below = [0u8; PLOTS];
-    let k = infimum_listed(f, g, a, w, &mut cell_f, &mut cell_g, &mut below);
+    let cells = infimum_listed(columns, &mut below);
+    let n = columns.f.len();
     let sizes = label_sizes(&below[..n]);
-    crossing_listed(f, g, a, &sizes, &cell_f[..k], &cell_g[..k], above)
+    crossing_listed(columns, &sizes, &cells, above)
 }
 
-// The same by the labels `x` and `y` of the cells that have a plot and the sizes of the infimum's classes: the cell at place i is the
-// class i + 1.
+// The same by the cells that have a plot and the sizes of the infimum's classes: the cell at place i is the class i + 1.
 fn crossing_listed(
-    f: &[u8],
-    g: &[u8],
-    a: usize,
+    columns: Columns,
     sizes: &[u8; 256],
-    x: &[u8],
-    y: &[u8],
+    cells: &Cells,
     above: &mut [u8; PLOTS],
 ) -> Crossing
-    requires { CellsListed a f.now g.now sizes.now x.now y.now }
-    ensures supremum { result.supremum ≡ classes (supremum f.now g.now) }
-    ensures orthogonal { result.orthogonal ≡ orthogonal (length f.now) f.now g.now }
-    ensures above { above.new ≡ overlay above.old (supremum f.now g.now) }
+    requires sizes { LabelSizes (infimum columns.f.now columns.g.now) sizes.now }
+    requires listed { Listed columns.f.now columns.g.now (take cells.now.count cells.now.f) (take cells.now.count cells.now.g) }
+    ensures supremum { result.supremum ≡ classes (supremum columns.entry.f.now columns.entry.g.now) }
+    ensures orthogonal { result.orthogonal ≡ orthogonal (length columns.entry.f.now) columns.entry.f.now columns.entry.g.now }
+    ensures above { above.new ≡ overlay above.old (supremum columns.entry.f.now columns.entry.g.now) }
 {
-    let mut table = [0u8; 256];
-    let one = join_labels(x, y, a, &mut table);
+    let x = cells.first();
+    let y = cells.second();
+    let joins = join_labels(x, y, columns.past_f);
     let in_f = sum_cells(sizes, x);
     let in_g = sum_cells(sizes, y);
-    let in_k = entry_sizes(&table, f, &in_f, a, one);
-    let level = even_cells(sizes, &table, &in_k, &in_f, &in_g, x, y);
-    let k = number_joins(&table, f, x, one, above);
+    let in_k = joins.entry_sizes(columns.f, &in_f);
+    let orthogonal = even_cells(sizes, &joins, &in_k, &in_f, &in_g, cells);
+    let supremum = number_joins(&joins, columns.f, x, above);
     Crossing {
-        supremum: k,
-        orthogonal: level,
+        supremum,
+        orthogonal,
     }
 }

@@ -2,9 +2,8 @@
 use mathlib.Core.Path.{◌≡◌}
 use mathlib.Core.Bool.{Bool, true}
 use mathlib.Core.List.{List}
-use Prim.Native.Nat.{ℕ, ◌*◌, ◌-◌, ◌≤◌}
+use Prim.Native.Nat.{ℕ, ◌*◌}
 use lib.Dec.{eqb}
-use lib.ListN.{length}
 use Rattle.rules.specs.Factor.{Column, at, every}
 use Rattle.standing.specs.Cells.{cell_size}
 use Rattle.standing.proofs.cells.even_cells.Given as goal
@@ -15,7 +14,4 @@ even sizes t inK inF inG X Y i = eqb (cell_size sizes i * at inK (at t (at X i))
 
 abbrev pub invariant-loop-i : goal.invariant-loop-i
 invariant-loop-i l =
-    (l.i ≤ length l.cell_f) × (l.i-end ≡ length l.cell_f) × (every l.i (even l.sizes l.table l.in_k l.in_f l.in_g l.cell_f l.cell_g) ≡ true)
-
-abbrev pub decreases-loop-i : goal.decreases-loop-i
-decreases-loop-i l = length l.cell_f - l.i
+    every l.i (even l.sizes l.joins.entries l.in_k l.in_f l.in_g l.f l.g) ≡ true

@@ -27,9 +27,6 @@ pub loop-i-init : goal.loop-i-init
 unfolding sum_at
 loop-i-init c = (omega arith, refl, refl, λ z h. get_d_zeros 256 z)
 
-pub overflow_cast-x : goal.overflow_cast-x
-overflow_cast-x c = omega (arith, byte (goal.at.overflow_cast-x c).In-loop-i)
-
 pub bounds-sums-x : goal.bounds-sums-x
 bounds-sums-x c = byte (goal.at.bounds-sums-x c).In-loop-i
 
@@ -37,7 +34,7 @@ pub overflow_add-sums-in-loop-i : goal.overflow_add-sums-in-loop-i
 overflow_add-sums-in-loop-i c =
     let k = (goal.at.overflow_add-sums-in-loop-i c).In-loop-i in
     let x = at (labels k) (i k) in
-    omega (arith, k.loop-i.invariant.3 x (byte k), sum_next (size k) (labels k) (i k), sum_le (size k) (labels k) x (i k + 1) (length (labels k)) (omega arith), k.requires.1 x)
+    omega (arith, k.loop-i.invariant.3 x (byte k), sum_next (size k) (labels k) (i k), sum_le (size k) (labels k) x (i k + 1) (length (labels k)) (omega arith), k.requires.small x)
 
 pub bounds-sums-x-in-loop-i : goal.bounds-sums-x-in-loop-i
 bounds-sums-x-in-loop-i c = byte (goal.at.bounds-sums-x-in-loop-i c).In-loop-i

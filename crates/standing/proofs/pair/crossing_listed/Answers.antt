@@ -1,115 +1,125 @@
 -- `crossing_listed` meets its contract: the listed cells stand for all plots.
 use mathlib.Core.Path.{◌≡◌, sym, ap, ◌∙◌}
-use mathlib.Core.Bool.{true}
-use mathlib.Core.List.{List}
-use Prim.Native.Nat.{ℕ, ◌≤◌, ◌<◌}
+use Prim.Native.Nat.{ℕ}
 use native.Mathlib.Omega.{arith}
 use lib.ListN.{length}
-use Rattle.rules.specs.Factor.{Column, Equivalent, supremum}
+use Rattle.rules.specs.Factor.{Column}
 use Rattle.factor.specs.Lent.{overlay}
 use Rattle.factor.specs.Sizes.{labelled}
-use Rattle.standing.specs.Joining.{Below, OneClass, spread}
-use Rattle.standing.specs.Cells.{Listed, LabelSizes, label_sum}
+use Rattle.standing.specs.Cells.{Listed, InRanges, LabelSizes, label_sum}
 use Rattle.factor.proofs.SizeTable.{labelled_le}
-use Rattle.standing.proofs.Joining.{one_entry, joins_supremum, number_spread, classes_spread}
+use Rattle.standing.proofs.Joining.{joins_supremum, number_spread, classes_spread}
 use Rattle.standing.proofs.Listing.{listed_below, stands_among}
 use Rattle.standing.proofs.CellTable.{cells_orthogonal}
 use Rattle.standing.proofs.CellSums.{sums_first, sums_second}
 use Rattle.standing.proofs.pair.crossing_listed.Goals as goal
-use Rattle.standing.proofs.pair.crossing_listed.Goals.{After-join_labels-one, After-sum_cells-in_g}
+use Rattle.standing.proofs.pair.crossing_listed.Goals.{After-second-y, After-sum_cells-in_g}
 
--- what is known of the table of labels and of the listed cells
-module _ (c : After-join_labels-one) where
+-- the labels of the cells, as they are lent
+lent : (c : After-second-y) → Listed c.args.columns.f.now c.args.columns.g.now c.first-x.result.now c.second-y.result.now
+lent c = rw (c.first-x.ensures, c.second-y.ensures) c.requires.listed
+
+-- what is known of the listed cells
+module _ (c : After-second-y) where
   abbrev F : Column
-  F = c.args.f.now
+  F = c.args.columns.f.now
 
   abbrev G : Column
-  G = c.args.g.now
+  G = c.args.columns.g.now
 
   abbrev X : Column
-  X = c.args.x.now
+  X = c.first-x.result.now
 
   abbrev Y : Column
-  Y = c.args.y.now
+  Y = c.second-y.result.now
 
-  abbrev sizes : List ℕ
-  sizes = c.args.sizes.now
+  abbrev ranges : InRanges c.args.columns.past_f c.args.columns.past_g F G
+  ranges = c.args.columns.in_ranges
 
-  abbrev table : List ℕ
-  table = c.join_labels-one.new.table
+  listed : Listed F G X Y
+  listed = lent c
 
-  abbrev listed : Listed F G X Y
-  listed = c.requires.0.4
+  by_first : (z : ℕ) → label_sum c.args.sizes.now X z ≡ labelled (length F) F z
+  by_first = sums_first F G ranges.few (sym ranges.even) X Y listed c.args.sizes.now c.requires.sizes
 
-  few : length F ≤ 240
-  few = c.requires.0.0
-
-  even : length G ≡ length F
-  even = c.requires.0.1
-
-  below : Below c.args.a F
-  below = c.requires.0.3
-
-  joined : Equivalent (length F) (spread table F) (supremum F G)
-  joined = joins_supremum F G even X Y table listed.stands c.join_labels-one.ensures.entries.1
-
-  by_first : (z : ℕ) → label_sum sizes X z ≡ labelled (length F) F z
-  by_first = sums_first F G few (sym even) X Y listed sizes c.requires.2
-
-  by_second : (z : ℕ) → label_sum sizes Y z ≡ labelled (length F) G z
-  by_second = sums_second F G few (sym even) X Y listed sizes c.requires.2
-
-  -- where it is known that all labels have one entry
-  one_class : c.join_labels-one.result ≡ true → (0 < length F) × OneClass table F
-  one_class e = let one = c.join_labels-one.ensures.answer e in (omega (arith, one.0, listed.few), one_entry F G even c.args.a table below one.1)
+  by_second : (z : ℕ) → label_sum c.args.sizes.now Y z ≡ labelled (length F) G z
+  by_second = sums_second F G ranges.few (sym ranges.even) X Y listed c.args.sizes.now c.requires.sizes
 
 -- the sizes of the labels
 module _ (c : After-sum_cells-in_g) where
-  sizes_f : LabelSizes (F (goal.at.After-sum_cells-in_g c).After-join_labels-one) c.sum_cells-in_f.result
-  sizes_f z h = c.sum_cells-in_f.ensures z h ∙ by_first (goal.at.After-sum_cells-in_g c).After-join_labels-one z
+  abbrev k : After-second-y
+  k = (goal.at.After-sum_cells-in_g c).After-second-y
 
-  sizes_g : LabelSizes (G (goal.at.After-sum_cells-in_g c).After-join_labels-one) c.sum_cells-in_g.result
-  sizes_g z h = c.sum_cells-in_g.ensures z h ∙ by_second (goal.at.After-sum_cells-in_g c).After-join_labels-one z ∙ ap (λ (n : ℕ). labelled n (G (goal.at.After-sum_cells-in_g c).After-join_labels-one) z) (sym (even (goal.at.After-sum_cells-in_g c).After-join_labels-one))
+  sizes_f : LabelSizes (F k) c.sum_cells-in_f.result
+  sizes_f z h = c.sum_cells-in_f.ensures z h ∙ by_first k z
 
-pub join_labels-one-requires : goal.join_labels-one-requires
-join_labels-one-requires c =
-    let l = c.requires.0.4 in
-    (l.even, c.requires.0.2, listed_below c.args.f.now c.args.g.now c.args.x.now c.args.y.now l.stands c.args.a c.requires.0.3)
+  sizes_g : LabelSizes (G k) c.sum_cells-in_g.result
+  sizes_g z h = c.sum_cells-in_g.ensures z h ∙ by_second k z ∙ ap (λ (n : ℕ). labelled n (G k) z) (sym (ranges k).even)
+
+pub join_labels-joins-requires : goal.join_labels-joins-requires
+join_labels-joins-requires c =
+    let r = ranges c in
+    let l = listed c in
+    record {
+      even = l.even;
+      few = r.few_f;
+      below = listed_below (F c) (G c) (X c) (Y c) l.stands c.args.columns.past_f r.below_f;
+    }
 
 pub sum_cells-in_f-requires : goal.sum_cells-in_f-requires
 sum_cells-in_f-requires c =
-    (omega (arith, (listed c).few, few c), λ z. omega (arith, by_first c z, labelled_le (length (F c)) (F c) z, few c))
+    let k = (goal.at.sum_cells-in_f-requires c).After-second-y in
+    record {
+      few = omega (arith, (listed k).few, (ranges k).few);
+      small = λ z. omega (arith, by_first k z, labelled_le (length (F k)) (F k) z, (ranges k).few);
+    }
 
 pub sum_cells-in_g-requires : goal.sum_cells-in_g-requires
 sum_cells-in_g-requires c =
-    let k = (goal.at.sum_cells-in_g-requires c).After-join_labels-one in
-    (omega (arith, (listed k).few, (listed k).even, few k), λ z. omega (arith, by_second k z, labelled_le (length (F k)) (G k) z, few k))
+    let k = (goal.at.sum_cells-in_g-requires c).After-second-y in
+    record {
+      few = omega (arith, (listed k).few, (listed k).even, (ranges k).few);
+      small = λ z. omega (arith, by_second k z, labelled_le (length (F k)) (G k) z, (ranges k).few);
+    }
 
 pub entry_sizes-in_k-requires : goal.entry_sizes-in_k-requires
 entry_sizes-in_k-requires c =
     let sum = (goal.at.entry_sizes-in_k-requires c).After-sum_cells-in_g in
-    let k = (goal.at.entry_sizes-in_k-requires c).After-join_labels-one in
-    (k.join_labels-one.ensures.entries.0, few k, k.requires.0.2, below k, sizes_f sum, λ e. (one_class k e).1)
+    let r = ranges (k sum) in
+    record {
+      few = r.few;
+      below = λ u h. omega (arith, r.below_f u h, c.join_labels-joins.ensures.wide);
+      sizes = sizes_f sum;
+    }
 
-pub even_cells-level-requires : goal.even_cells-level-requires
-even_cells-level-requires c =
-    let k = (goal.at.even_cells-level-requires c).After-join_labels-one in
-    (k.join_labels-one.ensures.entries.0, omega (arith, (listed k).few, few k), (listed k).even)
-
-pub number_joins-k-requires : goal.number_joins-k-requires
-number_joins-k-requires c =
-    let k = (goal.at.number_joins-k-requires c).After-join_labels-one in
-    (k.join_labels-one.ensures.entries.0, few k, omega (arith, (listed k).few, few k), stands_among (F k) (G k) (X k) (Y k) (listed k).stands, (listed k).order, one_class k)
+pub number_joins-supremum-requires : goal.number_joins-supremum-requires
+number_joins-supremum-requires c =
+    let k = (goal.at.number_joins-supremum-requires c).After-second-y in
+    let r = ranges k in
+    let l = listed k in
+    record {
+      few = r.few;
+      few_listed = omega (arith, l.few, r.few);
+      below = λ u h. omega (arith, r.below_f u h, c.join_labels-joins.ensures.wide);
+      some = λ e. omega (arith, c.join_labels-joins.ensures.some e, l.few);
+      among = stands_among (F k) (G k) (X k) (Y k) l.stands;
+      order = l.order;
+    }
 
 pub returns : goal.returns
 returns c =
     let sum = (goal.at.returns c).After-sum_cells-in_g in
-    let k = (goal.at.returns c).After-join_labels-one in
+    let k = k sum in
+    let r = ranges k in
+    let l = listed k in
+    let t = c.join_labels-joins.result.entries in
+    let joins = c.join_labels-joins.ensures.entries in
+    let e = joins_supremum (F k) (G k) r.even (X k) (Y k) t l.stands joins in
     record {
-      supremum = c.number_joins-k.ensures.answer ∙ classes_spread (F k) (G k) (even k) (table k) (joined k);
-      orthogonal = c.even_cells-level.ensures
-          ∙ cells_orthogonal (F k) (G k) (few k) (even k) (λ u h. omega (arith, c.requires.0.2, below k u h)) c.requires.1 (X k) (Y k) (listed k)
-          (table k) k.join_labels-one.ensures.entries.1 (sizes k) c.entry_sizes-in_k.result sum.sum_cells-in_f.result sum.sum_cells-in_g.result
-          c.requires.2 c.entry_sizes-in_k.ensures (sizes_f sum) (sizes_g sum);
-      above = c.number_joins-k.ensures.numbers ∙ ap (overlay c.args.above.now) (number_spread (F k) (G k) (even k) (table k) (joined k));
+      supremum = c.number_joins-supremum.ensures.answer ∙ classes_spread (F k) (G k) r.even t e;
+      orthogonal = rw (← c.first-x.ensures, ← c.second-y.ensures) at c.even_cells-orthogonal.ensures
+          ∙ cells_orthogonal (F k) (G k) r.few r.even (λ u h. omega (arith, r.few_f, r.below_f u h)) (λ u h. omega (arith, r.few_g, r.below_g u h)) (X k) (Y k) l
+          t joins c.args.sizes.now c.entry_sizes-in_k.result c.sum_cells-in_f.result c.sum_cells-in_g.result
+          c.requires.sizes c.entry_sizes-in_k.ensures (sizes_f sum) (sizes_g sum);
+      above = c.number_joins-supremum.ensures.numbers ∙ ap (overlay c.args.above.now) (number_spread (F k) (G k) r.even t e);
     }

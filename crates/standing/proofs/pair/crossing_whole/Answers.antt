@@ -10,16 +10,17 @@ use Rattle.factor.proofs.Lent.{finer_common}
 use Rattle.standing.proofs.Nesting.{nested_supremum, supremum_classes, nested_true}
 use Rattle.standing.proofs.pair.crossing_whole.Goals as goal
 
-pub infimum_many-k-requires : goal.infimum_many-k-requires
-infimum_many-k-requires c = (c.requires.0, refl, c.requires.2, c.requires.4)
+pub infimum_many-supremum-requires : goal.infimum_many-supremum-requires
+infimum_many-supremum-requires c = let r = c.args.columns.in_ranges in (r.few, refl, r.few_f, r.below_f)
 
 pub returns-then-finer : goal.returns-then-finer
 returns-then-finer c =
-    let f = c.args.f.now in
-    let g = c.args.g.now in
+    let f = c.args.columns.f.now in
+    let g = c.args.columns.g.now in
+    let r = c.args.columns.in_ranges in
     let self = infimum_self (length f) f refl in
-    let nested : finer (length f) g f ≡ true = sym (finer_common (length f) g f c.requires.0 c.requires.1 refl) ∙ sym c.finer.ensures ∙ c.if-finer.true in record {
-      supremum = c.infimum_many-k.ensures.answer ∙ ap classes self ∙ classes_number f ∙ supremum_classes f g c.requires.1 nested;
-      orthogonal = nested_true f g c.requires.1 nested;
-      above = c.infimum_many-k.ensures.numbers ∙ ap (overlay c.args.above.now) (self ∙ sym (nested_supremum f g c.requires.1 nested));
+    let nested : finer (length f) g f ≡ true = sym (finer_common (length f) g f r.few r.even refl) ∙ sym c.finer.ensures ∙ c.if-finer.true in record {
+      supremum = c.infimum_many-supremum.ensures.answer ∙ ap classes self ∙ classes_number f ∙ supremum_classes f g r.even nested;
+      orthogonal = nested_true f g r.even nested;
+      above = c.infimum_many-supremum.ensures.numbers ∙ ap (overlay c.args.above.now) (self ∙ sym (nested_supremum f g r.even nested));
     }

@@ -2,31 +2,46 @@
 use mathlib.Core.Path.{ap, ◌∙◌}
 use native.Mathlib.Omega.{arith}
 use Rattle.factor.specs.Lent.{overlay}
-use Rattle.standing.proofs.Joining.{one_entry, joins_supremum, number_spread, classes_spread}
+use Rattle.standing.specs.Cells.{Listed}
+use Rattle.standing.proofs.Joining.{joins_supremum, number_spread, classes_spread}
 use Rattle.standing.proofs.Listing.{listed_below, stands_among}
 use Rattle.standing.proofs.pair.supremum_listed.Goals as goal
+use Rattle.standing.proofs.pair.supremum_listed.Goals.{After-second-y}
 
-pub join_labels-one-requires : goal.join_labels-one-requires
-join_labels-one-requires c =
-    let l = c.requires.4 in
-    (l.even, c.requires.2, listed_below c.args.f.now c.args.g.now c.args.x.now c.args.y.now l.stands c.args.a c.requires.3)
+-- the labels of the cells, as they are lent
+listed : (c : After-second-y) → Listed c.args.columns.f.now c.args.columns.g.now c.first-x.result.now c.second-y.result.now
+listed c = rw (c.first-x.ensures, c.second-y.ensures) c.requires
+
+pub join_labels-joins-requires : goal.join_labels-joins-requires
+join_labels-joins-requires c =
+    let k = c.args.columns in
+    let l = listed c in
+    record {
+      even = l.even;
+      few = k.in_ranges.few_f;
+      below = listed_below k.f.now k.g.now c.first-x.result.now c.second-y.result.now l.stands k.past_f k.in_ranges.below_f;
+    }
 
 pub number_joins-requires : goal.number_joins-requires
 number_joins-requires c =
-    let f = c.args.f.now in
-    let g = c.args.g.now in
-    let x = c.args.x.now in
-    let y = c.args.y.now in
-    let l = c.requires.4 in
-    (c.join_labels-one.ensures.entries.0, c.requires.0, omega (arith, l.few, c.requires.0), stands_among f g x y l.stands, l.order, λ e. let one = c.join_labels-one.ensures.answer e in (omega (arith, one.0, l.few), one_entry f g c.requires.1 c.args.a c.join_labels-one.new.table c.requires.3 one.1))
+    let k = c.args.columns in
+    let l = listed (goal.at.number_joins-requires c).After-second-y in
+    record {
+      few = k.in_ranges.few;
+      few_listed = omega (arith, l.few, k.in_ranges.few);
+      below = λ u h. omega (arith, k.in_ranges.below_f u h, c.join_labels-joins.ensures.wide);
+      some = λ e. omega (arith, c.join_labels-joins.ensures.some e, l.few);
+      among = stands_among k.f.now k.g.now c.first-x.result.now c.second-y.result.now l.stands;
+      order = l.order;
+    }
 
 pub returns : goal.returns
 returns c =
-    let f = c.args.f.now in
-    let g = c.args.g.now in
-    let t = c.join_labels-one.new.table in
-    let e = joins_supremum f g c.requires.1 c.args.x.now c.args.y.now t c.requires.4.stands c.join_labels-one.ensures.entries.1 in
+    let k = c.args.columns in
+    let l = listed (goal.at.returns c).After-second-y in
+    let t = c.join_labels-joins.result.entries in
+    let e = joins_supremum k.f.now k.g.now k.in_ranges.even c.first-x.result.now c.second-y.result.now t l.stands c.join_labels-joins.ensures.entries in
     record {
-      supremum = c.number_joins.ensures.answer ∙ classes_spread f g c.requires.1 t e;
-      above = c.number_joins.ensures.numbers ∙ ap (overlay c.args.above.now) (number_spread f g c.requires.1 t e);
+      supremum = c.number_joins.ensures.answer ∙ classes_spread k.f.now k.g.now k.in_ranges.even t e;
+      above = c.number_joins.ensures.numbers ∙ ap (overlay c.args.above.now) (number_spread k.f.now k.g.now k.in_ranges.even t e);
     }
