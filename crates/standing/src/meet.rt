@@ -38,7 +38,7 @@ fn number_infimum(columns: Columns, out: &mut [u8; PLOTS]) -> usize
     if cells <= CELLS {
         return number_cells::<CELLS>(columns, out);
     }
-    infimum_many(columns.f, columns.g, columns.past_g, out)
+    infimum_many(columns, out)
 }
 
 // The same with a table that has the number of each cell, of which there are at most `N`.

@@ -82,7 +82,13 @@ fn crossing_whole(columns: Columns, above: &mut [u8; PLOTS]) -> Crossing
     ensures above { above.new ≡ overlay above.old (supremum columns.entry.f.now columns.entry.g.now) }
 {
     if finer(columns.g, columns.f) {
-        let supremum = infimum_many(columns.f, columns.f, columns.past_f, above);
+        let twice = Columns {
+            f: columns.f,
+            g: columns.f,
+            past_f: columns.past_f,
+            past_g: columns.past_f,
+        };
+        let supremum = infimum_many(twice, above);
         return Crossing {
             supremum,
             orthogonal: true,

@@ -10,9 +10,6 @@ use Rattle.factor.proofs.Lent.{finer_common}
 use Rattle.standing.proofs.Nesting.{nested_supremum, supremum_classes, nested_true}
 use Rattle.standing.proofs.pair.crossing_whole.Goals as goal
 
-pub infimum_many-supremum-requires : goal.infimum_many-supremum-requires
-infimum_many-supremum-requires c = let r = c.args.columns.in_ranges in (r.few, refl, r.few_f, r.below_f)
-
 pub returns-then-finer : goal.returns-then-finer
 returns-then-finer c =
     let f = c.args.columns.f.now in
