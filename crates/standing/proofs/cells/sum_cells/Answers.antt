@@ -25,27 +25,21 @@ module _ (c : In-loop-i) where
 
 pub loop-i-init : goal.loop-i-init
 unfolding sum_at
-loop-i-init c = (omega arith, refl, refl, λ z h. get_d_zeros 256 z)
-
-pub bounds-sums-x : goal.bounds-sums-x
-bounds-sums-x c = byte (goal.at.bounds-sums-x c).In-loop-i
+loop-i-init c = (refl, λ z h. get_d_zeros 256 z)
 
 pub overflow_add-sums-in-loop-i : goal.overflow_add-sums-in-loop-i
 overflow_add-sums-in-loop-i c =
     let k = (goal.at.overflow_add-sums-in-loop-i c).In-loop-i in
     let x = at (labels k) (i k) in
-    omega (arith, k.loop-i.invariant.3 x (byte k), sum_next (size k) (labels k) (i k), sum_le (size k) (labels k) x (i k + 1) (length (labels k)) (omega arith), k.requires.small x)
-
-pub bounds-sums-x-in-loop-i : goal.bounds-sums-x-in-loop-i
-bounds-sums-x-in-loop-i c = byte (goal.at.bounds-sums-x-in-loop-i c).In-loop-i
+    omega (arith, k.loop-i.invariant.1 x (byte k), sum_next (size k) (labels k) (i k), sum_le (size k) (labels k) x (i k + 1) (length (labels k)) (omega arith), k.requires.small x)
 
 pub loop-i-preserved : goal.loop-i-preserved
 loop-i-preserved c =
     let k = (goal.at.loop-i-preserved c).In-loop-i in
     let b = k.loop-i in
-    (omega arith, refl, simp length-set b.invariant.2, sum_step (size k) (labels k) (i k) b.sums b.invariant.2 (byte k) b.invariant.3)
+    (simp length-set b.invariant.0, sum_step (size k) (labels k) (i k) b.sums b.invariant.0 (byte k) b.invariant.1)
 
 pub returns : goal.returns
 returns c =
     let e : length c.args.labels.now ≡ c.loop-i.i = omega arith in
-    λ z h. rw e (c.loop-i.invariant.3 z h)
+    λ z h. rw e (c.loop-i.invariant.1 z h)

@@ -8,7 +8,4 @@ use Rattle.standing.proofs.cells.sum_cells.Given as goal
 
 abbrev pub invariant-loop-i : goal.invariant-loop-i
 invariant-loop-i l =
-    (l.i ≤ length l.labels) × (l.i-end ≡ length l.labels) × (length l.sums ≡ 256) × ((z : ℕ) → z < 256 → at l.sums z ≡ sum_at (cell_size l.sizes) l.labels l.i z)
-
-abbrev pub decreases-loop-i : goal.decreases-loop-i
-decreases-loop-i l = length l.labels - l.i
+    (length l.sums ≡ 256) × ((z : ℕ) → z < 256 → at l.sums z ≡ sum_at (cell_size l.sizes) l.labels l.i z)

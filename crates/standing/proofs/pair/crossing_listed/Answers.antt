@@ -56,55 +56,18 @@ module _ (c : After-sum_cells-in_g) where
   sizes_g : LabelSizes (G k) c.sum_cells-in_g.result
   sizes_g z h = c.sum_cells-in_g.ensures z h ∙ by_second k z ∙ ap (λ (n : ℕ). labelled n (G k) z) (sym (ranges k).even)
 
-pub join_labels-joins-requires : goal.join_labels-joins-requires
-join_labels-joins-requires c =
-    let r = ranges c in
-    let l = listed c in
-    record {
-      even = l.even;
-      few = r.few_f;
-      below = listed_below (F c) (G c) (X c) (Y c) l.stands c.args.columns.past_f r.below_f;
-    }
+pub sum_cells-in_f-requires-clause-small : goal.sum_cells-in_f-requires-clause-small
+sum_cells-in_f-requires-clause-small c =
+    let k = (goal.at.sum_cells-in_f-requires-clause-small c).After-second-y in
+    λ z. omega (arith, by_first k z, labelled_le (length (F k)) (F k) z, (ranges k).few)
 
-pub sum_cells-in_f-requires : goal.sum_cells-in_f-requires
-sum_cells-in_f-requires c =
-    let k = (goal.at.sum_cells-in_f-requires c).After-second-y in
-    record {
-      few = omega (arith, (listed k).few, (ranges k).few);
-      small = λ z. omega (arith, by_first k z, labelled_le (length (F k)) (F k) z, (ranges k).few);
-    }
+pub sum_cells-in_g-requires-clause-small : goal.sum_cells-in_g-requires-clause-small
+sum_cells-in_g-requires-clause-small c =
+    let k = (goal.at.sum_cells-in_g-requires-clause-small c).After-second-y in
+    λ z. omega (arith, by_second k z, labelled_le (length (F k)) (G k) z, (ranges k).few)
 
-pub sum_cells-in_g-requires : goal.sum_cells-in_g-requires
-sum_cells-in_g-requires c =
-    let k = (goal.at.sum_cells-in_g-requires c).After-second-y in
-    record {
-      few = omega (arith, (listed k).few, (listed k).even, (ranges k).few);
-      small = λ z. omega (arith, by_second k z, labelled_le (length (F k)) (G k) z, (ranges k).few);
-    }
-
-pub entry_sizes-in_k-requires : goal.entry_sizes-in_k-requires
-entry_sizes-in_k-requires c =
-    let sum = (goal.at.entry_sizes-in_k-requires c).After-sum_cells-in_g in
-    let r = ranges (k sum) in
-    record {
-      few = r.few;
-      below = λ u h. omega (arith, r.below_f u h, c.join_labels-joins.ensures.wide);
-      sizes = sizes_f sum;
-    }
-
-pub number_joins-supremum-requires : goal.number_joins-supremum-requires
-number_joins-supremum-requires c =
-    let k = (goal.at.number_joins-supremum-requires c).After-second-y in
-    let r = ranges k in
-    let l = listed k in
-    record {
-      few = r.few;
-      few_listed = omega (arith, l.few, r.few);
-      below = λ u h. omega (arith, r.below_f u h, c.join_labels-joins.ensures.wide);
-      some = λ e. omega (arith, c.join_labels-joins.ensures.some e, l.few);
-      among = stands_among (F k) (G k) (X k) (Y k) l.stands;
-      order = l.order;
-    }
+pub entry_sizes-in_k-requires-clause-sizes : goal.entry_sizes-in_k-requires-clause-sizes
+entry_sizes-in_k-requires-clause-sizes c = sizes_f (goal.at.entry_sizes-in_k-requires-clause-sizes c).After-sum_cells-in_g
 
 pub returns : goal.returns
 returns c =

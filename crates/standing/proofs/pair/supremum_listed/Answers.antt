@@ -12,29 +12,6 @@ use Rattle.standing.proofs.pair.supremum_listed.Goals.{After-second-y}
 listed : (c : After-second-y) → Listed c.args.columns.f.now c.args.columns.g.now c.first-x.result.now c.second-y.result.now
 listed c = rw (c.first-x.ensures, c.second-y.ensures) c.requires
 
-pub join_labels-joins-requires : goal.join_labels-joins-requires
-join_labels-joins-requires c =
-    let k = c.args.columns in
-    let l = listed c in
-    record {
-      even = l.even;
-      few = k.in_ranges.few_f;
-      below = listed_below k.f.now k.g.now c.first-x.result.now c.second-y.result.now l.stands k.past_f k.in_ranges.below_f;
-    }
-
-pub number_joins-requires : goal.number_joins-requires
-number_joins-requires c =
-    let k = c.args.columns in
-    let l = listed (goal.at.number_joins-requires c).After-second-y in
-    record {
-      few = k.in_ranges.few;
-      few_listed = omega (arith, l.few, k.in_ranges.few);
-      below = λ u h. omega (arith, k.in_ranges.below_f u h, c.join_labels-joins.ensures.wide);
-      some = λ e. omega (arith, c.join_labels-joins.ensures.some e, l.few);
-      among = stands_among k.f.now k.g.now c.first-x.result.now c.second-y.result.now l.stands;
-      order = l.order;
-    }
-
 pub returns : goal.returns
 returns c =
     let k = c.args.columns in
