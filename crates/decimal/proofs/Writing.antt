@@ -8,7 +8,9 @@ use native.Mathlib.Nat.{add_assoc}
 use native.Mathlib.Omega.{arith}
 use lib.Dec.{leb}
 use lib.ListN.{length, take, drop, set, length-append}
-use lib.Seq.{paste, paste-zero, paste-suc, length-paste, take-paste, drop-paste, drop-drop, take-append-le, take-append-add, take-length}
+use lib.Seq.{paste, paste-zero, paste-suc, length-paste, take-paste, drop-paste, drop-drop, take-append-le, take-append-add, take-length, take_all, length-take-le}
+use borrow.Rule.Slice.PartMut.{put_mid}
+use Rattle.std.proofs.lemmas.Slice.{put_mid-paste}
 use borrow.Author.Tests.{leb-true, leb-false}
 use Rattle.decimal.specs.Writing.{fits, written, place_after, Wrote}
 
@@ -115,12 +117,23 @@ wrote_byte out at b h =
     let k : 0 < length (b ∷ []) = omega arith in
     (rw e, rw e (ap₂ (λ (o : List ℕ) (i : ℕ). set o i b) (paste-zero out at (b ∷ [])) (sym z) ∙ paste-suc out at (b ∷ []) 0 0 l k))
 
--- and where there is none
-pub wrote_past : (out : List ℕ) (at b : ℕ) → length out ≤ at → Wrote out at (b ∷ []) out at
+-- and any text, where there is none
+pub wrote_none : (out : List ℕ) (at : ℕ) (text : List ℕ) → length out ≤ at → Wrote out at text out at
 unfolding written place_after fits
-wrote_past out at b h =
-    let e : min 1 (length out - at) ≡ 0 = omega arith in
-    (rw e (omega arith), rw e (paste-zero out at (b ∷ [])))
+wrote_none out at text h =
+    let e : min (length text) (length out - at) ≡ 0 = omega arith in
+    (rw e (omega arith), rw e (paste-zero out at text))
+
+pub wrote_past : (out : List ℕ) (at b : ℕ) → length out ≤ at → Wrote out at (b ∷ []) out at
+wrote_past out at b h = wrote_none out at (b ∷ []) h
+
+-- the start of a text that there is room for, put in the place of as many bytes
+pub wrote_part : (out : List ℕ) (at : ℕ) (text : List ℕ) (n k : ℕ) (part : List ℕ) → at ≤ length out → n ≡ min (length text) (length out - at) → n ≡ k → part ≡ take n text
+    → Wrote out at text (put_mid at k out part) (at + n)
+unfolding written place_after fits
+wrote_part out at text n k part h e l p =
+    let q : n ≡ length (take n text) = sym (length-take-le n text (omega arith)) in
+    (rw e, put_mid-paste at k out part (take n text) n p l q ∙ ap (λ (x : List ℕ). take at out ++ x ++ drop (at + n) out) (take_all n (take n text) (omega arith)) ∙ ap (paste out at text) e)
 
 -- the same text
 pub wrote_as : (out : List ℕ) (at : ℕ) {s t : List ℕ} {left : List ℕ} {r : ℕ} → s ≡ t → Wrote out at s left r → Wrote out at t left r

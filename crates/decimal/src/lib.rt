@@ -2,7 +2,7 @@
 // place after what it wrote, so that one call continues where another stopped.
 #![tactic(auto)]
 
-ghost use Rattle.std.specs.Prelude.{◌≡◌, [], ◌∷◌, ◌-◌, ◌≤◌, min, nat_abs, length, drop};
+ghost use Rattle.std.specs.Prelude.{◌≡◌, [], ◌∷◌, ◌≤◌, drop};
 ghost use Rattle.rules.specs.Lists.{decimal_of};
 ghost use Rattle.rules.specs.Table.{signed};
 ghost use Rattle.decimal.specs.Writing.{written, place_after};
@@ -27,25 +27,12 @@ pub fn write_bytes(from: &[u8], out: &mut [u8], at: usize) -> usize
     ensures answer { result ≡ place_after out.old at from.now }
     ensures bytes { out.new ≡ written out.old at from.now }
 {
-    let n = fitting(from.len(), out.len(), at);
-    for i in 0..n {
-        out[at + i] = from[i];
+    if out.len() <= at {
+        return at;
     }
+    let n = from.len().min(out.len() - at);
+    out[at..at + n].copy_from_slice(&from[..n]);
     at + n
-}
-
-// How many of `count` bytes a buffer of `room` bytes takes from place `at` on.
-fn fitting(count: usize, room: usize, at: usize) -> usize
-    ensures { result ≡ min count (room - at) }
-{
-    if room <= at {
-        return 0;
-    }
-    let left = room - at;
-    if left < count {
-        return left;
-    }
-    count
 }
 
 // Writes a number in decimal. Most have one digit or two.
@@ -54,11 +41,11 @@ pub fn write_decimal(n: usize, out: &mut [u8], at: usize) -> usize
     ensures bytes { out.new ≡ written out.old at (decimal_of n) }
 {
     if n < 10 {
-        return write_byte(48 + n as u8, out, at);
+        return write_byte(b'0' + n as u8, out, at);
     }
     if n < 100 {
-        let next = write_byte(48 + (n / 10) as u8, out, at);
-        return write_byte(48 + (n % 10) as u8, out, next);
+        let next = write_byte(b'0' + (n / 10) as u8, out, at);
+        return write_byte(b'0' + (n % 10) as u8, out, next);
     }
     write_digits(n, out, at)
 }
@@ -68,14 +55,13 @@ fn write_digits(n: usize, out: &mut [u8], at: usize) -> usize
     ensures answer { result ≡ place_after out.old at (decimal_of n) }
     ensures bytes { out.new ≡ written out.old at (decimal_of n) }
 {
-    let mut digits = [48u8; DIGITS];
+    let mut digits = [b'0'; DIGITS];
     let first = put_digits(n, &mut digits);
     write_bytes(&digits[first..], out, at)
 }
 
 // Puts the digits of a number at the end of `digits`; answers where they begin.
-fn put_digits(n: usize, digits: &mut [u8]) -> usize
-    requires { length digits.old ≡ 20 }
+fn put_digits(n: usize, digits: &mut [u8; DIGITS]) -> usize
     ensures place { result ≤ 20 }
     ensures digits { drop result digits.new ≡ decimal_of n }
 {
@@ -83,11 +69,11 @@ fn put_digits(n: usize, digits: &mut [u8]) -> usize
     let mut first = DIGITS;
     while 10 <= rest {
         first -= 1;
-        digits[first] = 48 + (rest % 10) as u8;
+        digits[first] = b'0' + (rest % 10) as u8;
         rest /= 10;
     }
     first -= 1;
-    digits[first] = 48 + rest as u8;
+    digits[first] = b'0' + rest as u8;
     first
 }
 
@@ -98,19 +84,7 @@ pub fn write_signed(d: i64, out: &mut [u8], at: usize) -> usize
 {
     if d < 0 {
         let next = write_byte(b'-', out, at);
-        return write_decimal(magnitude(d), out, next);
+        return write_decimal(d.unsigned_abs() as usize, out, next);
     }
-    write_decimal(magnitude(d), out, at)
-}
-
-// How far a signed number is from 0.
-fn magnitude(d: i64) -> usize
-    ensures { result ≡ nat_abs d }
-{
-    if d < 0 {
-        // one step towards 0 first: the smallest number has no opposite
-        let size = (0 - (d + 1)) as usize;
-        return size + 1;
-    }
-    d as usize
+    write_decimal(d.unsigned_abs() as usize, out, at)
 }

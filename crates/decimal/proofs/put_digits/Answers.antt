@@ -2,6 +2,7 @@ use mathlib.Core.Path.{◌≡◌, sym, ◌∙◌}
 use mathlib.Core.List.{◌∷◌}
 use Prim.Native.Nat.{suc, ◌+◌, ◌-◌, ◌%◌, ◌≤◌}
 use native.Mathlib.Omega.{arith}
+use borrow.Author.Rules.{rules}
 use lib.ListN.{length, drop, set, length-set, drop_of_length-le}
 use Rattle.decimal.proofs.Digits.{digits_more, digits_one, decimal_start, drop_set, two_places, place_fewer}
 use Rattle.decimal.proofs.put_digits.Goals as goal
@@ -9,8 +10,9 @@ use Rattle.decimal.proofs.put_digits.Goals as goal
 pub loop-rest-init : goal.loop-rest-init
 loop-rest-init c =
     let ds = c.args.digits.now in
+    let l : length ds ≡ 20 = search rules in
     let h : length ds ≤ 20 = omega arith in
-    (omega arith, omega arith, c.requires, omega arith, rw (drop_of_length-le ds h) (decimal_start c.args.n))
+    (omega arith, omega arith, l, omega arith, rw (drop_of_length-le ds h) (decimal_start c.args.n))
 
 pub loop-rest-preserved : goal.loop-rest-preserved
 loop-rest-preserved c =
@@ -26,11 +28,6 @@ loop-rest-preserved c =
       place_fewer b.rest b.first (omega arith) b.invariant.3,
       rw d (sym (digits_more b.rest (drop b.first b.digits) (omega arith)) ∙ b.invariant.4),
     )
-
-pub shape_of-digits : goal.shape_of-digits
-shape_of-digits c =
-    let b = c.loop-rest in
-    length-set b.digits (b.first - 1) (48 + b.rest) ∙ omega arith
 
 pub returns : goal.returns
 returns c =

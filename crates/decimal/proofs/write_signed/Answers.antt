@@ -12,12 +12,12 @@ use Rattle.decimal.proofs.write_signed.Goals as goal
 pub returns-then-d-lt0 : goal.returns-then-d-lt0
 returns-then-d-lt0 c =
     let d = c.write_decimal in
-    let m = c.magnitude in
+    let m = c.unsigned_abs in
     let w = c.write_byte-next in
     let t = c in
     let s = t in
     let a = s.args in
-    let size : m.result ≡ nat_abs a.d = m.ensures ∙ ap nat_abs (back a.d s.ranges.d) in
+    let size : m.result ≡ nat_abs a.d = m.ensures.value ∙ ap nat_abs (back a.d s.ranges.d) in
     let e = signed_below a.d (subst (λ (x : ℤ). lt_z x (pos 0) ≡ true) (back a.d s.ranges.d) t.if-d-lt0.true) in
     let two = written_append a.out.now a.at (45 ∷ []) (decimal_of (nat_abs a.d)) in
     record {
@@ -28,11 +28,11 @@ returns-then-d-lt0 c =
 pub returns : goal.returns
 returns c =
     let d = c.write_decimal-2 in
-    let m = c.magnitude-2 in
+    let m = c.unsigned_abs-2 in
     let t = c in
     let s = t in
     let a = s.args in
-    let size : m.result ≡ nat_abs a.d = m.ensures ∙ ap nat_abs (back a.d s.ranges.d) in
+    let size : m.result ≡ nat_abs a.d = m.ensures.value ∙ ap nat_abs (back a.d s.ranges.d) in
     let e = signed_above a.d (subst (λ (x : ℤ). lt_z x (pos 0) ≡ false) (back a.d s.ranges.d) t.if-d-lt0.false) in
     record {
       answer = rw e (d.ensures.answer ∙ rw size);
