@@ -11,6 +11,20 @@ use lib.Seq.{take_all, take-suc}
 use Rattle.rules.specs.Factor.{Column, at, number, labels, classes}
 use Rattle.rules.proofs.Walk.{classes_more}
 use Rattle.factor.specs.Labels.{largest}
+use Rattle.std.specs.Prelude.{Option}
+use Rattle.std.specs.List.{fold, reduce}
+use Rattle.std.specs.Option.{unwrap_or}
+
+-- the largest of the labels, folded from the first on
+largest_folded : (F : Column) (x : ℕ) → fold max x F ≡ largest (x ∷ F)
+unfolding largest
+largest_folded [] x = omega arith
+largest_folded (y ∷ F) x = let e = largest_folded F (max x y) in omega (arith, e)
+
+pub largest_reduced : (F : Column) (r : Option ℕ) → r ≡ reduce max F → unwrap_or r 0 ≡ largest F
+unfolding largest
+largest_reduced [] r e = rw e
+largest_reduced (x ∷ F) r e = rw e (largest_folded F x)
 
 pub largest_none : (F : Column) → largest (take 0 F) ≡ 0
 unfolding largest

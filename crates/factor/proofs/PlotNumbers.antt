@@ -1,11 +1,11 @@
 -- Laws of the equality factor in an array that is filled from its start.
 -- Assumes nothing.
 use mathlib.Core.Path.{◌≡◌, sym, ap, ◌∙◌}
-use mathlib.Core.List.{List, [], ◌∷◌, ◌++◌}
+use mathlib.Core.List.{List, [], ◌∷◌, ◌++◌, append-nil}
 use Prim.Native.Nat.{ℕ, zero, suc, ◌+◌, ◌≤◌, ◌<◌, min}
 use native.Mathlib.Numerals.{add-one}
 use native.Mathlib.Omega.{arith}
-use lib.ListN.{length, take, drop, set, replicate}
+use lib.ListN.{length, take, drop, set, replicate, length-take, drop_of_length-le}
 use lib.Seq.{drop-cons, set_at, append_snoc}
 use Rattle.rules.specs.Factor.{equality, up_from}
 use Rattle.rules.proofs.Extremes.{length_equality}
@@ -39,6 +39,13 @@ equality_step out u h =
     ∙ sym (append_snoc (equality u) (u + 1) (drop (suc u) out))
     ∙ ap (λ (r : List ℕ). r ++ drop (suc u) out) (sym (equality_more u))
     ∙ ap (λ (k : ℕ). equality (u + 1) ++ drop k out) (sym (m ∙ add-one u))
+
+-- the first m bytes are stored, and the rest is as it was
+pub equality_filled : (out : List ℕ) (m : ℕ) (items : List ℕ) → items ≡ overlay (take m out) (equality m) → items ++ drop m out ≡ overlay out (equality m)
+equality_filled out m items e =
+    let l = length_equality m in
+    let none : drop m (take m out) ≡ [] = drop_of_length-le (take m out) {i = m} (simp length-take (omega arith)) in
+    rw (e, l, none, append-nil)
 
 -- the numbers of the plots
 pub equality_part : (n : ℕ) → n ≤ 240 → take n (equality_in n) ≡ equality n

@@ -5,6 +5,7 @@ use mathlib.Core.Bool.{Bool, true, false, true≢false}
 use mathlib.Core.List.{List}
 use Prim.Native.Nat.{ℕ, zero, suc, ◌+◌, ◌≤◌, ◌<◌}
 use native.Mathlib.Nat.{not-suc-le-zero}
+use Rattle.std.proofs.Common.{zero-le}
 use native.Mathlib.Numerals.{add-one}
 use native.Mathlib.Omega.{arith}
 use lib.Dec.{eqb}
@@ -12,11 +13,13 @@ use lib.ListN.{length, get_or, set, replicate}
 use borrow.Author.Tests.{eqb-true, eqb-false, eq-eqb, ne_eqb}
 use Rattle.rules.specs.Lists.{tabulate}
 use Rattle.rules.specs.Factor.{Column, at, count, class_size, uniform}
-use Rattle.rules.proofs.Lists.{get_d_tabulate, set_tabulate}
+use Rattle.rules.proofs.Lists.{length_tabulate, get_d_tabulate, set_tabulate}
 use Rattle.rules.proofs.Numbering.{by_cases}
 use Rattle.rules.proofs.Tests.{count_yes, count_no, uniform_test}
 use Rattle.rules.proofs.Walks.{bool_false, count_le}
 use Rattle.rules.proofs.Sums.{Some, nowhere, somewhere, some}
+use Rattle.std.specs.Bool.{MatchBool}
+use Rattle.std.specs.List.{AllWithin, HoldsAt}
 use Rattle.factor.specs.Sizes.{labelled, sizes}
 
 -- ---- sizes
@@ -56,7 +59,19 @@ count_some (suc n) p u h e z =
     (λ r. let w : true ≡ false = sym e ∙ ap p (eqb-true u n r) ∙ q in true≢false w)
     (λ r. let ne : u ≡ n → ⊥ = eqb-false u n r in count_some n p u (omega (arith, ne)) e (sym (count_no n p q) ∙ z)))
 
+-- a label without a plot, or one of a class of this size
+abbrev pub SizeOf : ℕ → ℕ → Type 0
+SizeOf first size = (size ≡ 0 → ⊥) → size ≡ first
+
+-- a label of a class of another size
+abbrev pub OtherSize : ℕ → ℕ → Type 0
+OtherSize first size = (size ≡ 0 → ⊥) × (size ≡ first → ⊥)
+
 module _ (F : Column) {t : List ℕ} (e : t ≡ sizes F) (bytes : (u : ℕ) → at F u < 256) where
+  room : length t ≡ 256
+  unfolding sizes
+  room = ap length e ∙ length_tabulate (labelled (length F) F) 256
+
   -- the label of a plot has a plot
   sizes_some : (u : ℕ) → u < length F → get_or t (at F u) 0 ≡ 0 → ⊥
   unfolding class_size
@@ -79,3 +94,10 @@ module _ (F : Column) {t : List ℕ} (e : t ≡ sizes F) (bytes : (u : ℕ) → 
       go (somewhere v hv q) =
           bool_false _ (λ yes. ne (ap (λ (y : ℕ). get_or t y 0) (eqb-true x (at F v) q)
           ∙ sizes_at F e v (bytes v) ∙ (uniform_test (length F) F).0 yes v 0 hv plot ∙ sym (sizes_at F e 0 (bytes 0))))
+
+  -- what a walk over the table tells: all labels with a plot have as many as that of the first plot, or one has not
+  pub one_size_told : (r : Bool) → 0 < length F
+      → MatchBool r (AllWithin (SizeOf (get_or t (at F 0) 0)) t 0 (length t)) ((x : ℕ) × (x < length t) × HoldsAt (OtherSize (get_or t (at F 0) 0)) t x)
+      → r ≡ uniform (length F) F
+  one_size_told true plot all = sym (one_size_yes (λ x h. all x 0 zero-le (omega (arith, room))))
+  one_size_told false plot one = sym (one_size_no plot one.0 (omega (arith, room, one.1)) (one.2 0).0 (one.2 0).1)

@@ -9,10 +9,9 @@ use limits::PLOTS;
 pub fn equality(n: usize) -> [u8; PLOTS]
     ensures { result ≡ equality_in n }
 {
-    let plots = numbered_plots(n);
     let mut column = [0u8; PLOTS];
-    for u in 0..plots {
-        column[u] = (u + 1) as u8;
+    for (u, label) in column[..numbered_plots(n)].iter_mut().enumerate() {
+        *label = u as u8 + 1;
     }
     column
 }

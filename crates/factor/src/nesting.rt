@@ -13,21 +13,21 @@ pub fn finer(f: &[u8], g: &[u8]) -> bool
     agrees(&f[..n], &g[..n])
 }
 
-// `finer` for two columns of one length, in one walk: the table has the label in `g` of each class of `f` that was met, plus 1.
+// `finer` for two columns of one length, in one walk: the table has the label in `g` of each class of `f` that was met.
 fn agrees(f: &[u8], g: &[u8]) -> bool
     requires { length g.now ≡ length f.now }
     ensures { result ≡ finer (length f.now) f.now g.now }
 {
-    let mut table = [0u16; 256];
-    for u in 0..f.len() {
-        let x = f[u] as usize;
-        let y = g[u] as u16 + 1;
-        let z = table[x];
-        if z != y {
-            if z != 0 {
-                return false;
+    let mut table = [None; 256];
+    for (u, &x) in f.iter().enumerate() {
+        let y = g[u];
+        match table[x as usize] {
+            None => table[x as usize] = Some(y),
+            Some(z) => {
+                if z != y {
+                    return false;
+                }
             }
-            table[x] = y;
         }
     }
     true

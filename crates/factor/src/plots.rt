@@ -8,18 +8,12 @@ use limits::PLOTS;
 pub(crate) fn numbered_plots(n: usize) -> usize
     ensures { result ≡ min most_plots n }
 {
-    if n < PLOTS {
-        return n;
-    }
-    PLOTS
+    n.min(PLOTS)
 }
 
 // How many plots two columns have in common.
 pub fn common_plots(a: usize, b: usize) -> usize
     ensures { result ≡ min most_plots (min a b) }
 {
-    if a < b {
-        return numbered_plots(a);
-    }
-    numbered_plots(b)
+    numbered_plots(a.min(b))
 }

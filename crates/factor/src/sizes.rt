@@ -13,9 +13,8 @@ fn sizes(f: &[u8]) -> [u8; 256]
     ensures { result ≡ sizes f.now }
 {
     let mut table = [0u8; 256];
-    for u in 0..f.len() {
-        let x = f[u] as usize;
-        table[x] += 1;
+    for &x in f {
+        table[x as usize] += 1;
     }
     table
 }
@@ -33,33 +32,15 @@ pub fn uniform(f: &[u8]) -> bool
     ensures { result ≡ uniform (length (plots_of f.now)) (plots_of f.now) }
 {
     let n = numbered_plots(f.len());
-    if n == 0 {
-        return true;
-    }
-    one_size(&f[..n])
+    n == 0 || one_size(&f[..n])
 }
 
-// The same for a column that has a plot: the labels that have a plot have as many as that of the first plot, at most and at least.
-// The walk goes to the end, so that many labels are compared at a time.
+// The same for a column that has a plot: the class of each plot has as many as that of the first.
 fn one_size(f: &[u8]) -> bool
     requires { (0 < length f.now) × (length f.now ≤ most_plots) }
     ensures { result ≡ uniform (length f.now) f.now }
 {
     let table = sizes(f);
     let first = table[f[0] as usize];
-    let mut most = first;
-    let mut least = first;
-    for x in 0..256 {
-        let mut size = table[x];
-        if size == 0 {
-            size = first;
-        }
-        if most < size {
-            most = size;
-        }
-        if size < least {
-            least = size;
-        }
-    }
-    least == most
+    table.iter().all(|&size| size == 0 || size == first)
 }

@@ -1,7 +1,7 @@
--- `uniform` meets its contract.
+-- `uniform` meets its contract: a column without a plot has classes of one size, and else they are looked at.
 use mathlib.Core.Path.{◌≡◌, sym, ◌∙◌}
-use native.Mathlib.Omega.{arith}
 use lib.ListN.{length, take, length-take}
+use borrow.Author.Tests.{eq-eqb}
 use Rattle.rules.specs.Factor.{every, uniform}
 use Rattle.factor.proofs.Fill.{take_min}
 use Rattle.factor.proofs.sizes.uniform.Goals as goal
@@ -11,17 +11,10 @@ unfolding uniform every
 returns-then-n-eq0 c =
     let f = c.args.f.now in
     let e : length (take 240 f) ≡ 0 = length-take 240 f ∙ sym c.numbered_plots-n.ensures ∙ c.if-n-eq0.true in
-    rw e
+    rw e (eq-eqb c.numbered_plots-n.result 0 c.if-n-eq0.true)
 
-pub slice_bounds-one_size-end : goal.slice_bounds-one_size-end
-slice_bounds-one_size-end c = simp length-take (omega arith)
-
-pub one_size-requires : goal.one_size-requires
-one_size-requires c = simp length-take (omega arith)
-
-pub returns : goal.returns
-returns c =
-    let b = c in
-    let f = b.args.f.now in
-    let e : take b.numbered_plots-n.result f ≡ take 240 f = rw b.numbered_plots-n.ensures (take_min 240 f) in
+pub returns-else-n-eq0 : goal.returns-else-n-eq0
+returns-else-n-eq0 c =
+    let f = c.args.f.now in
+    let e : take c.numbered_plots-n.result f ≡ take 240 f = rw c.numbered_plots-n.ensures (take_min 240 f) in
     rw e at c.one_size.ensures
