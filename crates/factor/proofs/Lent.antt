@@ -17,12 +17,6 @@ module _ (n i : ℕ) (b : List ℕ) where
       let e : 240 * i + n - 240 * i ≡ n = omega arith in
       ap (λ (k : ℕ). take k (drop (240 * i) b)) e
 
-  -- the part from there to the end, where there is no more
-  pub part_rest : length b - 240 * i ≤ n → take (length b - 240 * i) (drop (240 * i) b) ≡ column_at n b i
-  part_rest h =
-      let l : length (drop (240 * i) b) ≡ length b - 240 * i = length-drop (240 * i) b in
-      take_all (length b - 240 * i) (drop (240 * i) b) (omega arith) ∙ sym (take_all n (drop (240 * i) b) (omega arith))
-
   -- no part, past the end
   pub part_none : length b ≤ 240 * i → [] ≡ column_at n b i
   part_none h = sym (ap (λ (l : List ℕ). take n l) (drop_of_length-le b h) ∙ take-nil n)

@@ -4,6 +4,10 @@ use Rattle.std.specs.Prelude.{List, ◌++◌, ℕ, ◌*◌, min, length, take, d
 use Rattle.rules.specs.Limits.{most_plots}
 use Rattle.rules.specs.Factor.{Column, equality}
 
+-- the n elements from place 240 × i on, or as many as are there
+abbrev pub part_at : {A : Type 0} → ℕ → List A → ℕ → List A
+part_at n buffer i = take n (drop (most_plots * i) buffer)
+
 -- the column at place i, from 0, of a level table or a family buffer on n plots: as much of it as is there
 abbrev pub column_at : ℕ → List ℕ → ℕ → Column
 column_at n buffer i = take n (drop (most_plots * i) buffer)

@@ -6,6 +6,7 @@ mod extremes;
 mod labels;
 mod nesting;
 mod order;
+mod parts;
 mod plots;
 mod sizes;
 
@@ -13,5 +14,6 @@ pub use extremes::equality;
 pub use labels::largest;
 pub use nesting::finer;
 pub use order::{alike, smaller};
+pub use parts::part;
 pub use plots::common_plots;
 pub use sizes::{label_sizes, uniform};

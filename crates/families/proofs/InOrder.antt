@@ -12,7 +12,7 @@ use Rattle.rules.specs.Family.{Family, alike, before, members_of, all_numbered, 
 use Rattle.rules.proofs.Buffer.{length_members, member_is}
 use Rattle.rules.proofs.WellFormed.{numbered_on, numbered_here, numbered_end, ordered_on, ordered_here, ordered_last}
 use Rattle.families.specs.Lent.{column_at, numbered_classes}
-use Rattle.families.proofs.Lent.{length_column}
+use Rattle.std.specs.Prelude.{Some, None}
 use Rattle.families.proofs.Counted.{counted_not, counted_is}
 
 module _ (n : ℕ) (few : n ≤ 240) (f : List ℕ) (long : 7680 ≤ length f) (size : ℕ) (most : size ≤ 32) where
@@ -33,24 +33,20 @@ module _ (n : ℕ) (few : n ≤ 240) (f : List ℕ) (long : 7680 ≤ length f) (
     numbering_of b e = ap (λ (F : Column). alike (number F) F) (member_is n few f size i h) ∙ e
 
     -- member i is not numbered
-    pub come_unnumbered : all_numbered S ≡ all_numbered (drop i S) → numbered_classes (column_at n f i) ≡ 241 → all_numbered S && ordered S ≡ false
+    pub come_unnumbered : all_numbered S ≡ all_numbered (drop i S) → numbered_classes (column_at n f i) ≡ None → all_numbered S && ordered S ≡ false
     come_unnumbered e c =
-        let no = counted_not (column_at n f i) (rw (length_column n i f few (omega arith) long) few) c in
+        let no = counted_not (column_at n f i) c in
         rw (e ∙ numbered_here S i (rw sized h) (numbering_of false no))
 
     -- it is
-    numbers_on : all_numbered S ≡ all_numbered (drop i S) → (numbered_classes (column_at n f i) ≡ 241 → ⊥) → all_numbered S ≡ all_numbered (drop (i + 1) S)
-    numbers_on e c =
-        let yes = (counted_is (column_at n f i) (rw (length_column n i f few (omega arith) long) few) c).0 in
+    numbers_on : (m : ℕ) → all_numbered S ≡ all_numbered (drop i S) → numbered_classes (column_at n f i) ≡ Some m → all_numbered S ≡ all_numbered (drop (i + 1) S)
+    numbers_on m e c =
+        let yes = (counted_is (column_at n f i) m c).0 in
         e ∙ rw add-one (numbered_on S i (rw sized h) (numbering_of true yes))
 
-    -- and has that many classes
-    pub classes_of : (numbered_classes (column_at n f i) ≡ 241 → ⊥) → numbered_classes (column_at n f i) ≡ classes (column_at n f i)
-    classes_of c = (counted_is (column_at n f i) (rw (length_column n i f few (omega arith) long) few) c).1
-
   -- the first member
-  pub come_start : 0 < size → (numbered_classes (column_at n f 0) ≡ 241 → ⊥) → Come (numbered_classes (column_at n f 0)) 1
-  come_start h c = record { last = classes_of 0 h c; numbers = numbers_on 0 h refl c; order = refl }
+  pub come_start : 0 < size → (m : ℕ) → numbered_classes (column_at n f 0) ≡ Some m → Come m 1
+  come_start h m c = record { last = (counted_is (column_at n f 0) m c).1; numbers = numbers_on 0 h m refl c; order = refl }
 
   module _ (k i : ℕ) (come : Come k i) (some : 1 ≤ i) where
     module _ (h : i < size) where
@@ -60,13 +56,13 @@ module _ (n : ℕ) (few : n ≤ 240) (f : List ℕ) (long : 7680 ≤ length f) (
           ap₂ before (member_is n few f size (i - 1) (omega arith)) (rw s (member_is n few f size i h)) ∙ e
 
       -- member i stands at its place
-      pub come_on : (numbered_classes (column_at n f i) ≡ 241 → ⊥) → before (column_at n f (i - 1)) (column_at n f i) ≡ true → Come (numbered_classes (column_at n f i)) (i + 1)
-      come_on c e =
+      pub come_on : (m : ℕ) → numbered_classes (column_at n f i) ≡ Some m → before (column_at n f (i - 1)) (column_at n f i) ≡ true → Come m (i + 1)
+      come_on m c e =
           let s : i + 1 - 1 ≡ i = omega arith in
           let p : suc (i - 1) ≡ i = omega arith in
           record {
-            last = rw s (classes_of i h c);
-            numbers = numbers_on i h come.numbers c;
+            last = rw s (counted_is (column_at n f i) m c).1;
+            numbers = numbers_on i h m come.numbers c;
             order = rw s (come.order ∙ ordered_on S (i - 1) (rw sized (omega arith)) (before_of true e) ∙ rw p);
           }
 

@@ -1,46 +1,32 @@
 -- Laws of question 7: levels that are not 0.
 -- Assumes nothing.
 use mathlib.Core.Path.{◌≡◌, refl, sym, ap, ◌∙◌}
-use mathlib.Core.Bool.{true, false}
-use mathlib.Core.List.{List, ◌∷◌}
+use mathlib.Core.Bool.{Bool, true, false, not, ◌&&◌}
+use mathlib.Core.List.{List, [], ◌∷◌}
+use Rattle.std.specs.List.{list_all}
 use Prim.Native.Nat.{ℕ, zero, suc, ◌+◌, ◌*◌, ◌-◌, ◌≤◌, ◌<◌}
 use native.Mathlib.Numerals.{add-one}
 use native.Mathlib.Omega.{arith}
 use lib.Dec.{eqb}
-use lib.ListN.{length, drop, drop_of_length-le}
-use lib.Seq.{drop-cons}
-use borrow.Author.Tests.{eq-eqb, ne_eqb}
-use Rattle.rules.specs.Factor.{Column, at}
+use lib.ListN.{length}
+use Rattle.rules.specs.Factor.{Column}
 use Rattle.rules.specs.Family.{columns_from}
 use Rattle.rules.specs.Design.{nonzero, all_nonzero}
 use Rattle.factor.specs.Lent.{column_at}
 use Rattle.factor.proofs.Lent.{part_none}
+use Rattle.std.proofs.Common.{◌⊎◌, inl, inr}
 
 -- ---- one column
 
-module _ (F : Column) (u : ℕ) where
-  nonzero_head : (x : ℕ) (G : Column) → eqb x 0 ≡ true → nonzero (x ∷ G) ≡ false
-  unfolding nonzero
-  nonzero_head x G e = rw (e, nonzero)
-
-  nonzero_tail : (x : ℕ) (G : Column) → eqb x 0 ≡ false → nonzero (x ∷ G) ≡ nonzero G
-  unfolding nonzero
-  nonzero_tail x G e = rw (e, nonzero)
-
-  -- the level at u is 0
-  pub nonzero_stops : u < length F → at F u ≡ 0 → nonzero (drop u F) ≡ false
-  nonzero_stops h e = ap nonzero (drop-cons F u 0 h) ∙ nonzero_head (at F u) (drop (suc u) F) (eq-eqb (at F u) 0 e)
-
-  -- it is not
-  pub nonzero_on : u < length F → (at F u ≡ 0 → ⊥) → nonzero (drop u F) ≡ nonzero (drop (u + 1) F)
-  nonzero_on h e =
-      ap nonzero (drop-cons F u 0 h) ∙ nonzero_tail (at F u) (drop (suc u) F) (ne_eqb (at F u) 0 e)
-      ∙ ap (λ (k : ℕ). nonzero (drop k F)) (sym (add-one u))
-
-  -- the end
-  pub nonzero_end : length F ≤ u → nonzero (drop u F) ≡ true
-  unfolding nonzero
-  nonzero_end h = ap nonzero (drop_of_length-le F h)
+-- each level passes the test
+pub nonzero_tested : (F : Column) → list_all (λ (x : ℕ). not (eqb x 0)) F ≡ nonzero F
+unfolding nonzero
+nonzero_tested [] = refl
+nonzero_tested (x ∷ F) = go (eqb x 0) (nonzero_tested F)
+  where
+    go : (b : Bool) {p q : Bool} → p ≡ q → (not b && p) ≡ elim b [ true ↦ false | false ↦ q ]
+    go true e = refl
+    go false e = e
 
 -- ---- the columns from c on, m of them
 
@@ -77,3 +63,8 @@ module _ (n : ℕ) (table : List ℕ) where
   all_none c m h =
       let e : m ≡ 0 = omega arith in
       rw e
+
+  -- nothing is left to ask, or no level
+  pub all_rest : (c m : ℕ) → (m ≤ 0) ⊎ (length table ≤ 240 * c) → all_nonzero (columns_from n table c m) ≡ true
+  all_rest c m (inl h) = all_none c m h
+  all_rest c m (inr h) = all_past c m h

@@ -13,26 +13,14 @@ use limits::{Level, PLOTS};
 pub fn column(levels: &[Level], c: usize, n: usize) -> &[Level]
     ensures { result.now ≡ column_at n levels.now c }
 {
-    if levels.len() / PLOTS < c {
-        return &levels[..0];
-    }
-    let start = PLOTS * c;
-    if levels.len() - start < n {
-        return &levels[start..];
-    }
-    let end = start + n;
-    &levels[start..end]
+    factor::part(levels, c, n)
 }
 
 // The level of plot `u` in column `c`, both from 0, of a level table on `n` plots; 0 where there is none.
 pub fn level(levels: &[Level], c: usize, n: usize, u: usize) -> Level
     ensures { result ≡ at (column_at n levels.now c) u }
 {
-    let plots = column(levels, c, n);
-    if u < plots.len() {
-        return plots[u];
-    }
-    0
+    column(levels, c, n).get(u).copied().unwrap_or(0)
 }
 
 // Numbers column `c`, from 0, of a level table on `n` plots by first appearance; answers how many classes it has.
@@ -47,29 +35,18 @@ pub fn column_numbers(levels: &[Level], c: usize, n: usize, out: &mut [u8; PLOTS
 fn nonzero(column: &[Level]) -> bool
     ensures { result ≡ nonzero column.now }
 {
-    for u in 0..column.len() {
-        if column[u] == 0 {
-            return false;
-        }
-    }
-    true
+    column.iter().all(|&level| level != 0)
 }
 
 // 7: is every level of the columns from `first` on, `count` of them, nonzero? Past the slice there is no level.
 pub fn all_nonzero(levels: &[Level], n: usize, first: usize, count: usize) -> bool
     ensures { result ≡ all_nonzero (columns_from n levels.now first count) }
 {
-    let mut c = first;
-    let mut left = count;
-    while 0 < left {
-        if levels.len() / PLOTS < c {
-            return true;
-        }
+    let end = first.saturating_add(count).min(levels.len() / PLOTS + 1);
+    for c in first..end {
         if !nonzero(column(levels, c, n)) {
             return false;
         }
-        c += 1;
-        left -= 1;
     }
     true
 }

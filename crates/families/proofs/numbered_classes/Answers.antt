@@ -1,43 +1,46 @@
-use mathlib.Core.Path.{◌≡◌, refl, sym, ap, ◌∙◌}
-use Prim.Native.Nat.{◌+◌, ◌<◌}
+use mathlib.Core.Path.{◌≡◌, sym, ap, ◌∙◌}
+use Prim.Native.Nat.{◌+◌}
 use native.Mathlib.Omega.{arith}
+use lib.Dec.{ltb}
 use lib.ListN.{length, get_or}
 use lib.Seq.{take_all}
+use borrow.Author.Tests.{ltb-true, ltb-false}
+use Rattle.std.specs.Prelude.{Some}
 use Rattle.rules.specs.Factor.{classes}
+use Rattle.rules.proofs.Numbering.{by_cases}
 use Rattle.factor.proofs.Table.{Stepped, classes_none}
-use Rattle.factor.proofs.UpTo.{up_to, up_none, up_old, up_new, up_wrong, up_all}
+use Rattle.factor.proofs.UpTo.{up_to, up_none, up_old, up_new, up_wrong, up_zero, up_all}
 use Rattle.families.proofs.Counted.{counted_yes, counted_no}
 use Rattle.families.proofs.numbered_classes.Goals as goal
-use Rattle.families.proofs.numbered_classes.Goals.{else-k-x, then-k-x+else-k-x-2}
+use Rattle.families.proofs.numbered_classes.Goals.{then-x-eq0-via-then-x-eq0, then-x-eq0-via-else-x-eq0+then-most-x}
 
-pub loop-u-init : goal.loop-u-init
-loop-u-init c = (omega arith, omega arith, classes_none, up_none c.args.column.now, refl)
+pub loop-x-init : goal.loop-x-init
+loop-x-init c = (omega arith, classes_none, up_none c.args.column.now)
 
-pub overflow_cast-x : goal.overflow_cast-x
-overflow_cast-x c = omega (arith, c.type_inv.column c.loop-u.u)
-
-pub returns-then-not-all_labelled : goal.returns-then-not-all_labelled
-returns-then-not-all_labelled c = sym (c.all_labelled.ensures.column_value (c.if-not-all_labelled.true))
-
-pub returns-then-k-x-2 : goal.returns-then-k-x-2
-returns-then-k-x-2 c =
+pub returns-then-x-eq0 : goal.returns-then-x-eq0
+returns-then-x-eq0 c =
     let F = c.args.column.now in
-    sym (counted_no F (up_wrong F c.loop-u.u (omega arith) c.loop-u.k c.loop-u.invariant.3 c.loop-u.invariant.2 (omega arith)))
+    let u = c.loop-x.x-index in
+    elim c.then-x-eq0.branch [
+      | then-x-eq0-via-then-x-eq0 w ↦ sym (counted_no F (up_zero F u (omega arith) w.if-x-eq0.true))
+      | then-x-eq0-via-else-x-eq0+then-most-x w ↦ sym (counted_no F (up_wrong F u (omega arith) c.loop-x.most c.loop-x.invariant.2 c.loop-x.invariant.1 (omega arith)))
+    ]
 
-pub loop-u-preserved : goal.loop-u-preserved
-loop-u-preserved c =
-    let column = c.args.column.now in
-    let u = c.loop-u.u in
-    let k = c.loop-u.k in
-    let x = get_or column u 0 in
-    let h : u < length column = omega arith in
-    let pos : 0 < x = c.all_labelled.ensures.u_nonzero (c.if-not-all_labelled.false) u h in
-    let t : Stepped column u (up_to c.if-k-x.k) c.if-k-x.k =
-    elim c.if-k-x.branch [ then-k-x+else-k-x-2 w ↦ let e : x ≡ k + 1 = omega arith in rw (w.k-is ∙ e) (up_new column u h k c.loop-u.invariant.3 c.loop-u.invariant.2 e) | else-k-x w ↦ rw w.k-is (up_old column u h k c.loop-u.invariant.3 c.loop-u.invariant.2 pos w.if-k-x.false) ] in
-    (omega arith, elim c.if-k-x.branch [ then-k-x+else-k-x-2 w ↦ omega arith | else-k-x w ↦ omega arith ], t.count, t.tells, c.loop-u.invariant.4)
+pub loop-x-preserved : goal.loop-x-preserved
+loop-x-preserved c =
+    let F = c.args.column.now in
+    let u = c.loop-x.x-index in
+    let k = c.loop-x.most in
+    let x = get_or F u 0 in
+    let t : Stepped F u (up_to c.max-most.result) c.max-most.result = by_cases (ltb k x)
+    (λ e. let l = ltb-true k x e in let q : c.max-most.result ≡ k + 1 = omega arith in rw q (up_new F u (omega arith) k c.loop-x.invariant.2 c.loop-x.invariant.1 (omega arith)))
+    (λ e. let l = ltb-false k x e in let q : c.max-most.result ≡ k = omega arith in rw q (up_old F u (omega arith) k c.loop-x.invariant.2 c.loop-x.invariant.1 (omega arith) l)) in
+    (omega arith, t.count, t.tells)
 
 pub returns : goal.returns
 returns c =
-    let column = c.args.column.now in
-    let e : c.loop-u.u ≡ length column = omega arith in
-    c.loop-u.invariant.2 ∙ ap classes (take_all c.loop-u.u column (omega arith)) ∙ sym (counted_yes column (up_all column c.loop-u.k (rw e at c.loop-u.invariant.3)))
+    let F = c.args.column.now in
+    let k = c.loop-x.most in
+    let e : c.loop-x.x-index ≡ length F = omega arith in
+    let count : k ≡ classes F = c.loop-x.invariant.1 ∙ ap classes (take_all c.loop-x.x-index F (omega arith)) in
+    ap Some count ∙ sym (counted_yes F (up_all F k (rw e at c.loop-x.invariant.2)))

