@@ -1,13 +1,17 @@
 -- Laws of walks that tell one class, and a class for each plot.
 -- Assumes nothing.
 use mathlib.Core.Path.{◌≡◌, refl, sym, ap, ◌∙◌}
-use mathlib.Core.List.{List, []}
-use Prim.Native.Nat.{ℕ, ◌+◌, ◌-◌, ◌≤◌, ◌<◌}
+use mathlib.Core.Bool.{true, false}
+use mathlib.Core.List.{List, [], ◌∷◌}
+use native.Mathlib.Nat.{not-suc-le-zero, le_of_suc-le-suc}
+use Rattle.std.specs.List.{list_all}
+use Rattle.rules.proofs.Members.{clash}
+use Prim.Native.Nat.{ℕ, zero, suc, ◌+◌, ◌-◌, ◌≤◌, ◌<◌}
 use native.Mathlib.Omega.{arith}
 use lib.Dec.{eqb}
 use lib.ListN.{length, get_or, set, replicate, length-set, length-replicate}
 use lib.Seq.{get_or-set_same, get_or-set_other}
-use borrow.Author.Tests.{eqb-true, eqb-false}
+use borrow.Author.Tests.{eqb-true, eqb-false, eq-eqb, ne_eqb}
 use Rattle.rules.specs.Factor.{Column, at, classes, equality}
 use Rattle.rules.proofs.ClassCount.{finer_universal, equality_finer, classes_most, one_class, each_class}
 use Rattle.rules.proofs.Numbering.{by_cases}
@@ -28,6 +32,25 @@ module _ (F : Column) where
   one_no u h d e =
       let k : 0 < length F = omega arith in
       d (((one_class (length F) F refl k).0 e).from u 0 h k (finer_universal (length F) [] u 0 h k refl))
+
+-- what a walk over all labels tells: whether each is x
+agreeing : (x : ℕ) (F : Column) → list_all (λ y. eqb y x) F ≡ true → (u : ℕ) → u < length F → at F u ≡ x
+agreeing x [] e u h = absurd (not-suc-le-zero h)
+agreeing x (y ∷ F) e zero h = by_cases (eqb y x) (λ p. eqb-true y x p) (λ p. clash e (rw p))
+agreeing x (y ∷ F) e (suc u) h = by_cases (eqb y x) (λ p. agreeing x F (sym (rw p) ∙ e) u (le_of_suc-le-suc h)) (λ p. clash e (rw p))
+
+differing : (x : ℕ) (F : Column) → list_all (λ y. eqb y x) F ≡ false → (u : ℕ) × (u < length F) × (at F u ≡ x → ⊥)
+differing x [] e = clash refl e
+differing x (y ∷ F) e =
+    by_cases (eqb y x)
+    (λ p. let r = differing x F (sym (rw p) ∙ e) in (suc r.0, omega (arith, r.1), r.2))
+    (λ p. (0, omega arith, eqb-false y x p))
+
+pub one_told : (x : ℕ) (F : Column) → 0 < length F → x ≡ at F 0 → list_all (λ y. eqb y x) F ≡ eqb (classes F) 1
+one_told x F h z =
+    by_cases (list_all (λ y. eqb y x) F)
+    (λ e. e ∙ sym (eq-eqb (classes F) 1 (one_yes F h (λ u k. agreeing x F e u k ∙ z))))
+    (λ e. let d = differing x F e in e ∙ sym (ne_eqb (classes F) 1 (one_no F d.0 d.1 (λ q. d.2 (q ∙ sym z)))))
 
 -- ---- a class for each plot
 

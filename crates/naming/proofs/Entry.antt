@@ -8,7 +8,7 @@ use native.Mathlib.Omega.{arith}
 use lib.Dec.{eqb, ltb, leb}
 use lib.ListN.{length, get_or, take}
 use lib.Seq.{take_all}
-use borrow.Author.Tests.{leb-true, ltb-true, eqb-true, lt-ltb, lt-leb, le-leb, eq-eqb, ne_eqb}
+use borrow.Author.Tests.{leb-true, ltb-true, eqb-true, lt-ltb, le-leb, eq-eqb, ne_eqb}
 use Rattle.rules.specs.Factor.{Column}
 use Rattle.rules.specs.Family.{Family, columns_from, members_of, well_formed}
 use Rattle.rules.specs.Design.{plots_within, nonzero, all_nonzero}

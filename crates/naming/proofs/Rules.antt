@@ -3,18 +3,18 @@
 use mathlib.Core.Path.{◌≡◌, refl, sym, ap, ap₂, ◌∙◌}
 use mathlib.Core.Bool.{true, false}
 use mathlib.Core.List.{List, [], ◌∷◌, ◌++◌}
-use Prim.Native.Nat.{ℕ, suc, ◌*◌, ◌≤◌}
-use native.Mathlib.Nat.{zero-add, not-suc-le-zero}
-use native.Mathlib.Omega.{arith}
+use Prim.Native.Nat.{ℕ, suc, ◌*◌}
+use native.Mathlib.Nat.{zero-add}
 use lib.Dec.{eqb}
-use lib.ListN.{length, drop}
+use lib.ListN.{drop}
 use Rattle.rules.specs.Factor.{Column, classes}
 use Rattle.rules.specs.Family.{alike, members_of}
 use Rattle.rules.specs.Lists.{tabulate}
 use Rattle.rules.specs.Names.{name_column, finer_side, coarser_side, equivalent_column, join_of, shown, with_commas, name_by_supremum, name_by_infimum, name_by_column, name_of, bytes_of}
 use Rattle.rules.proofs.Numbering.{by_cases}
-use Rattle.decimal.specs.Writing.{fits, written, place_after}
-use Rattle.decimal.proofs.Writing.{written_nil, place_nil}
+use Rattle.std.specs.Prelude.{Option, None, Some}
+use Rattle.decimal.specs.Writing.{written, place_after}
+use Rattle.naming.specs.Listing.{WroteIfAny}
 use Rattle.naming.specs.declared.columns.Look.{Look}
 use Rattle.naming.specs.declared.sides.Side.{Side}
 use Rattle.naming.specs.declared.sides.Side.TheVariants.{Coarser, Finer}
@@ -23,30 +23,28 @@ use Rattle.naming.specs.Members.{side_text, list_text, supremum_text, infimum_te
 
 -- ---- a text, or the next
 
-module _ (out : List ℕ) (room : 1 ≤ length out) where
-  -- a byte was written
-  pub else_some : (s t : List ℕ) → (place_after out 0 s ≡ 0 → ⊥) → s ≡ or_else s t
-  else_some [] t h = absurd (h (place_nil out 0))
-  else_some (x ∷ s) t h = refl
+-- a text was written
+pub wrote_else : (out : List ℕ) (o : Option (List ℕ)) (next after : List ℕ) (end : ℕ) → WroteIfAny out o after (Some end) → (end ≡ place_after out 0 (or_else o next)) × (after ≡ written out 0 (or_else o next))
+wrote_else out None next after end w = let e = w.0 in absurd cc
+wrote_else out (Some text) next after end w = let e = w.0 in (cc, w.1)
 
-  -- no byte was written
-  pub else_none : (s t : List ℕ) → place_after out 0 s ≡ 0 → (written out 0 s ≡ out) × (t ≡ or_else s t)
-  unfolding place_after fits
-  else_none [] t h = (written_nil out 0, refl)
-  else_none (x ∷ s) t h = let z : 1 ≤ 0 = omega arith in absurd (not-suc-le-zero z)
+-- none was
+pub none_else : (out : List ℕ) (o : Option (List ℕ)) (next after : List ℕ) → WroteIfAny out o after None → (after ≡ out) × (next ≡ or_else o next)
+none_else out None next after w = (w.1, refl)
+none_else out (Some text) next after w = let e = w.0 in absurd cc
 
 -- ---- U and E, then a column
 
 module _ (n : ℕ) (F : Column) where
-  pub extreme_one : eqb (classes F) 1 ≡ true → extreme_name n F ≡ 85 ∷ []
+  pub extreme_one : eqb (classes F) 1 ≡ true → extreme_name n F ≡ Some (85 ∷ [])
   unfolding extreme_name bytes_of
   extreme_one e = rw (e, extreme_name)
 
-  pub extreme_all : eqb (classes F) 1 ≡ false → eqb (classes F) n ≡ true → extreme_name n F ≡ 69 ∷ []
+  pub extreme_all : eqb (classes F) 1 ≡ false → eqb (classes F) n ≡ true → extreme_name n F ≡ Some (69 ∷ [])
   unfolding extreme_name bytes_of
   extreme_all d e = rw (d, e, extreme_name)
 
-  pub extreme_no : eqb (classes F) 1 ≡ false → eqb (classes F) n ≡ false → extreme_name n F ≡ []
+  pub extreme_no : eqb (classes F) 1 ≡ false → eqb (classes F) n ≡ false → extreme_name n F ≡ None
   unfolding extreme_name
   extreme_no d e = rw (d, e, extreme_name)
 
@@ -71,11 +69,11 @@ module _ (names looked : List (List ℕ)) (n : ℕ) (Cs Ls : List Column) (place
 -- ---- what the columns on a side make
 
 module _ (look : Look) (side : Side) (text table : List ℕ) (F : Column) where
-  pub side_fits : alike (join_of (side_of look.plots side) F (looked_in look table)) F ≡ true → side_text look side text table F ≡ list_text look side text (shown (side_of look.plots side) F (looked_in look table))
+  pub side_fits : alike (join_of (side_of look.plots side) F (looked_in look table)) F ≡ true → side_text look side text table F ≡ Some (list_text look side text (shown (side_of look.plots side) F (looked_in look table)))
   unfolding side_text
   side_fits e = rw (e, side_text)
 
-  pub side_fits_not : alike (join_of (side_of look.plots side) F (looked_in look table)) F ≡ false → side_text look side text table F ≡ []
+  pub side_fits_not : alike (join_of (side_of look.plots side) F (looked_in look table)) F ≡ false → side_text look side text table F ≡ None
   unfolding side_text
   side_fits_not e = rw (e, side_text)
 
@@ -90,7 +88,7 @@ module _ (look : Look) (text table : List ℕ) (place : ℕ) (F : Column) where
       (λ e. rw (e, name_by_supremum, side_text))
 
   -- the columns of the kind by themselves
-  alone_in : looked_in (alone look) (drop (240 * look.before) table) ≡ own_in look table
+  pub alone_in : looked_in (alone look) (drop (240 * look.before) table) ≡ own_in look table
   alone_in = ap (members_of look.plots (drop (240 * look.before) table)) (zero-add look.count)
 
   alone_names : look_names (alone look) text ≡ own_names look text

@@ -3,7 +3,7 @@
 use mathlib.Core.Path.{◌≡◌, refl, sym, ap, ap₂, ◌∙◌}
 use mathlib.Core.Bool.{Bool, true, false, not, ◌&&◌}
 use mathlib.Core.List.{List, [], ◌∷◌}
-use Prim.Native.Nat.{ℕ, suc, ◌+◌, ◌≤◌, ◌<◌}
+use Prim.Native.Nat.{ℕ, zero, suc, ◌+◌, ◌≤◌, ◌<◌}
 use native.Mathlib.Nat.{add-zero, zero-add}
 use native.Mathlib.Numerals.{add-one}
 use native.Mathlib.Omega.{arith}
@@ -11,29 +11,24 @@ use lib.Dec.{ltb}
 use lib.ListN.{length, get_or, drop, drop_of_length-le}
 use lib.Seq.{drop-cons}
 use Rattle.rules.specs.Factor.{Column, every, number}
-use Rattle.rules.specs.Lists.{word_of, bit_at, passing_from}
+use Rattle.rules.specs.Lists.{passing_from}
 use Rattle.rules.specs.Names.{Side as RuleSide, join_of, on_side, hides, listed, shown}
+use Rattle.std.specs.List.{list_all, range_with_len}
+use Rattle.rules.proofs.Sheet.{and_false}
 use Rattle.rules.proofs.Bits.{every_suc, every_ext}
 use Rattle.rules.proofs.Bounds.{numbered_equal}
-use Rattle.rules.proofs.Members.{clash}
 use Rattle.rules.proofs.NameSame.{passing_same}
 use Rattle.rules.proofs.NameSides.{SideLaws, coarser_laws, finer_laws}
 use Rattle.rules.proofs.Numbering.{by_cases}
 use Rattle.rules.proofs.Supremum.{equivalent_refl}
-use Rattle.rules.proofs.Tests.{every_at}
-use Rattle.rules.proofs.Words.{bit_word}
 use Rattle.naming.specs.declared.sides.Side.{Side}
 use Rattle.naming.specs.declared.sides.Side.TheVariants.{Coarser, Finer}
-use Rattle.naming.specs.Columns.{side_of, outdone, listed_by, join_by}
+use Rattle.naming.specs.Columns.{side_of, listed_by, join_by}
 
 -- what both sides have in common
 pub side_laws : (n : ℕ) (side : Side) → SideLaws n (side_of n side)
 side_laws n Coarser = coarser_laws n
 side_laws n Finer = finer_laws n
-
--- a column lies on its own side
-pub towards_itself : (n : ℕ) (side : Side) (C : Column) → (side_of n side).towards C C ≡ true
-towards_itself n side C = (side_laws n side).alike_there C C equivalent_refl
 
 -- what two columns make does not hang on the number of plots
 pub join_of_lem : (n : ℕ) (side : Side) → (side_of 0 side).join ≡ (side_of n side).join
@@ -97,34 +92,55 @@ module _ (t : ℕ → Bool) (s : RuleSide) (Cs : List Column) (i : ℕ) where
   unfolding listed_by
   listed_if e = rw e
 
-  allows_is : (j : ℕ) → allows t s Cs i j ≡ not (outdone (t j) s (get_or Cs j []) (get_or Cs i []) (ltb j i))
-  unfolding hides outdone
-  allows_is j = refl
+-- ---- whether a column is nearer, or equivalent and lower
 
-  -- column j keeps it from the list
-  pub outdone_here : (j : ℕ) → j < length Cs → outdone (t j) s (get_or Cs j []) (get_or Cs i []) (ltb j i) ≡ true → every (length Cs) (allows t s Cs i) ≡ false
-  outdone_here j h e =
-      by_cases (every (length Cs) (allows t s Cs i))
-      (λ b. clash (every_at (length Cs) (allows t s Cs i) b j h) (allows_is j ∙ ap not e))
-      (λ b. b)
+-- what a test of two columns tells
+pub side_told : (n m : ℕ) (side : Side) {F G C D : Column} {r : Bool} → r ≡ (side_of m side).towards F G → m ≡ n → F ≡ C → G ≡ D → (side_of n side).towards C D ≡ r
+side_told n m side {F = F} {G = G} e k f g = sym (e ∙ ap (λ (x : ℕ). (side_of x side).towards F G) k ∙ ap₂ ((side_of n side).towards) f g)
 
-  pub allowed_here : (j : ℕ) → every j (allows t s Cs i) ≡ true → outdone (t j) s (get_or Cs j []) (get_or Cs i []) (ltb j i) ≡ false → every (j + 1) (allows t s Cs i) ≡ true
-  allowed_here j a e =
-      let p : allows t s Cs i j ≡ true = allows_is j ∙ ap not e in
-      rw add-one (every_suc j (allows t s Cs i) ∙ ap₂ ◌&&◌ p a)
+module _ (s : RuleSide) (Cs : List Column) (j i : ℕ) where
+  pub hides_further : s.towards (get_or Cs j []) (get_or Cs i []) ≡ false → hides s Cs j i ≡ false
+  unfolding hides
+  hides_further e = rw e
 
--- ---- the word of the columns on this side of a member
+  pub hides_nearer : s.towards (get_or Cs j []) (get_or Cs i []) ≡ true → s.towards (get_or Cs i []) (get_or Cs j []) ≡ false → hides s Cs j i ≡ true
+  unfolding hides
+  hides_nearer e f = rw (e, f)
 
-module _ (w : ℕ) (s : RuleSide) (F : Column) (Cs : List Column) (count : ℕ) (size : length Cs ≡ count) (is : w ≡ word_of (on_side s F Cs) count) where
-  side_bits : (j : ℕ) → j < length Cs → bit_at w j ≡ on_side s F Cs j
-  side_bits j h = ap (λ (x : ℕ). bit_at x j) is ∙ bit_word (on_side s F Cs) count j (omega arith)
+  pub hides_alike : s.towards (get_or Cs j []) (get_or Cs i []) ≡ true → s.towards (get_or Cs i []) (get_or Cs j []) ≡ true → hides s Cs j i ≡ ltb j i
+  unfolding hides
+  hides_alike e f = rw (e, f)
 
-  -- what the columns in it make
-  pub word_join : join_by (bit_at w) s 0 Cs ≡ join_of s F Cs
+-- ---- a test of each number of a range
+
+every_from : (p : ℕ → Bool) (c m : ℕ) → list_all p (range_with_len c m) && every c p ≡ every (c + m) p
+every_from p c zero = ap (λ (k : ℕ). every k p) (sym (add-zero c))
+every_from p c (suc m) =
+    let L = list_all p (range_with_len (c + 1) m) in
+    let more : every (c + 1) p ≡ p c && every c p = rw add-one (every_suc c p) in
+    let on : c + 1 + m ≡ c + suc m = omega arith in
+    by_cases (p c)
+    (λ e. rw e (ap (λ (b : Bool). L && b) (sym (more ∙ ap (λ (b : Bool). b && every c p) e)) ∙ every_from p (c + 1) m ∙ ap (λ (k : ℕ). every k p) on))
+    (λ e. rw e (sym (and_false L) ∙ ap (λ (b : Bool). L && b) (sym (more ∙ ap (λ (b : Bool). b && every c p) e)) ∙ every_from p (c + 1) m ∙ ap (λ (k : ℕ). every k p) on))
+
+pub every_range : (p : ℕ → Bool) (m : ℕ) → list_all p (range_with_len 0 m) ≡ every m p
+unfolding every
+every_range p m =
+    let L = list_all p (range_with_len 0 m) in
+    by_cases L (λ e. e ∙ sym (ap (λ (b : Bool). b && true) e) ∙ whole) (λ e. e ∙ sym (ap (λ (b : Bool). b && true) e) ∙ whole)
+  where
+    whole : list_all p (range_with_len 0 m) && true ≡ every m p
+    whole = every_from p 0 m ∙ ap (λ (k : ℕ). every k p) (zero-add m)
+
+-- ---- what is told of each column: whether it is on this side of a member
+
+module _ (t : ℕ → Bool) (s : RuleSide) (F : Column) (Cs : List Column) (told : (j : ℕ) → j < length Cs → t j ≡ on_side s F Cs j) where
+  -- what the columns there make
+  pub told_join : join_by t s 0 Cs ≡ join_of s F Cs
   unfolding on_side
-  word_join = join_by_lem (bit_at w) s F 0 Cs (λ j h. ap (bit_at w) (zero-add j) ∙ side_bits j h)
+  told_join = join_by_lem t s F 0 Cs (λ j h. ap t (zero-add j) ∙ told j h)
 
-  -- the columns listed of those in it
-  pub word_listed : passing_from (listed_by (bit_at w) s Cs) 0 count ≡ shown s F Cs
+  -- the columns listed of those there
+  pub told_listed : passing_from (listed_by t s Cs) 0 (length Cs) ≡ shown s F Cs
   unfolding shown
-  word_listed = passing_same (listed_by (bit_at w) s Cs) (listed s F Cs) 0 count (λ k l r. listed_by_lem (bit_at w) s F Cs side_bits k (omega arith)) ∙ ap (passing_from (listed s F Cs) 0) (sym size)
+  told_listed = passing_same (listed_by t s Cs) (listed s F Cs) 0 (length Cs) (λ k l r. listed_by_lem t s F Cs told k (omega arith))

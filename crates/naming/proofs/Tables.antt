@@ -1,7 +1,7 @@
 -- Laws of a table of numbered columns: how it is filled, and what the walks over it find.
 -- Assumes nothing.
 use mathlib.Core.Path.{◌≡◌, refl, sym, ap, ap₂, ◌∙◌, subst}
-use mathlib.Core.Bool.{true, false}
+use mathlib.Core.Bool.{Bool, true, false}
 use mathlib.Core.Logic.{⊎_elim}
 use mathlib.Core.List.Memᴰ
 use mathlib.Core.List.{List, [], ◌∷◌, ◌++◌, map, map-append, append-nil}
@@ -26,7 +26,10 @@ use Rattle.decimal.proofs.Writing.{written_all}
 use Rattle.decimal.specs.Writing.{fits, written}
 use Rattle.naming.specs.declared.columns.Look.{Look}
 use Rattle.naming.specs.Answers.{name_by}
-use Rattle.naming.specs.Columns.{NumberedIn, InTable, own_of, looked_of, own_in, looked_in, own_names, look_names, alone, numbered_from}
+use Rattle.std.specs.Prelude.{Option, None, Some}
+use Rattle.std.specs.List.{find, range_with_len}
+use Rattle.std.specs.Option.{option_map}
+use Rattle.naming.specs.Columns.{counted_from_one, NumberedIn, InTable, own_of, looked_of, own_in, looked_in, own_names, look_names, alone, numbered_from}
 use Rattle.naming.specs.Members.{name_text}
 
 -- ---- lent parts and output arrays
@@ -41,11 +44,8 @@ join_part op n out F M s l_f lM l =
     ∙ take_overlay out (op F (take n M)) n l
 
 -- the column itself, written into an array
-pub column_part : (n i : ℕ) (out l : List ℕ) → n ≤ 240 → 240 * i + n ≤ length l → length out ≡ 240 → (X : Column) → X ≡ column_at n l i → take n (written out 0 X) ≡ column_at n l i
-column_part n i out l small h z X is =
-    let C = column_at n l i in
-    let len : length C ≡ n = length_part n i l h in
-    ap (λ (Y : Column). take n (written out 0 Y)) is ∙ ap (take n) (written_all out C (omega arith)) ∙ take_overlay out C n len
+pub column_part : (n : ℕ) (out C : List ℕ) → n ≤ 240 → length out ≡ 240 → length C ≡ n → take n (written out 0 C) ≡ C
+column_part n out C small z l = ap (take n) (written_all out C (omega arith)) ∙ take_overlay out C n l
 
 pub ones : (n m : ℕ) → n ≤ m → take n (replicate m 1) ≡ universal n
 unfolding universal
@@ -187,3 +187,18 @@ module _ (F : Column) (Cs : List Column) (c : ℕ) where
   pub equivalent_end : length Cs ≤ c → equivalent_column F c (drop c Cs) ≡ 0
   unfolding equivalent_column
   equivalent_end h = ap (equivalent_column F c) (drop_of_length-le Cs h)
+
+-- the first of the columns from c on that a test passes is the lowest equivalent one, where the test tells the equivalent ones
+pub found_first : (F : Column) (Cs : List Column) (test : ℕ → Bool) → ((j : ℕ) → j < length Cs → test j ≡ alike (number (get_or Cs j [])) F)
+    → (c m : ℕ) → c + m ≡ length Cs → counted_from_one (find test (range_with_len c m)) ≡ equivalent_column F c (drop c Cs)
+found_first F Cs test h c zero e = sym (equivalent_end F Cs c (omega arith))
+found_first F Cs test h c (suc m) e =
+    by_cases (test c)
+    (λ p. rw p (sym (equivalent_here F Cs c (omega arith) (sym (h c (omega arith)) ∙ p) ∙ add-one c)))
+    (λ p. rw p (found_first F Cs test h (c + 1) m (omega arith) ∙ sym (equivalent_on F Cs c (omega arith) (sym (h c (omega arith)) ∙ p))))
+
+-- the same of what a search answers
+pub found_in : (F : Column) (Cs : List Column) (test : ℕ → Bool) → ((j : ℕ) → j < length Cs → test j ≡ alike (number (get_or Cs j [])) F)
+    → (r : Option ℕ) (m : ℕ) → option_map (λ (x : ℕ). x) r ≡ find test (range_with_len 0 m) → m ≡ length Cs → counted_from_one r ≡ equivalent_column F 0 Cs
+found_in F Cs test h None m e l = ap counted_from_one e ∙ found_first F Cs test h 0 m (zero-add m ∙ l)
+found_in F Cs test h (Some c) m e l = ap counted_from_one e ∙ found_first F Cs test h 0 m (zero-add m ∙ l)

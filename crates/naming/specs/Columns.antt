@@ -1,6 +1,6 @@
 -- The columns that a member is named by, in a table of numbered columns and in a level table, and the tests on them.
 -- Assumes nothing.
-use Rattle.std.specs.Prelude.{Bool, true, false, not, ◌&&◌, ◌||◌, List, [], ◌∷◌, ◌++◌, map, ◌≡◌, ℕ, suc, ◌+◌, ◌*◌, ◌≤◌, length, get_or, take, drop}
+use Rattle.std.specs.Prelude.{Bool, true, false, not, ◌&&◌, List, [], ◌∷◌, ◌++◌, map, Option, None, Some, ◌≡◌, ℕ, suc, ◌+◌, ◌*◌, ◌≤◌, length, get_or, take, drop}
 use Rattle.rules.specs.Factor.{Column, every, number}
 use Rattle.rules.specs.Limits.{most_plots, most_columns, most_fields, table_cells}
 use Rattle.rules.specs.Lists.{tabulate}
@@ -73,13 +73,10 @@ abbrev pub side_of : ℕ → Side → RuleSide
 side_of n Coarser = coarser_side n
 side_of n Finer = finer_side n
 
--- what joining a column asks: it is numbered, and where nothing was joined before the bytes are what no column makes
-abbrev pub JoinAsks : ℕ → Side → Column → Bool → List ℕ → Type 0
-JoinAsks n side C some made = (number C ≡ C) × (some ≡ false → take n made ≡ (side_of n side).none)
-
--- column C passes, and is strictly nearer than D, or equivalent to D and lower
-unfoldable pub outdone : Bool → RuleSide → Column → Column → Bool → Bool
-outdone passes s C D lower = passes && (s.towards C D && (not (s.towards D C) || lower))
+-- what was made so far, in the first n bytes; what no column makes where nothing was
+abbrev pub made_of : ℕ → RuleSide → Option (List ℕ) → Column
+made_of n s None = s.none
+made_of n s (Some made) = take n made
 
 -- column i is among those that pass, with no other among them that is strictly nearer, or equivalent and lower
 unfoldable pub listed_by : (ℕ → Bool) → RuleSide → List Column → ℕ → Bool
@@ -90,3 +87,8 @@ listed_by t s Cs i = t i && every (length Cs) (λ j. not (t j && hides s Cs j i)
 unfoldable pub join_by : (ℕ → Bool) → RuleSide → ℕ → List Column → Column
 join_by t s i [] = s.none
 join_by t s i (C ∷ Cs) = elim (t i) [ true ↦ s.join C (join_by t s (suc i) Cs) | false ↦ join_by t s (suc i) Cs ]
+
+-- the place of a column, counted from 0, as the rules count it: from 1, and 0 for none
+abbrev pub counted_from_one : Option ℕ → ℕ
+counted_from_one None = 0
+counted_from_one (Some c) = suc c

@@ -2,3 +2,4 @@ pub mod Columns
 pub mod Listing
 pub mod Answers
 pub mod Members
+pub mod Tables

@@ -1,10 +1,10 @@
 -- The names of all members of a family: 160 bytes a member, and the length of each name.
 -- Assumes nothing.
-use Rattle.std.specs.Prelude.{Bool, true, false, ◌&&◌, List, [], ◌∷◌, ◌++◌, ℕ, zero, suc, ◌+◌, ◌*◌, ◌≤◌, Result, Ok, Err, eqb, leb, length, take, drop, set}
+use Rattle.std.specs.Prelude.{Bool, true, false, ◌&&◌, List, [], ◌∷◌, ◌++◌, ℕ, zero, suc, ◌+◌, ◌*◌, ◌≤◌, Option, None, Some, Result, Ok, Err, eqb, leb, length, get_or, take, drop, set}
 use Rattle.rules.specs.Limits.{most_members, family_bytes, name_bytes}
 use Rattle.rules.specs.Factor.{Column, classes}
 use Rattle.rules.specs.Family.{alike}
-use Rattle.rules.specs.Lists.{passing_from, bit_at, decimal_of}
+use Rattle.rules.specs.Lists.{passing_from, decimal_of}
 use Rattle.rules.specs.Names.{name_U, name_E, name_of, name_by_column, name_by_infimum, name_by_supremum, equivalent_column, join_of, shown, with_commas, bytes_of}
 use Rattle.families.specs.Lent.{column_at}
 use Rattle.naming.specs.declared.columns.Look.{Look}
@@ -27,27 +27,27 @@ letter_of Finer = 83
 abbrev pub list_text : Look → Side → List ℕ → List ℕ → List ℕ
 list_text look side text cs = letter_of side ∷ 40 ∷ with_commas (look_names look text) cs ++ 41 ∷ []
 
--- that, where the member F is what the columns on the side make; no byte where it is not
-unfoldable pub side_text : Look → Side → List ℕ → List ℕ → Column → List ℕ
+-- that, where the member F is what the columns on the side make
+unfoldable pub side_text : Look → Side → List ℕ → List ℕ → Column → Option (List ℕ)
 unfolding alike join_of shown look_names with_commas
 side_text look side text table F = elim (alike (join_of (side_of look.plots side) F (looked_in look table)) F) [
-  | true ↦ list_text look side text (shown (side_of look.plots side) F (looked_in look table))
-  | false ↦ []
+  | true ↦ Some (list_text look side text (shown (side_of look.plots side) F (looked_in look table)))
+  | false ↦ None
 ]
 
--- the columns of a word that are listed
-abbrev pub listed_in : Look → Side → List ℕ → ℕ → List ℕ
-listed_in look side table word = passing_from (listed_by (bit_at word) (side_of look.plots side) (looked_in look table)) 0 (look.before + look.count)
+-- the columns that are listed of those told to be there
+abbrev pub listed_in : Look → Side → List ℕ → List Bool → List ℕ
+listed_in look side table there = passing_from (listed_by (λ j. get_or there j false) (side_of look.plots side) (looked_in look table)) 0 (look.before + look.count)
 
--- the name of a member with one class or a class for each plot; no byte for another
-unfoldable pub extreme_name : ℕ → Column → List ℕ
+-- the name of a member with one class or a class for each plot
+unfoldable pub extreme_name : ℕ → Column → Option (List ℕ)
 unfolding classes bytes_of
-extreme_name n F = elim (eqb (classes F) 1) [ true ↦ bytes_of [] [] name_U | false ↦ elim (eqb (classes F) n) [ true ↦ bytes_of [] [] name_E | false ↦ [] ] ]
+extreme_name n F = elim (eqb (classes F) 1) [ true ↦ Some (bytes_of [] [] name_U) | false ↦ elim (eqb (classes F) n) [ true ↦ Some (bytes_of [] [] name_E) | false ↦ None ] ]
 
--- a text, or the next where it has no byte
-abbrev pub or_else : List ℕ → List ℕ → List ℕ
-or_else [] next = next
-or_else (x ∷ xs) next = x ∷ xs
+-- a text, or the next where there is none
+abbrev pub or_else : Option (List ℕ) → List ℕ → List ℕ
+or_else None next = next
+or_else (Some text) next = text
 
 -- what is written of the member F at a place, from 1: the first rule that fits, and the rules after U and E, after an equivalent column, and
 -- after an infimum

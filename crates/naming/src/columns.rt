@@ -1,10 +1,10 @@
 // The columns that a member is named by, numbered, 240 bytes apart, and where the member stands among them.
-ghost use Rattle.std.specs.Prelude.{◌≡◌, true, ◌++◌, ◌+◌, ◌*◌, ◌≤◌, ◌<◌, length};
+ghost use Rattle.std.specs.Prelude.{◌≡◌, true, ◌++◌, ◌+◌, ◌*◌, ◌≤◌, length};
 ghost use Rattle.rules.specs.Family.{members_of, all_numbered};
 ghost use Rattle.rules.specs.Limits.{most_plots, most_fields, table_cells};
-ghost use Rattle.rules.specs.Names.{equivalent_column};
-ghost use Rattle.naming.specs.Columns.{Columns, InTable, own_of, own_in, looked_in, numbered_from};
+ghost use Rattle.naming.specs.Columns.{Columns, InTable, own_in, looked_in, numbered_from};
 
+use crate::sides::Side;
 use limits::{FIELDS, Level, PLOTS};
 
 // bytes of the columns that a member looks at, once numbered
@@ -46,15 +46,93 @@ pub fn number_looked(levels: &[Level], look: Look, out: &mut [u8])
     number_columns(levels, n, look.first, look.count, &mut out[start..]);
 }
 
-// The lowest column equivalent to the member, from 1; 0 where there is none.
-pub fn equivalent_column(columns: &[u8], n: usize, count: usize, member: &[u8]) -> usize
-    requires { Columns n count columns.now × (all_numbered (members_of n columns.now count) ≡ true) }
-    ensures { result ≡ equivalent_column member.now 0 (members_of n columns.now count) }
-{
-    for c in 0..count {
-        if factor::alike(families::member(columns, c, n), member) {
-            return c + 1;
-        }
+// Columns of one table: `count` of them on `plots` plots, each numbered by first appearance and 240 bytes from the next.
+#[derive(Clone, Copy)]
+pub struct ColumnTable<'a> {
+    pub bytes: &'a [u8],
+    pub plots: usize,
+    pub count: usize,
+    ghost placed: { Columns plots count bytes.now },
+    ghost numbered: { all_numbered (members_of plots bytes.now count) ≡ true },
+}
+
+impl ColumnTable<'_> {
+    ghost use Rattle.std.specs.Prelude.{◌≡◌, [], false, ◌<◌, length, get_or, take, ℕ};
+    ghost use Rattle.rules.specs.Names.{equivalent_column, hides, on_side};
+    ghost use Rattle.naming.specs.Columns.{side_of, listed_by, join_by, counted_from_one, made_of};
+    ghost use Rattle.naming.specs.Tables.{columns_in};
+
+    // Column `c`.
+    pub fn column(&self, c: usize) -> &[u8]
+        requires { c < self.now.count }
+        ensures is { result.now ≡ get_or (columns_in self.now) c [] }
+        ensures plots { length result.now ≡ self.now.plots }
+    {
+        families::member(self.bytes, c, self.plots)
     }
-    0
+
+    // The lowest column equivalent to the member.
+    pub fn equivalent_to(&self, member: &[u8]) -> Option<usize>
+        ensures { counted_from_one result ≡ equivalent_column member.now 0 (columns_in self.now) }
+    {
+        (0..self.count).find(|&c| factor::alike(self.column(c), member))
+    }
+
+    // Which columns lie on this side of the member.
+    pub fn on_side(&self, side: Side, member: &[u8]) -> [bool; FIELDS]
+        requires { length member.now ≡ self.now.plots }
+        ensures { (i : ℕ) → i < self.now.count → get_or result i false ≡ on_side (side_of self.now.plots side) member.now (columns_in self.now) i }
+    {
+        let mut there = [false; FIELDS];
+        for i in 0..self.count {
+            there[i] = side.towards(member, self.column(i));
+        }
+        there
+    }
+
+    // Whether column `j` is strictly nearer than column `i`, or equivalent to it and lower.
+    fn hides(&self, side: Side, j: usize, i: usize) -> bool
+        requires { (j < self.now.count) × (i < self.now.count) }
+        ensures { result ≡ hides (side_of self.now.plots side) (columns_in self.now) j i }
+    {
+        let nearer = self.column(j);
+        let farther = self.column(i);
+        side.towards(nearer, farther) && (!side.towards(farther, nearer) || j < i)
+    }
+
+    // Whether column `i` is listed in the name: on the side, with no other there that is nearer, or equivalent and lower.
+    pub fn is_listed(&self, side: Side, there: &[bool; FIELDS], i: usize) -> bool
+        requires { i < self.now.count }
+        ensures { result ≡ listed_by (λ j. get_or there.now j false) (side_of self.now.plots side) (columns_in self.now) i }
+    {
+        there[i] && (0..self.count).all(|j| !(there[j] && self.hides(side, j, i)))
+    }
+
+    // Column `c` joined with what was joined before it, in the first bytes; the column itself where nothing was.
+    fn join(&self, side: Side, c: usize, made: Option<[u8; PLOTS]>) -> [u8; PLOTS]
+        requires { c < self.now.count }
+        ensures { take self.now.plots result ≡ (side_of self.now.plots side).join (get_or (columns_in self.now) c []) (made_of self.now.plots (side_of self.now.plots side) made) }
+    {
+        let column = self.column(c);
+        let mut joined = [0u8; PLOTS];
+        if let Some(made) = made {
+            side.join(column, &made, &mut joined);
+        } else {
+            decimal::write_bytes(column, &mut joined, 0);
+        }
+        joined
+    }
+
+    // What all the columns that are there make, in the first bytes. The last column is joined first.
+    pub fn joined(&self, side: Side, there: &[bool; FIELDS]) -> [u8; PLOTS]
+        ensures { take self.now.plots result ≡ join_by (λ j. get_or there.now j false) (side_of self.now.plots side) 0 (columns_in self.now) }
+    {
+        let mut made = None;
+        for c in (0..self.count).rev() {
+            if there[c] {
+                made = Some(self.join(side, c, made));
+            }
+        }
+        made.unwrap_or(side.none(self.plots))
+    }
 }

@@ -7,26 +7,20 @@ ghost use Rattle.rules.specs.Limits.{most_plots};
 pub fn one_class(column: &[u8]) -> bool
     ensures { result ≡ eqb (classes column.now) 1 }
 {
-    if column.len() < 1 {
+    let Some(&first) = column.first() else {
         return false;
-    }
-    let x = column[0];
-    for u in 1..column.len() {
-        if column[u] != x {
-            return false;
-        }
-    }
-    true
+    };
+    column.iter().all(|&label| label == first)
 }
 
-// Whether each of the `n` plots is a class. `places` keeps for each label the place of its plot, from 1.
-pub fn each_apart(column: &[u8], n: usize) -> bool
-    requires { (length column.now ≡ n) × (n ≤ most_plots) }
-    ensures { result ≡ eqb (classes column.now) n }
+// Whether each plot is a class. `places` keeps for each label the place of its plot, from 1.
+pub fn each_apart(column: &[u8]) -> bool
+    requires { length column.now ≤ most_plots }
+    ensures { result ≡ eqb (classes column.now) (length column.now) }
 {
     let mut places = [0u8; 256];
-    for u in 0..n {
-        let x = column[u] as usize;
+    for (u, &label) in column.iter().enumerate() {
+        let x = usize::from(label);
         if places[x] != 0 {
             return false;
         }

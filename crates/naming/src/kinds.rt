@@ -35,8 +35,6 @@ pub fn look(kind: Kind, counts: Counts) -> Look
 pub fn all_nonzero(levels: &[Level], look: Look) -> bool
     ensures { result ≡ all_nonzero (looked_of look levels.now) }
 {
-    if !levels::all_nonzero(levels, look.plots, 0, look.before) {
-        return false;
-    }
-    levels::all_nonzero(levels, look.plots, look.first, look.count)
+    levels::all_nonzero(levels, look.plots, 0, look.before)
+        && levels::all_nonzero(levels, look.plots, look.first, look.count)
 }

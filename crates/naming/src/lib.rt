@@ -13,12 +13,14 @@ mod kinds;
 mod questions;
 mod sides;
 
+use columns::COLUMN_BYTES;
+use compose::Looked;
 use limits::{Level, TEXT};
 use refusal::Refusal;
 use sheet::Counts;
 
 // A family's kind, which the caller states.
-#[derive(Clone, Copy)]
+#[derive(Clone, Copy, Debug, PartialEq, Eq)]
 pub enum Kind {
     Plot,
     Treatment,
@@ -48,7 +50,14 @@ pub fn name_counted(
     if !questions::member_fits(look, source.levels.len(), name.len(), member.len()) {
         return Err(Refusal::Limits);
     }
-    Ok(compose::put_name(source.text, source.levels, look, member, place, name))
+    let mut table = [0u8; COLUMN_BYTES];
+    columns::number_looked(source.levels, look, &mut table);
+    let looked = Looked {
+        text: source.text,
+        look,
+        table: &table,
+    };
+    Ok(looked.put_name(member, place, name))
 }
 
 // Names each of the first `size` members, whatever the family and whatever the first line, by as many columns as are counted:
@@ -75,15 +84,14 @@ pub fn name_members(
         names.len(),
         lengths.len(),
     ) {
-        compose::put_names(
-            source.text,
-            source.levels,
+        let mut table = [0u8; COLUMN_BYTES];
+        columns::number_looked(source.levels, look, &mut table);
+        let looked = Looked {
+            text: source.text,
             look,
-            family,
-            size,
-            names,
-            lengths,
-        );
+            table: &table,
+        };
+        looked.put_names(family, size, names, lengths);
         Ok(())
     } else {
         Err(Refusal::Limits)

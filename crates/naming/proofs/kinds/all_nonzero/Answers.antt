@@ -5,14 +5,14 @@ use Rattle.naming.proofs.Entry.{nonzero_first, nonzero_rest}
 use Rattle.naming.specs.Columns.{own_of}
 use Rattle.naming.proofs.kinds.all_nonzero.Goals as goal
 
-pub returns-then-not-all_nonzero : goal.returns-then-not-all_nonzero
-returns-then-not-all_nonzero c =
+pub returns-then-all_nonzero : goal.returns-then-all_nonzero
+returns-then-all_nonzero c =
     let a = c.args in
     let levels = a.levels.now in
-    sym (nonzero_first (columns_from a.look.plots levels 0 a.look.before) (own_of a.look levels) (sym c.all_nonzero.ensures ∙ c.if-not-all_nonzero.true))
+    c.all_nonzero-then-all_nonzero.ensures ∙ sym (nonzero_rest (columns_from a.look.plots levels 0 a.look.before) (own_of a.look levels) (sym c.all_nonzero.ensures ∙ c.if-all_nonzero.true))
 
-pub returns : goal.returns
-returns c =
+pub returns-else-all_nonzero : goal.returns-else-all_nonzero
+returns-else-all_nonzero c =
     let a = c.args in
     let levels = a.levels.now in
-    c.all_nonzero-2.ensures ∙ sym (nonzero_rest (columns_from a.look.plots levels 0 a.look.before) (own_of a.look levels) (sym c.all_nonzero.ensures ∙ c.if-not-all_nonzero.false))
+    c.if-all_nonzero.false ∙ sym (nonzero_first (columns_from a.look.plots levels 0 a.look.before) (own_of a.look levels) (sym c.all_nonzero.ensures ∙ c.if-all_nonzero.false))
