@@ -13,7 +13,8 @@ use Rattle.rules.specs.Limits.{most_plots}
 use Rattle.rules.specs.Factor.{Column, at, number, classes}
 use Rattle.rules.proofs.Numbering.{by_cases}
 use Rattle.rules.proofs.Columns.{Tells, tells_none}
-use Rattle.numbering.specs.Seen.{class_numbers, buckets, bucket_of, look_up, Descends, Chained, look}
+use Rattle.numbering.specs.Seen.{class_numbers, buckets, bucket_of, look_up, found, Descends, Chained, look}
+use Rattle.std.specs.Prelude.{Some, None}
 use Rattle.factor.proofs.Table.{stepped_old, stepped_new, get_d_zeros, classes_none}
 
 module _ (labels chain : List ℕ) (x : ℕ) where
@@ -58,6 +59,19 @@ module _ (labels chain : List ℕ) (x : ℕ) where
       (λ e. let l : get_or chain (suc c) 0 < suc c = d (suc c) (omega arith) h in
       let r = look_le k d m (get_or chain (suc c) 0) (omega arith) in
       rw (look_miss m (suc c) (λ z. omega arith) (eqb-false _ _ e)) (omega arith))
+
+-- what was found, as an option
+pub found_some : (c d : ℕ) → (c ≡ 0 → ⊥) → c ≡ d → Some c ≡ found d
+found_some zero d h e = absurd (h refl)
+found_some (suc c) d h e = ap found e
+
+pub found_is : (c d : ℕ) → Some c ≡ found d → (d ≡ c) × (d ≡ 0 → ⊥)
+found_is c zero e = absurd (cc)
+found_is c (suc d) e = (cc, λ z. omega arith)
+
+pub found_none : (d : ℕ) → None ≡ found d → d ≡ 0
+found_none zero e = refl
+found_none (suc d) e = absurd (cc)
 
 pub bucket_less : (x : ℕ) → bucket_of x < buckets
 unfolding bucket_of

@@ -1,6 +1,6 @@
 -- The labels seen, chained by buckets: class c has a label, and the class before it in its bucket. Class 0 ends a chain.
 -- Assumes nothing.
-use Rattle.std.specs.Prelude.{◌≡◌, true, false, List, ℕ, zero, suc, ◌+◌, ◌*◌, ◌/◌, ◌%◌, ◌<◌, ◌≤◌, eqb, length, get_or}
+use Rattle.std.specs.Prelude.{◌≡◌, true, false, List, ℕ, zero, suc, ◌+◌, ◌*◌, ◌/◌, ◌%◌, ◌<◌, ◌≤◌, eqb, length, get_or, Option, Some, None}
 use Rattle.rules.specs.Limits.{most_plots}
 
 -- class numbers: 1 to 240, and 0 for none
@@ -23,6 +23,11 @@ look_up labels chain x (suc m) (suc c) = elim (eqb (get_or labels (suc c) 0) x) 
   | true ↦ suc c
   | false ↦ look_up labels chain x m (get_or chain (suc c) 0)
 ]
+
+-- a class that was found; 0 is none
+abbrev pub found : ℕ → Option ℕ
+found zero = None
+found (suc c) = Some (suc c)
 
 -- each of the classes 1 to k is chained to an earlier one
 abbrev pub Descends : List ℕ → ℕ → Type 0

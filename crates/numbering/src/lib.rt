@@ -6,7 +6,7 @@ ghost use Rattle.std.specs.Prelude.{◌≡◌, ◌≤◌, take};
 ghost use Rattle.rules.specs.Limits.{most_plots};
 ghost use Rattle.rules.specs.Factor.{number, classes};
 ghost use Rattle.factor.specs.Lent.{plots_of, overlay};
-ghost use Rattle.numbering.specs.Seen.{class_numbers, bucket_of, look_up, Descends};
+ghost use Rattle.numbering.specs.Seen.{class_numbers, bucket_of, look_up, found, Descends};
 
 use factor::common_plots;
 use limits::{Level, PLOTS};
@@ -32,24 +32,24 @@ fn bucket(x: Level) -> usize
     x as usize * SPREAD % RANGE / BUCKET_SIZE
 }
 
-// The class labelled `x` among those chained from `start`, or 0.
+// The class labelled `x` among those chained from `start`. Class 0, which no label has, ends a chain: a class number is a byte, as in `out`.
 fn look_up(
     labels: &[Level; CLASS_NUMBERS],
     chain: &[u8; CLASS_NUMBERS],
     start: usize,
     x: Level,
-) -> usize
+) -> Option<usize>
     requires { (start ≤ most_plots) × Descends chain.now start }
-    ensures { result ≡ look_up labels.now chain.now x class_numbers start }
+    ensures { result ≡ found (look_up labels.now chain.now x class_numbers start) }
 {
     let mut c = start;
     while c != 0 {
         if labels[c] == x {
-            return c;
+            return Some(c);
         }
         c = chain[c] as usize;
     }
-    0
+    None
 }
 
 // Numbers the first `stop` plots of a column of levels by first appearance, in one walk that also counts their classes; answers how many
@@ -65,18 +65,20 @@ pub fn number_levels(levels: &[Level], stop: usize, out: &mut [u8; PLOTS]) -> us
     let mut chain = [0u8; CLASS_NUMBERS];
     let mut last = [0u8; BUCKETS];
     let mut k: usize = 0;
-    for u in 0..n {
-        let x = levels[u];
+    for (u, &x) in levels[..n].iter().enumerate() {
         let b = bucket(x);
         let start = last[b];
-        let mut c = look_up(&labels, &chain, start as usize, x);
-        if c == 0 {
-            c = k + 1;
-            k = c;
-            labels[c] = x;
-            chain[c] = start;
-            last[b] = c as u8;
-        }
+        let c = match look_up(&labels, &chain, start as usize, x) {
+            Some(c) => c,
+            None => {
+                let c = k + 1;
+                k = c;
+                labels[c] = x;
+                chain[c] = start;
+                last[b] = c as u8;
+                c
+            }
+        };
         room[u] = c as u8;
     }
     k

@@ -1,9 +1,9 @@
-use mathlib.Core.Path.{◌≡◌, sym, ◌∙◌}
+use mathlib.Core.Path.{◌≡◌, sym, ap, ◌∙◌}
 use Prim.Native.Nat.{suc, ◌<◌}
 use native.Mathlib.Omega.{arith}
 use lib.ListN.{get_or}
-use Rattle.numbering.specs.Seen.{class_numbers}
-use Rattle.numbering.proofs.Chain.{look_hit, look_miss, look_end, look_enough}
+use Rattle.numbering.specs.Seen.{class_numbers, found}
+use Rattle.numbering.proofs.Chain.{look_hit, look_miss, look_end, look_enough, found_some}
 use Rattle.numbering.proofs.look_up.Goals as goal
 
 pub loop-c-init : goal.loop-c-init
@@ -14,7 +14,7 @@ loop-c-init c =
 pub returns-then-labels-c : goal.returns-then-labels-c
 returns-then-labels-c c =
     let s = c.args in
-    sym (look_hit s.labels.now s.chain.now s.x c.loop-c.c c.loop-c.c c.loop-c-test.true c.if-labels-c.true) ∙ c.loop-c.invariant.1
+    found_some c.loop-c.c _ c.loop-c-test.true (sym (look_hit s.labels.now s.chain.now s.x c.loop-c.c c.loop-c.c c.loop-c-test.true c.if-labels-c.true) ∙ c.loop-c.invariant.1)
 
 pub overflow_cast-c : goal.overflow_cast-c
 overflow_cast-c c =
@@ -40,4 +40,4 @@ pub returns : goal.returns
 returns c =
     let s = c.args in
     let z : c.loop-c.c ≡ 0 = omega arith in
-    sym (look_end s.labels.now s.chain.now s.x 1) ∙ rw z at c.loop-c.invariant.1
+    ap found (sym (look_end s.labels.now s.chain.now s.x 1) ∙ rw z at c.loop-c.invariant.1)

@@ -2,22 +2,24 @@ use mathlib.Core.Path.{◌≡◌, refl, sym, ap, ◌∙◌}
 use Prim.Native.Nat.{ℕ, ◌+◌, ◌≤◌, ◌<◌}
 use native.Mathlib.Omega.{arith}
 use borrow.Author.Rules.{rules}
-use lib.ListN.{length, get_or, set, length-set}
+use lib.ListN.{length, get_or, take, set, length-set}
+use lib.Seq.{get_or-take, length-take-le}
+use Rattle.rules.specs.Limits.{most_plots}
 use Rattle.rules.specs.Factor.{at, number, classes}
 use Rattle.rules.proofs.Numbering.{length_number}
 use Rattle.factor.proofs.Fill.{filled_step}
-use Rattle.numbering.specs.Seen.{class_numbers, look, look_up}
+use Rattle.numbering.specs.Seen.{class_numbers, bucket_of, look, look_up, found}
 use Rattle.numbering.proofs.Written.{walked, walked_plots, filled_number}
-use Rattle.numbering.proofs.Chain.{bucket_less, Seen, seen_is, seen_none, seen_old, seen_new}
+use Rattle.numbering.proofs.Chain.{bucket_less, found_is, found_none, Seen, seen_is, seen_none, seen_old, seen_new}
 use Rattle.numbering.proofs.number_levels.Goals as goal
-use Rattle.numbering.proofs.number_levels.Goals.{Joined-c-eq0, else-c-eq0, then-c-eq0}
+use Rattle.numbering.proofs.number_levels.Goals.{Joined-look_up, in-Some, in-None}
 
 -- the label of plot u is looked up and, where it is new, entered: then u + 1 plots are seen, and c is the number of plot u
-stepped : (c : Joined-c-eq0)
+stepped : (c : Joined-look_up)
     → let b = c.before in
     let levels = b.args.levels.now in
-    Seen levels (b.loop-u.u + 1) c.if-c-eq0.labels c.if-c-eq0.chain c.if-c-eq0.last c.if-c-eq0.k
-    × (c.if-c-eq0.c ≡ at (number levels) b.loop-u.u) × (c.if-c-eq0.c ≤ b.loop-u.k + 1) × (c.if-c-eq0.k ≤ b.loop-u.k + 1)
+    Seen levels (b.loop-u.u + 1) c.match-look_up.labels c.match-look_up.chain c.match-look_up.last c.match-look_up.k
+    × (c.match-look_up.c ≡ at (number levels) b.loop-u.u) × (c.match-look_up.c ≤ b.loop-u.k + 1) × (c.match-look_up.k ≤ b.loop-u.k + 1)
 stepped c =
     let b = c.before in
     let levels = b.args.levels.now in
@@ -26,63 +28,67 @@ stepped c =
     let chain = b.loop-u.chain in
     let last = b.loop-u.last in
     let k = b.loop-u.k in
-    let h : u < length levels = omega arith in
-    let e = c.bucket-b.ensures in
-    let found : c.look_up-c.result ≡ look labels chain last (at levels u) =
-    c.look_up-c.ensures ∙ ap (λ (i : ℕ). look_up labels chain (at levels u) class_numbers (get_or last i 0)) e in
-    elim c.if-c-eq0.branch [
-      | then-c-eq0 w ↦ let t = seen_new levels u labels chain last k b.loop-u.invariant.4 h (omega arith) (sym found ∙ w.if-c-eq0.true) in (
-        seen_is levels (u + 1) w.labels-is (w.chain-is ∙ ap (λ (i : ℕ). set chain (k + 1) (get_or last i 0)) e) (w.last-is ∙ ap (λ (i : ℕ). set last i (k + 1)) e) w.k-is t.0,
+    let n = b.common_plots-n.result in
+    let part : length (take n levels) ≡ n = length-take-le n levels (omega arith) in
+    let h : u < length levels = omega (arith, part) in
+    let few : k < most_plots = omega (arith, part) in
+    let item : get_or (take n levels) u 0 ≡ at levels u = get_or-take n levels u 0 (omega (arith, part)) in
+    let e : c.bucket-b.result ≡ bucket_of (at levels u) = c.bucket-b.ensures ∙ ap bucket_of item in
+    let told : c.look_up.result ≡ found (look labels chain last (at levels u)) =
+    c.look_up.ensures ∙ ap (λ (y : ℕ). found (look_up labels chain y class_numbers (get_or last c.bucket-b.result 0))) item
+    ∙ ap (λ (i : ℕ). found (look_up labels chain (at levels u) class_numbers (get_or last i 0))) e in
+    elim c.match-look_up.branch [
+      | in-None w ↦ let t = seen_new levels u labels chain last k b.loop-u.invariant.3 h few (found_none _ (sym w.in-None.is ∙ told)) in (
+        seen_is levels (u + 1) (w.labels-is ∙ ap (set labels (k + 1)) item) (w.chain-is ∙ ap (λ (i : ℕ). set chain (k + 1) (get_or last i 0)) e) (w.last-is ∙ ap (λ (i : ℕ). set last i (k + 1)) e) w.k-is t.0,
         w.c-is ∙ t.1,
         omega (arith, w.c-is),
         omega (arith, w.k-is),
       )
-      | else-c-eq0 w ↦ let t = seen_old levels u labels chain last k b.loop-u.invariant.4 h (λ z. w.if-c-eq0.false (found ∙ z)) in (
-        seen_is levels (u + 1) w.labels-is w.chain-is w.last-is w.k-is t.0,
-        w.c-is ∙ found ∙ t.1,
-        omega (arith, w.c-is, found, t.1, t.2),
-        omega (arith, w.k-is),
-      )
+      | in-Some w ↦ let f = found_is w.in-Some.c _ (sym w.in-Some.is ∙ told) in
+          let t = seen_old levels u labels chain last k b.loop-u.invariant.3 h f.1 in (
+            seen_is levels (u + 1) w.labels-is w.chain-is w.last-is w.k-is t.0,
+            w.c-is ∙ sym f.0 ∙ t.1,
+            omega (arith, w.c-is, f.0, t.2),
+            omega (arith, w.k-is),
+          )
     ]
 
 pub loop-u-init : goal.loop-u-init
-loop-u-init c = (omega arith, omega arith, refl, search rules, seen_none c.args.levels.now)
+loop-u-init c = (omega arith, refl, search rules, seen_none c.args.levels.now)
 
 pub bounds-last-b : goal.bounds-last-b
 bounds-last-b c = rw c.bucket-b.ensures (bucket_less _)
 
-pub overflow_cast-start : goal.overflow_cast-start
-overflow_cast-start c =
-    let l = c.loop-u.invariant.4.chained.heads c.bucket-b.result in
-    omega arith
-
-pub look_up-c-requires : goal.look_up-c-requires
-look_up-c-requires c =
-    let held = c.loop-u.invariant.4.chained in
-    let l = held.heads c.bucket-b.result in
-    (omega arith, λ d q h. held.descends d q (omega arith))
-
-pub bounds-last-b-then-c-eq0 : goal.bounds-last-b-then-c-eq0
-bounds-last-b-then-c-eq0 c = rw c.bucket-b.ensures (bucket_less _)
+pub bounds-last-b-in-None : goal.bounds-last-b-in-None
+bounds-last-b-in-None c = rw c.bucket-b.ensures (bucket_less _)
 
 pub overflow_cast-room : goal.overflow_cast-room
-overflow_cast-room c = let t = (stepped (goal.at.overflow_cast-room c).Joined-c-eq0).2 in omega arith
+overflow_cast-room c =
+    let n = c.common_plots-n.result in
+    let part : length (take n c.args.levels.now) ≡ n = length-take-le n c.args.levels.now (omega arith) in
+    let t = (stepped (goal.at.overflow_cast-room c).Joined-look_up).2 in
+    omega (arith, part)
 
 pub loop-u-preserved : goal.loop-u-preserved
 loop-u-preserved c =
     let levels = c.args.levels.now in
     let out = c.args.out.now in
     let u = c.loop-u.u in
-    let t = stepped (goal.at.loop-u-preserved c).Joined-c-eq0 in
-    let h : u < length (number levels) = rw length_number (omega arith) in
-    let l : u < length out = omega (arith, c.room-1.given) in
-    (omega arith, omega (arith, t.3), rw (t.1, c.loop-u.invariant.2) (filled_step out (number levels) u 0 h l), simp length-set c.loop-u.invariant.3, t.0)
+    let t = stepped (goal.at.loop-u-preserved c).Joined-look_up in
+    let n = c.common_plots-n.result in
+    let part : length (take n levels) ≡ n = length-take-le n levels (omega arith) in
+    let h : u < length (number levels) = rw length_number (omega (arith, part)) in
+    let room : length out ≡ most_plots = search rules in
+    let l : u < length out = omega (arith, part, room) in
+    (omega (arith, t.3), rw (t.1, c.loop-u.invariant.1) (filled_step out (number levels) u 0 h l), simp length-set c.loop-u.invariant.2, t.0)
 
 pub returns : goal.returns
 returns c =
     let levels = c.args.levels.now in
-    let e : c.loop-u.u ≡ walked levels c.args.stop = omega arith in
+    let n = c.common_plots-n.result in
+    let part : length (take n levels) ≡ n = length-take-le n levels (omega arith) in
+    let e : c.loop-u.u ≡ walked levels c.args.stop = omega (arith, part) in
     record {
-      answer = c.loop-u.invariant.4.count ∙ rw e (ap classes (walked_plots levels c.args.stop));
-      numbers = c.loop-u.invariant.2 ∙ rw e (filled_number levels c.args.stop c.args.out.now);
+      answer = c.loop-u.invariant.3.count ∙ rw e (ap classes (walked_plots levels c.args.stop));
+      numbers = c.loop-u.invariant.1 ∙ rw e (filled_number levels c.args.stop c.args.out.now);
     }

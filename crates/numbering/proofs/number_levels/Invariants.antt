@@ -1,6 +1,6 @@
 -- `number_levels` meets its contract: the chains hold the labels seen, and the array is filled with the numbers.
 use mathlib.Core.Path.{◌≡◌}
-use Prim.Native.Nat.{◌-◌, ◌≤◌}
+use Prim.Native.Nat.{◌≤◌}
 use lib.ListN.{length}
 use Rattle.rules.specs.Limits.{most_plots}
 use Rattle.rules.specs.Factor.{number}
@@ -10,7 +10,4 @@ use Rattle.numbering.proofs.number_levels.Given as goal
 
 abbrev pub invariant-loop-u : goal.invariant-loop-u
 invariant-loop-u l =
-    (l.u ≤ l.n) × (l.k ≤ l.u) × (l.room ≡ filled l.initial.room (number l.levels) l.u) × (length l.room ≡ most_plots) × Seen l.levels l.u l.labels l.chain l.last l.k
-
-abbrev pub decreases-loop-u : goal.decreases-loop-u
-decreases-loop-u l = l.n - l.u
+    (l.k ≤ l.u) × (l.room ≡ filled l.initial.room (number l.levels) l.u) × (length l.room ≡ most_plots) × Seen l.levels l.u l.labels l.chain l.last l.k
