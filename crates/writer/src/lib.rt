@@ -31,8 +31,8 @@ fn write_row(
     ensures { Wrote out.old at (line_bytes (columns_at plots levels.now columns.now) u) out.new result }
 {
     let mut next = at;
-    for i in 0..columns.len() {
-        let level = levels::level(levels, columns[i] as usize, plots, u);
+    for (i, &column) in columns.iter().enumerate() {
+        let level = levels::level(levels, column as usize, plots, u);
         next = write_level(level, i, out, next);
     }
     write_byte(b'\n', out, next)

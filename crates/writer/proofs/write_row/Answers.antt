@@ -12,10 +12,7 @@ use Rattle.writer.proofs.Rows.{left, left_step, left_whole, left_end}
 use Rattle.writer.proofs.write_row.Goals as goal
 
 pub loop-i-init : goal.loop-i-init
-loop-i-init c = (omega arith, refl, (refl, refl))
-
-pub overflow_cast-columns : goal.overflow_cast-columns
-overflow_cast-columns c = omega (arith, c.type_inv.columns c.loop-i.i)
+loop-i-init c = (refl, refl)
 
 pub loop-i-preserved : goal.loop-i-preserved
 loop-i-preserved c =
@@ -25,15 +22,8 @@ loop-i-preserved c =
     let ls = a.levels.now in
     let h : i + 1 ≤ length cs = omega arith in
     let one = field_bytes i (decimal_of (at (column_at a.plots ls (get_or cs i 0)) a.u)) in
-    let wrote = wrote_as c.loop-i.out c.loop-i.next (ap (λ (v : ℕ). field_bytes i (decimal_of v)) c.level-level.ensures) c.write_level-next.ensures in (
-      h,
-      wrote_length c.loop-i.out c.loop-i.next one wrote ∙ c.loop-i.invariant.1,
-      rest_then a.out.now a.at (left a.plots ls cs a.u 0) c.loop-i.out c.loop-i.next one (left a.plots ls cs a.u (i + 1)) (left_step a.plots ls cs a.u i (omega (arith, h))) wrote c.loop-i.invariant.2,
-    )
-
-pub shape_of-out : goal.shape_of-out
-shape_of-out c =
-    wrote_length c.loop-i.out c.loop-i.next (10 ∷ []) (c.write_byte.ensures.answer, c.write_byte.ensures.bytes) ∙ c.loop-i.invariant.1
+    let wrote = wrote_as c.loop-i.out c.loop-i.next (ap (λ (v : ℕ). field_bytes i (decimal_of v)) c.level-level.ensures) c.write_level-next.ensures in
+    rest_then a.out.now a.at (left a.plots ls cs a.u 0) c.loop-i.out c.loop-i.next one (left a.plots ls cs a.u (i + 1)) (left_step a.plots ls cs a.u i (omega (arith, h))) wrote c.loop-i.invariant
 
 pub returns : goal.returns
 returns c =
@@ -42,5 +32,5 @@ returns c =
     let cs = a.columns.now in
     let ls = a.levels.now in
     let whole = left n ls cs a.u 0 in
-    let last = rest_then a.out.now a.at whole c.loop-i.out c.loop-i.next (10 ∷ []) [] (left_end n ls cs a.u c.loop-i.i (omega arith)) (c.write_byte.ensures.answer, c.write_byte.ensures.bytes) c.loop-i.invariant.2 in
+    let last = rest_then a.out.now a.at whole c.loop-i.out c.loop-i.next (10 ∷ []) [] (left_end n ls cs a.u c.loop-i.i (omega arith)) (c.write_byte.ensures.answer, c.write_byte.ensures.bytes) c.loop-i.invariant in
     wrote_as a.out.now a.at (left_whole n ls cs a.u) (rest_end a.out.now a.at whole c.write_byte.new.out c.write_byte.result refl last)

@@ -1,14 +1,8 @@
 -- `write_row`: what is still to be written is the rest of the line.
-use mathlib.Core.Path.{◌≡◌}
-use Prim.Native.Nat.{◌-◌, ◌≤◌}
-use lib.ListN.{length}
 use Rattle.decimal.proofs.Writing.{Rest}
 use Rattle.writer.proofs.Rows.{left}
 use Rattle.writer.proofs.write_row.Given as goal
 
 abbrev pub invariant-loop-i : goal.invariant-loop-i
 invariant-loop-i l =
-    (l.i ≤ length l.columns) × (length l.out ≡ length l.initial.out) × Rest l.out l.next (left l.plots l.levels l.columns l.u l.i) l.initial.out l.at (left l.plots l.levels l.columns l.u 0)
-
-abbrev pub decreases-loop-i : goal.decreases-loop-i
-decreases-loop-i l = length l.columns - l.i
+    Rest l.out l.next (left l.plots l.levels l.columns l.u l.i) l.initial.out l.at (left l.plots l.levels l.columns l.u 0)
