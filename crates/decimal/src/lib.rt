@@ -67,6 +67,7 @@ fn put_digits(n: usize, digits: &mut [u8; DIGITS]) -> usize
 {
     let mut rest = n;
     let mut first = DIGITS;
+    // How many digits there are shows as they are taken off.
     while 10 <= rest {
         first -= 1;
         digits[first] = b'0' + (rest % 10) as u8;

@@ -67,6 +67,7 @@ fn numbered_in_order(family: &[u8], n: usize, size: usize) -> bool
     let Some(mut k) = numbered_classes(f) else {
         return false;
     };
+    // The members are counted, as many as are asked for: the buffer has room for 32.
     for i in 1..size {
         let g = member(family, i, n);
         let Some(m) = numbered_classes(g) else {

@@ -16,7 +16,7 @@ pub fn column(levels: &[Level], c: usize, n: usize) -> &[Level]
     factor::part(levels, c, n)
 }
 
-// The level of plot `u` in column `c`, both from 0, of a level table on `n` plots; 0 where there is none.
+// The level of plot `u` in column `c`, both from 0, of a level table on `n` plots; 0 where there is none, as the rules' `at` tells it.
 pub fn level(levels: &[Level], c: usize, n: usize, u: usize) -> Level
     ensures { result ≡ at (column_at n levels.now c) u }
 {

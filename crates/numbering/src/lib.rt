@@ -43,6 +43,7 @@ fn look_up(
     ensures { result ≡ found (look_up labels.now chain.now x class_numbers start) }
 {
     let mut c = start;
+    // Each class names the one before it in its bucket, so that there is no slice to go over.
     while c != 0 {
         if labels[c] == x {
             return Some(c);

@@ -51,6 +51,7 @@ pub fn write_sheet(
 {
     let line = write_bytes(first_line, out, 0);
     let mut at = write_byte(b'\n', out, line);
+    // The plots are counted, as many as are asked for: past the table's end a level is 0.
     for u in 0..plots {
         at = write_row(columns, plots, u, levels, out, at);
     }
