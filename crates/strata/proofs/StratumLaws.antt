@@ -36,6 +36,7 @@ use Rattle.strata.specs.Lent.{Formed}
 use Rattle.strata.specs.Words.{candidate_word, below, coarsest, first_passing, numbered}
 use Rattle.std.proofs.Common.{Option, Some, None}
 use Rattle.std.specs.Option.{MatchOption}
+use Rattle.std.specs.List.{list_all, enumerate_from}
 use Rattle.strata.specs.Sums.{AllSmall, sum_passing, residual_at, residuals_of}
 use Rattle.strata.proofs.Slices.{taken_length}
 use Rattle.strata.proofs.Lent.{accepted_members, size_members, on_plots_lem}
@@ -100,6 +101,30 @@ module _ (n : ℕ) (P : Family) (is : Accepted P) (on : (i : ℕ) → i < length
     where
       w : ℕ
       w = word_of (λ p. finer n (get_or P p []) T) (length P)
+
+-- all elements, by their places
+-- the first apart
+every_first : (n : ℕ) (p : ℕ → Bool) → p 0 && every n (λ k. p (suc k)) ≡ every (suc n) p
+unfolding every
+every_first zero p = by_cases (p 0) (λ e. rw (e, every)) (λ e. rw (e, every))
+every_first (suc n) p =
+    by_cases (p (suc n))
+    (λ e. ap (λ (x : Bool). p 0 && x) (rw (e, every)) ∙ every_first n p ∙ sym (rw (e, every)))
+    (λ e. ap (λ (x : Bool). p 0 && x) (rw (e, every)) ∙ none (p 0) ∙ sym (rw (e, every)))
+  where
+    none : (a : Bool) → a && false ≡ false
+    none true = refl
+    none false = refl
+
+pub all_numbered : (f : ℕ × ℕ → Bool) (xs : List ℕ) (i : ℕ) → list_all f (enumerate_from i xs) ≡ every (length xs) (λ k. f (i + k, get_or xs k 0))
+unfolding every
+all_numbered f [] i = refl
+all_numbered f (x ∷ xs) i =
+    let z : i ≡ i + 0 = omega arith in
+    ap₂ ◌&&◌ (ap (λ (k : ℕ). f (k, x)) z)
+    (all_numbered f xs (i + 1)
+    ∙ every_ext (λ k. f (i + 1 + k, get_or xs k 0)) (λ k. f (i + suc k, get_or xs k 0)) (length xs) (λ k l. let e : i + 1 + k ≡ i + suc k = omega arith in ap (λ (m : ℕ). f (m, get_or xs k 0)) e))
+    ∙ every_first (length xs) (λ k. f (i + k, get_or (x ∷ xs) k 0))
 
 -- words that agree
 pub coarsest_ext : (vs ws : List ℕ) (size among : ℕ) → ((q : ℕ) → q < size → get_or vs q 0 ≡ get_or ws q 0) → (p : ℕ) → coarsest vs size among p ≡ coarsest ws size among p

@@ -1,4 +1,5 @@
-// Relation, degrees of freedom and strata of families already made. Each entry asks 6, then 15; strata then ask 16.
+// Relation, degrees of freedom and strata of families already made. Each entry asks 6, then 15; strata then ask 16. The entries take the
+// bytes, the plots and the sizes apart, as the functions for C lend them.
 #![tactic(auto)]
 
 ghost use Rattle.std.specs.Prelude.{◌≡◌};

@@ -76,7 +76,8 @@ fn coarser_word(
     word
 }
 
-// The words of all members. Each is counted once, and its number of classes kept for those after it.
+// The words of all members. Each is counted once, and its number of classes kept for those after it. (The loop counts places, since both
+// arrays are read as they are filled.)
 pub fn coarser_words(family: &Family) -> [u32; MEMBERS]
     ensures { result ≡ for_places 0 (coarser_words family.now.plots (members family.now)) }
 {

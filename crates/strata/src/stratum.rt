@@ -87,15 +87,11 @@ fn is_coarsest(words: &[u32], among: u32, p: usize) -> bool
     requires { (length words.now ≤ most_members) × (p < most_members) }
     ensures { result ≡ coarsest words.now (length words.now) among p }
 {
-    if !has(among, p) {
-        return false;
-    }
-    for (q, &word) in words.iter().enumerate() {
-        if !is_below(word, among, p, q) {
-            return false;
-        }
-    }
-    true
+    has(among, p)
+        && words
+            .iter()
+            .enumerate()
+            .all(|(q, &word)| is_below(word, among, p, q))
 }
 
 // The place of the coarsest candidate.
@@ -106,7 +102,8 @@ fn coarsest_place(words: &[u32], among: u32) -> Option<usize>
     (0..words.len()).find(|&p| is_coarsest(words, among, p))
 }
 
-// The places of the strata of all treatment members, from 1. 16: None where one has no stratum.
+// The places of the strata of all treatment members, from 1. 16: None where one has no stratum. (The loop counts members, since a proof
+// knows nothing of what is written through `iter_mut`.)
 fn places(pair: &Pair, words: &[u32; MEMBERS]) -> Option<[usize; MEMBERS]>
     requires { WordsOf pair.now.plot words.now }
     ensures { MatchOption result (all_placed pair.now ≡ false) (λ found. (all_placed pair.now ≡ true) × (found ≡ strata_places pair.now)) }
