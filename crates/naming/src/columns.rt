@@ -26,6 +26,7 @@ fn number_columns(levels: &[Level], n: usize, first: usize, count: usize, out: &
     requires { Columns n count out.old × (first + count ≤ most_fields) × (table_cells ≤ length levels.now) }
     ensures { members_of n out.new count ≡ numbered_from n levels.now first count }
 {
+    // by place: a column of one table goes to a place in another
     for c in 0..count {
         let mut column = [0u8; PLOTS];
         levels::column_numbers(levels, first + c, n, &mut column);
@@ -84,6 +85,7 @@ impl ColumnTable<'_> {
         ensures { (i : ℕ) → i < self.now.count → get_or result i false ≡ on_side (side_of self.now.plots side) member.now (columns_in self.now) i }
     {
         let mut there = [false; FIELDS];
+        // by place: the columns are cut out of the table one by one
         for i in 0..self.count {
             there[i] = side.towards(member, self.column(i));
         }
@@ -128,6 +130,7 @@ impl ColumnTable<'_> {
         ensures { take self.now.plots result ≡ join_by (λ j. get_or there.now j false) (side_of self.now.plots side) 0 (columns_in self.now) }
     {
         let mut made = None;
+        // by place: a column is cut out only where it is there
         for c in (0..self.count).rev() {
             if there[c] {
                 made = Some(self.join(side, c, made));

@@ -66,7 +66,7 @@ impl Looked<'_> {
         put_marked(self.text, self.look.mark, c - self.look.before, out, at)
     }
 
-    // The same as the next name of a list.
+    // The same as the next name of a list. The first has no comma before it, which is all that `first` tells.
     fn put_next(&self, c: usize, first: bool, out: &mut [u8], at: usize) -> usize
         ensures { Wrote out.old at (separated first (get_or (look_names self.now.look self.now.text.now) c [])) out.new result }
     {
@@ -84,6 +84,7 @@ impl Looked<'_> {
         let columns = self.columns();
         let mut end = at;
         let mut first = true;
+        // by place: what is written moves on with each column that is listed
         for i in 0..columns.count {
             if columns.is_listed(side, there, i) {
                 end = self.put_next(i, first, out, end);
@@ -160,6 +161,7 @@ impl Looked<'_> {
         ensures names { names.new ≡ names_written (each_held self.now.look self.now.text.now self.now.table.now family.now) names.old size }
         ensures lengths { lengths.new ≡ lengths_written (each_held self.now.look self.now.text.now self.now.table.now family.now) lengths.old size }
     {
+        // by place: the walk goes over the family, the names and the lengths side by side
         for i in 0..size {
             let a = NAME * i;
             let member = families::member(family, i, self.look.plots);

@@ -13,7 +13,8 @@ pub fn one_class(column: &[u8]) -> bool
     column.iter().all(|&label| label == first)
 }
 
-// Whether each plot is a class. `places` keeps for each label the place of its plot, from 1.
+// Whether each plot is a class. `places` keeps for each label the place of its plot, from 1; 0 for a label not met, so that the table
+// is 256 bytes.
 pub fn each_apart(column: &[u8]) -> bool
     requires { length column.now ≤ most_plots }
     ensures { result ≡ eqb (classes column.now) (length column.now) }

@@ -60,7 +60,8 @@ pub fn name_counted(
     Ok(looked.put_name(member, place, name))
 }
 
-// Names each of the first `size` members, whatever the family and whatever the first line, by as many columns as are counted:
+// Names each of the first `size` members, whatever the family and whatever the first line, by as many columns as are counted. The names
+// and their lengths are two buffers of the caller:
 // member i, from 0, from byte 160 × i on, as far as these bytes hold the name, and its length at place i. 6: a count or a length is out of
 // range; nothing is written.
 pub fn name_members(
@@ -98,7 +99,8 @@ pub fn name_members(
     }
 }
 
-// Names the member at a place of a family: questions 2, 3, 6, 7 and 15. A refusal writes nothing.
+// Names the member at a place of a family: questions 2, 3, 6, 7 and 15. A refusal writes nothing. The parameters are those of the C function
+// `rachdoum_name`, each of which is judged here.
 pub fn member_name(
     text: &[u8],
     levels: &[Level],

@@ -36,11 +36,11 @@ fn trial(
 ) -> io::Result<()> {
     let mut table: [Level; 2880] = [1; 2880];
     let mut family = [1u8; 7680];
-    tables::levels(&mut table, plots, levels);
-    tables::members(&mut family, plots, digits);
+    tables::fill(&mut table, plots, levels);
+    tables::fill(&mut family, plots, digits);
     rt.write_all(title)?;
-    for i in 0..size {
-        member(rt, text, &table, &family, plots, size, kind, i + 1)?;
+    for place in 1..=size {
+        member(rt, text, &table, &family, plots, size, kind, place)?;
     }
     Ok(())
 }
