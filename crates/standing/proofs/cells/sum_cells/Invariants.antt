@@ -1,6 +1,6 @@
 -- `sum_cells` meets its contract: the table holds the sums over the cells passed.
 use mathlib.Core.Path.{◌≡◌}
-use Prim.Native.Nat.{ℕ, ◌-◌, ◌≤◌, ◌<◌}
+use Prim.Native.Nat.{ℕ, ◌<◌}
 use lib.ListN.{length}
 use Rattle.rules.specs.Factor.{at}
 use Rattle.standing.specs.Cells.{cell_size, sum_at}

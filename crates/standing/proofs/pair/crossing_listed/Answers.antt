@@ -9,7 +9,6 @@ use Rattle.factor.specs.Sizes.{labelled}
 use Rattle.standing.specs.Cells.{Listed, InRanges, LabelSizes, label_sum}
 use Rattle.factor.proofs.SizeTable.{labelled_le}
 use Rattle.standing.proofs.Joining.{joins_supremum, number_spread, classes_spread}
-use Rattle.standing.proofs.Listing.{listed_below, stands_among}
 use Rattle.standing.proofs.CellTable.{cells_orthogonal}
 use Rattle.standing.proofs.CellSums.{sums_first, sums_second}
 use Rattle.standing.proofs.pair.crossing_listed.Goals as goal

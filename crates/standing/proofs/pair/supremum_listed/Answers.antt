@@ -1,10 +1,8 @@
 -- `supremum_listed` meets its contract: the listed cells stand for all plots.
 use mathlib.Core.Path.{ap, ◌∙◌}
-use native.Mathlib.Omega.{arith}
 use Rattle.factor.specs.Lent.{overlay}
 use Rattle.standing.specs.Cells.{Listed}
 use Rattle.standing.proofs.Joining.{joins_supremum, number_spread, classes_spread}
-use Rattle.standing.proofs.Listing.{listed_below, stands_among}
 use Rattle.standing.proofs.pair.supremum_listed.Goals as goal
 use Rattle.standing.proofs.pair.supremum_listed.Goals.{After-second-y}
 
