@@ -7,7 +7,7 @@ ghost use Rattle.standing.specs.Cells.{Summed, label_sum, even_cells, Cover};
 use crate::join::Joins;
 use limits::PLOTS;
 
-// The labels of `count` cells.
+// The labels of `count` cells. There is an array for each column, and not one of pairs, since a walk goes over the labels of one column.
 #[derive(Drop)]
 pub struct Cells {
     pub f: [u8; PLOTS],

@@ -20,7 +20,7 @@ pub struct Bounds {
     pub supremum: usize,
 }
 
-// The number of classes of the supremum of two factors, and whether they are orthogonal.
+// The number of classes of the supremum of two factors, and whether they are orthogonal: both are said of any two factors.
 #[derive(Clone, Copy)]
 pub struct Crossing {
     pub supremum: usize,
