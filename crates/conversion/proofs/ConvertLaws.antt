@@ -4,7 +4,8 @@ use mathlib.Core.Path.{◌≡◌, refl, sym, ap, ap₂, ◌∙◌, subst}
 use mathlib.Core.Bool.{true, false}
 use mathlib.Core.List.{List, [], ◌∷◌}
 use Prim.Native.Nat.{ℕ, suc, ◌+◌, ◌-◌, ◌≤◌, ◌<◌}
-use native.Mathlib.Nat.{suc_inj, suc-ne-zero}
+use Rattle.std.proofs.Common.{Option, Some, None}
+use Rattle.std.proofs.lemmas.Option.{none-some, same_Some}
 use native.Mathlib.Omega.{arith}
 use lib.ListN.{length, get_or, take, replicate, length-take, length-map}
 use lib.Seq.{get_or-take, take_at}
@@ -25,9 +26,9 @@ use Rattle.sheet.specs.declared.header.Header.{Header}
 use Rattle.sheet.proofs.HeaderLaws.{headed_yes}
 use Rattle.writer.specs.Rows.{columns_at, sheet_bytes}
 use Rattle.writer.proofs.Rows.{sheet_bytes_lem}
-use Rattle.conversion.specs.Plain.{plain_text, parent_mark, parent_marks, PlainRead}
+use Rattle.conversion.specs.Plain.{plain_text, parent_of, parents_of, PlainRead}
 use Rattle.conversion.specs.Table.{Within, Convertible, ConvertedTo}
-use Rattle.conversion.proofs.FirstLine.{mark_none, mark_place}
+use Rattle.conversion.proofs.FirstLine.{parent_none, parent_some}
 use Rattle.conversion.proofs.PlainLaws.{plain_line, plain_header_lem, plain_later, plain_columns, plain_4, plain_answers, answer_after}
 
 module _ (old plain : List ℕ) (counts : Counts) (levels : List ℕ) (outLength : ℕ) (r : PlainRead old plain counts levels outLength) where
@@ -56,6 +57,9 @@ module _ (old plain : List ℕ) (counts : Counts) (levels : List ℕ) (outLength
   unfolding plain_header
   length_plain = length-map (header old) without_parent
 
+  pub same_length : length (header plain) ≡ length (header old)
+  same_length = ap length same_header ∙ length_plain
+
   -- as many fields as columns
   pub field_count : length (header old) ≡ n
   field_count =
@@ -71,9 +75,12 @@ module _ (old plain : List ℕ) (counts : Counts) (levels : List ℕ) (outLength
   three : question3 plain ≡ true
   three = (read_questions plain r.before counts.plots counts.plot_columns counts.treatment_columns r.is_read).1
 
-  module _ (h : Header) (e : h ≡ headed plain) where
+  pub header_some : headed plain ≡ Some (first_line plain)
+  header_some = headed_yes plain three
+
+  module _ (h : Header) (e : headed plain ≡ Some h) where
     read_line : h ≡ first_line plain
-    read_line = e ∙ headed_yes plain three
+    read_line = let k = header_some in cc
 
     -- the columns of the fields
     pub taken_columns : take n h.columns ≡ cs
@@ -141,44 +148,49 @@ module _ (old plain : List ℕ) (counts : Counts) (levels : List ℕ) (outLength
       parents = yes_23;
     }
 
-    -- the marks of the fields, in an array
-    module _ (marks : List ℕ) (marked : take (length (header old)) marks ≡ parent_marks (header plain) (header old)) where
-      mark_at : (i : ℕ) → i < length (header old) → get_or marks i 0 ≡ parent_mark (plain_header old) (get_or (header old) i [])
-      mark_at i h =
-          sym (get_or-take (length (header old)) marks i 0 h) ∙ ap (λ (ms : List ℕ). get_or ms i 0) (marked ∙ ap (λ (fs : List Field). parent_marks fs (header old)) same_header)
-          ∙ get_d_map (parent_mark (plain_header old)) (header old) i [] 0 h
+    -- the places of the fields' parents, in an array
+    module _ (parents : List (Option ℕ)) (found : parents ≡ parents_of (header plain) (header old)) where
+      parent_at : (i : ℕ) → i < length (header old) → get_or parents i None ≡ parent_of (plain_header old) (get_or (header old) i [])
+      parent_at i h =
+          ap (λ (ms : List (Option ℕ)). get_or ms i None) (found ∙ ap (λ (fs : List Field). parents_of fs (header old)) same_header)
+          ∙ get_d_map (parent_of (plain_header old)) (header old) i [] None h
 
-      no_parent : (i : ℕ) → i < length (header old) → get_or marks i 0 ≡ 0 → has slash (get_or (header old) i []) ≡ false
+      pub found_length : length parents ≡ n
+      found_length = ap length found ∙ length-map (header old) (parent_of (header plain)) ∙ field_count
+
+      no_parent : (i : ℕ) → i < length (header old) → get_or parents i None ≡ None → has slash (get_or (header old) i []) ≡ false
       no_parent i h e =
           by_cases (has slash (get_or (header old) i []))
-          (λ s. absurd (suc-ne-zero _ (sym (mark_place (plain_header old) (get_or (header old) i []) s) ∙ sym (mark_at i h) ∙ e)))
+          (λ s. absurd (none-some _ (sym e ∙ parent_at i h ∙ parent_some (plain_header old) (get_or (header old) i []) s)))
           (λ s. s)
 
-      with_parent : (i j : ℕ) → i < length (header old) → get_or marks i 0 ≡ suc j → (has slash (get_or (header old) i []) ≡ true) × (parent_place (plain_header old) (get_or (header old) i []) ≡ j)
+      with_parent : (i j : ℕ) → i < length (header old) → get_or parents i None ≡ Some j → (has slash (get_or (header old) i []) ≡ true) × (parent_place (plain_header old) (get_or (header old) i []) ≡ j)
       with_parent i j h e =
           by_cases (has slash (get_or (header old) i []))
-          (λ s. (s, suc_inj (sym (mark_place (plain_header old) (get_or (header old) i []) s) ∙ sym (mark_at i h) ∙ e)))
-          (λ s. absurd (suc-ne-zero j (sym e ∙ mark_at i h ∙ mark_none (plain_header old) (get_or (header old) i []) s)))
+          (λ s. (s, same_Some _ _ (sym (parent_some (plain_header old) (get_or (header old) i []) s) ∙ sym (parent_at i h) ∙ e)))
+          (λ s. absurd (none-some j (sym (parent_none (plain_header old) (get_or (header old) i []) s) ∙ sym (parent_at i h) ∙ e)))
 
-      pub marks_within : Within marks (sheet_columns old) (converted_columns old)
-      marks_within = record {
+      further_left : (i j : ℕ) → i < length (header old) → get_or parents i None ≡ Some j → j < i
+      further_left i j h e = let w = with_parent i j h e in subst (λ (m : ℕ). m < i) w.1 (parent_left old is_old i h w.0)
+
+      pub parents_within : Within parents (sheet_columns old) (converted_columns old)
+      parents_within = record {
         size = length_Ds old is_old ∙ sym (columns_length old);
         copied = λ i h e. let k : i < length (header old) = rw (columns_length old) at h in copied old is_old i k (no_parent i k e);
         within = λ i j h e.
             let k : i < length (header old) = rw (columns_length old) at h in
             let w = with_parent i j k e in
-            (subst (λ (m : ℕ). m < i) w.1 (parent_left old is_old i k w.0), subst (λ (m : ℕ). get_or (converted_columns old) i [] ≡ infimum (get_or (sheet_columns old) i []) (get_or (converted_columns old) m [])) w.1 (within_parent old is_old i k w.0));
+            (further_left i j k e, subst (λ (m : ℕ). get_or (converted_columns old) i [] ≡ infimum (get_or (sheet_columns old) i []) (get_or (converted_columns old) m [])) w.1 (within_parent old is_old i k w.0));
       }
 
-      module _ (h : Header) (e : h ≡ headed plain) where
+      module _ (h : Header) (e : headed plain ≡ Some h) where
         column_is : (i : ℕ) → i < n → get_or h.columns i 0 ≡ get_or cs i 0
         column_is i l = sym (get_or-take n h.columns i 0 l) ∙ ap (λ (c : List ℕ). get_or c i 0) (taken_columns h e)
 
-        pub marks_convertible : n ≤ length marks → Convertible h.columns marks n counts.plots (length levels)
-        marks_convertible long = record {
+        pub parents_convertible : Convertible h.columns parents n counts.plots (length levels)
+        parents_convertible = record {
           few = accepts.plots_few;
           columns_long = columns_long h e;
-          marks_long = long;
           inside = λ i l.
               let k : i < length (header plain) = omega (arith, l, field_count, length_plain, ap length same_header) in
               let c = column_inside plain r.before counts.plots counts.plot_columns counts.treatment_columns r.is_read i k in
@@ -186,20 +198,16 @@ module _ (old plain : List ℕ) (counts : Counts) (levels : List ℕ) (outLength
               let size : length levels ≡ length r.before = ap length r.table ∙ length_after (reading plain r.before) plain r.before in
               omega (arith, c, same, size, accepts.table_fits, accepts.plots_few);
           differ = λ i j l m q. columns_differ (plain_header old) form i j (omega (arith, l, field_count, length_plain)) (omega (arith, m, field_count, length_plain)) (sym (column_is i l) ∙ q ∙ column_is j m);
-          left = λ i l.
-              let k : i < length (header old) = omega (arith, l, field_count) in
-              by_cases (has slash (get_or (header old) i []))
-              (λ s. omega (arith, mark_at i k, mark_place (plain_header old) (get_or (header old) i []) s, parent_left old is_old i k s))
-              (λ s. omega (arith, mark_at i k, mark_none (plain_header old) (get_or (header old) i []) s));
+          left = λ i j l q. further_left i j (omega (arith, l, field_count)) q;
         }
 
         -- what is written
-        pub sheet_written : (after : List ℕ) → ConvertedTo h.columns marks n counts.plots levels after
+        pub sheet_written : (after : List ℕ) → ConvertedTo h.columns parents n counts.plots levels after
             → sheet_bytes (take (h.end - 1) plain) counts.plots (columns_at counts.plots after (take n h.columns)) ≡ converted_sheet old
         unfolding converted_sheet
         sheet_written after c =
             let before : columns_at counts.plots levels (take n h.columns) ≡ sheet_columns old = ap (columns_at counts.plots levels) (taken_columns h e) ∙ table_columns_lem in
-            let made = c (converted_columns old) (subst (λ (Cs : List Column). Within marks Cs (converted_columns old)) (sym before) marks_within) in
+            let made = c (converted_columns old) (subst (λ (Cs : List Column). Within parents Cs (converted_columns old)) (sym before) parents_within) in
             ap₂ (λ (l : List ℕ) (Ds : List Column). sheet_bytes l counts.plots Ds) (line_taken h e) made ∙ sheet_bytes_lem counts.plots (plain_header old) (converted_columns old)
             ∙ ap (λ (m : ℕ). sheet_text m (plain_header old) (converted_columns old)) same_plots
 

@@ -4,7 +4,7 @@ use mathlib.Core.Path.{◌≡◌, refl, sym, ap, ap₂, ◌∙◌, subst}
 use mathlib.Core.Bool.{Bool, true, false, ◌&&◌}
 use mathlib.Core.List.{List, [], ◌∷◌, ◌++◌, map, append_assoc}
 use Prim.Native.Nat.{ℕ, suc, ◌+◌, ◌≤◌, ◌<◌}
-use native.Mathlib.Nat.{not-suc-le-zero, le_of_suc-le-suc}
+use native.Mathlib.Nat.{not-suc-le-zero}
 use native.Mathlib.Numerals.{add-one}
 use native.Mathlib.Omega.{arith}
 use lib.Dec.{eqb, ltb}
@@ -19,7 +19,9 @@ use Rattle.rules.proofs.Sheet.{and_false, same_equal, same_self, fields_some}
 use Rattle.sheet.specs.Walk.{field_of}
 use Rattle.sheet.proofs.Stops.{field_next, past_drop}
 use Rattle.sheet.proofs.HeaderLaws.{end_here, newline_here, tab_here, line_last, line_on}
-use Rattle.conversion.specs.Plain.{plain_text, parent_mark}
+use Rattle.conversion.specs.Plain.{plain_text, parent_of}
+use Rattle.std.proofs.Common.{Option, Some, None}
+use Rattle.std.specs.Option.{IfSome}
 
 -- the place e where the field that starts at `at` ends
 module _ (text : List ℕ) (at e : ℕ) (d : e ≡ at + length (field_of (drop at text))) where
@@ -108,33 +110,31 @@ module _ (text : List ℕ) (at e : ℕ) (d : e ≡ at + length (field_of (drop a
       pub place_on : (get_or text e 0 ≡ 10 → ⊥) → place_in (drop at text) ≡ suc (place_in (drop (e + 1) text))
       place_on b = rw (line_on text at e d h b) (place_no same_bytes same_equal same_self field (header (drop (e + 1) text)) x q)
 
--- ---- marks of parents
+-- ---- the places of parents
 
 module _ (ps : List Field) where
   module _ (i : ℕ) (f : Field) (fs : List Field) where
     -- a parent further left, or none
-    pub left_mark : parent_mark ps f ≤ i → parents_left ps i (f ∷ fs) ≡ parents_left ps (i + 1) fs
-    unfolding parents_left parent_mark
-    left_mark h =
+    pub left_found : (parent : Option ℕ) → parent ≡ parent_of ps f → IfSome parent (λ p. p < i) → parents_left ps i (f ∷ fs) ≡ parents_left ps (i + 1) fs
+    unfolding parents_left parent_of
+    left_found parent e h =
         by_cases (has slash f)
-        (λ s. let l : suc (parent_place ps f) ≤ i = rw (s, parent_mark) at h in rw (s, lt-ltb (parent_place ps f) i l, add-one))
+        (λ s. let q : parent_of ps f ≡ Some (parent_place ps f) = rw (s, parent_of) in
+        let l : parent_place ps f < i = subst (λ (o : Option ℕ). IfSome o (λ p. p < i)) (e ∙ q) h in rw (s, lt-ltb (parent_place ps f) i l, add-one))
         (λ s. rw (s, add-one))
 
     -- one that is not
-    pub left_over : i < parent_mark ps f → parents_left ps i (f ∷ fs) ≡ false
-    unfolding parents_left parent_mark
-    left_over h =
-        by_cases (has slash f)
-        (λ s. let l : i < suc (parent_place ps f) = rw (s, parent_mark) at h in rw (s, le-ltb (parent_place ps f) i (le_of_suc-le-suc l)))
-        (λ s. absurd (not-suc-le-zero (rw (s, parent_mark) at h)))
+    pub left_over : has slash f ≡ true → i ≤ parent_place ps f → parents_left ps i (f ∷ fs) ≡ false
+    unfolding parents_left
+    left_over s h = rw (s, le-ltb (parent_place ps f) i h)
 
-  pub mark_none : (f : Field) → has slash f ≡ false → parent_mark ps f ≡ 0
-  unfolding parent_mark
-  mark_none f s = rw (s, parent_mark)
+  pub parent_none : (f : Field) → has slash f ≡ false → parent_of ps f ≡ None
+  unfolding parent_of
+  parent_none f s = rw (s, parent_of)
 
-  pub mark_place : (f : Field) → has slash f ≡ true → parent_mark ps f ≡ suc (parent_place ps f)
-  unfolding parent_mark
-  mark_place f s = rw (s, parent_mark)
+  pub parent_some : (f : Field) → has slash f ≡ true → parent_of ps f ≡ Some (parent_place ps f)
+  unfolding parent_of
+  parent_some f s = rw (s, parent_of)
 
   -- none is left
   pub left_all : (i : ℕ) → parents_left ps i [] ≡ true

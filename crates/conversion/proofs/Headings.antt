@@ -1,43 +1,71 @@
--- Laws of the field of a plot column with a name.
+-- Laws of the field of a plot column with a name, and of its place among others.
 -- Assumes nothing.
-use mathlib.Core.Path.{◌≡◌, refl}
-use mathlib.Core.Bool.{false}
+use mathlib.Core.Path.{◌≡◌, refl, sym, ap, ◌∙◌}
+use mathlib.Core.Bool.{true, false}
 use mathlib.Core.List.{List, [], ◌∷◌}
-use Prim.Native.Nat.{ℕ, suc, ◌≤◌, ◌<◌}
-use native.Mathlib.Nat.{not-suc-le-zero}
+use Prim.Native.Nat.{ℕ, ◌≤◌, ◌<◌}
 use native.Mathlib.Omega.{arith}
-use lib.Dec.{eqb}
-use lib.ListN.{length, get_or, drop}
-use borrow.Author.Tests.{eq-eqb, ne_eqb}
-use Rattle.rules.specs.Sheet.{Field, same_bytes, plot_mark}
+use lib.Dec.{eqb, ltb}
+use lib.Pointwise.{pointwise}
+use lib.ListN.{length, drop}
+use borrow.Author.Tests.{eq-eqb, ne_eqb, eqb-true, eqb-false, lt-ltb, le-ltb, ltb-false}
+use Rattle.std.proofs.Common.{Some, None}
+use Rattle.std.specs.List.{starts_with}
+use Rattle.rules.specs.Factor.{index_of}
+use Rattle.rules.specs.Sheet.{Field, same_bytes}
 use Rattle.rules.specs.SheetText.{plot_heading}
-use Rattle.rules.proofs.Sheet.{and_false}
+use Rattle.rules.proofs.Numbering.{by_cases}
+use Rattle.rules.proofs.Members.{clash}
+use Rattle.conversion.specs.Plain.{heading_in}
 
-pub heading_short : (f : Field) (name : List ℕ) → length f < 2 → same_bytes f (plot_heading name) ≡ false
+-- slices that are equal have the same bytes
+pub equal_bytes : (xs ys : List ℕ) → pointwise eqb xs ys ≡ same_bytes xs ys
 unfolding same_bytes
-heading_short [] name h = refl
-heading_short (x ∷ []) name h = rw (and_false (eqb x plot_mark))
-heading_short (x ∷ y ∷ f) name h = absurd (no h)
-  where
-    no : suc (suc (length f)) < 2 → ⊥
-    no h = omega arith
+equal_bytes [] [] = refl
+equal_bytes [] (y ∷ ys) = refl
+equal_bytes (x ∷ xs) [] = refl
+equal_bytes (x ∷ xs) (y ∷ ys) = by_cases (eqb x y) (λ e. rw e (equal_bytes xs ys)) (λ e. rw e)
 
-pub heading_kind : (f : Field) (name : List ℕ) → (get_or f 0 0 ≡ plot_mark → ⊥) → same_bytes f (plot_heading name) ≡ false
-unfolding same_bytes
-heading_kind [] name e = refl
-heading_kind (x ∷ f) name e = rw (ne_eqb x plot_mark e)
+turned : (x y : ℕ) → eqb x y ≡ eqb y x
+turned x y = by_cases (eqb x y) (λ e. e ∙ sym (eq-eqb y x (sym (eqb-true x y e)))) (λ e. e ∙ sym (ne_eqb y x (λ z. eqb-false x y e (sym z))))
 
-pub heading_colon : (f : Field) (name : List ℕ) → (get_or f 1 0 ≡ 58 → ⊥) → same_bytes f (plot_heading name) ≡ false
+-- a field that begins with the mark of a plot column and a colon
+pub heading_yes : (f : Field) (name : List ℕ) → starts_with eqb f (112 ∷ 58 ∷ []) ≡ true → same_bytes f (plot_heading name) ≡ same_bytes (drop 2 f) name
 unfolding same_bytes
-heading_colon [] name e = refl
-heading_colon (x ∷ []) name e = rw (and_false (eqb x plot_mark))
-heading_colon (x ∷ y ∷ f) name e = rw (ne_eqb y 58 e, and_false (eqb x plot_mark))
+heading_yes [] name e = clash e refl
+heading_yes (x ∷ []) name e = by_cases (eqb 112 x) (λ a. clash (rw a at e) refl) (λ a. clash (rw a at e) refl)
+heading_yes (x ∷ y ∷ f) name e =
+    by_cases (eqb 112 x)
+    (λ a. by_cases (eqb 58 y) (λ b. rw (sym (turned 112 x) ∙ a, sym (turned 58 y) ∙ b)) (λ b. clash (rw (a, b) at e) refl))
+    (λ a. clash (rw a at e) refl)
 
-pub heading_name : (f : Field) (name : List ℕ) → 2 ≤ length f → get_or f 0 0 ≡ plot_mark → get_or f 1 0 ≡ 58 → same_bytes f (plot_heading name) ≡ same_bytes (drop 2 f) name
+-- one that does not
+pub heading_no : (f : Field) (name : List ℕ) → starts_with eqb f (112 ∷ 58 ∷ []) ≡ false → same_bytes f (plot_heading name) ≡ false
 unfolding same_bytes
-heading_name [] name h e k = absurd (not-suc-le-zero h)
-heading_name (x ∷ []) name h e k = absurd (no h)
-  where
-    no : 2 ≤ 1 → ⊥
-    no h = omega arith
-heading_name (x ∷ y ∷ f) name h e k = rw (eq-eqb x plot_mark e, eq-eqb y 58 k)
+heading_no [] name e = refl
+heading_no (x ∷ []) name e = by_cases (eqb x 112) (λ a. rw a) (λ a. rw a)
+heading_no (x ∷ y ∷ f) name e =
+    by_cases (eqb x 112)
+    (λ a. by_cases (eqb y 58) (λ b. clash (sym e ∙ rw (sym (turned x 112) ∙ a, sym (turned y 58) ∙ b)) refl) (λ b. rw (a, b)))
+    (λ a. rw a)
+
+-- ---- the place of such a field
+
+module _ (fs : List Field) (name : List ℕ) where
+  pub heading_found : (i : ℕ) → i ≡ index_of same_bytes fs (plot_heading name) → i < length fs → Some i ≡ heading_in fs name
+  heading_found i e h = sym (rw (lt-ltb (index_of same_bytes fs (plot_heading name)) (length fs) (omega arith), heading_in) (ap Some (sym e)))
+
+  pub heading_missing : length fs ≤ index_of same_bytes fs (plot_heading name) → None ≡ heading_in fs name
+  heading_missing h = sym (rw (le-ltb (index_of same_bytes fs (plot_heading name)) (length fs) h, heading_in))
+
+  pub told_found : (i : ℕ) → Some i ≡ heading_in fs name → i ≡ index_of same_bytes fs (plot_heading name)
+  told_found i e =
+      by_cases (ltb (index_of same_bytes fs (plot_heading name)) (length fs))
+      (λ l. let k = rw (l, heading_in) at e in cc)
+      (λ l. let k = rw (l, heading_in) at e in cc)
+
+  pub told_missing : None ≡ heading_in fs name → length fs ≤ index_of same_bytes fs (plot_heading name)
+  told_missing e =
+      by_cases (ltb (index_of same_bytes fs (plot_heading name)) (length fs))
+      (λ l. let k = rw (l, heading_in) at e in cc)
+      (λ l. ltb-false (index_of same_bytes fs (plot_heading name)) (length fs) l)

@@ -9,13 +9,13 @@ use lib.Dec.{eqb, leb}
 use lib.ListN.{length, length-append, length-map}
 use borrow.Author.Tests.{leb-true, le-leb, lt-leb}
 use Rattle.rules.specs.Limits.{most_text, most_level, table_cells}
-use Rattle.rules.specs.Sheet.{newline, tab, up_to, past, has, all, Field, widen, fields, free, joined, is_header, header, later_lines, lines, Line, question3, question4, question5, Outcome, read, refused, counts, reading_from3, reading}
+use Rattle.rules.specs.Sheet.{within, newline, tab, up_to, past, has, all, Field, widen, fields, free, joined, is_header, header, later_lines, lines, Line, question3, question4, question5, Outcome, read, refused, counts, reading_from3, reading}
 use Rattle.rules.specs.Lists.{tabulate}
 use Rattle.rules.specs.SheetText.{field_column, sheet_columns, SheetAnswer, no_sheet}
 use Rattle.rules.specs.Parents.{slash, without_parent, slash_form, old_question3, plain_header, question23, converted_sheet, conversion_from3, conversion}
 use Rattle.rules.proofs.Numbering.{by_cases}
 use Rattle.rules.proofs.Members.{clash}
-use Rattle.rules.proofs.Sheet.{and_false, and_left, and_right, not_yes, fields_some, text_fits}
+use Rattle.rules.proofs.Sheet.{and_left, and_right, not_yes, fields_some, text_fits}
 use Rattle.rules.proofs.SheetText.{joined_free, has_part, up_to_part, past_part, fields_back}
 use Rattle.rules.proofs.SheetBack.{joined_fields, part_back}
 use Rattle.conversion.specs.Plain.{plain_text, Formed}
@@ -180,15 +180,11 @@ module _ (old : List ℕ) (outLength : ℕ) where
   short_6 h = rw (lt-leb most_text outLength h, conversion)
 
   module _ (room : most_text ≤ outLength) where
-    pub empty_2 : length old < 1 → conversion old outLength ≡ no_sheet 2
+    pub size_2 : within 1 most_text (length old) ≡ false → conversion old outLength ≡ no_sheet 2
     unfolding conversion
-    empty_2 h = rw (le-leb most_text outLength room, lt-leb 1 (length old) h, conversion)
+    size_2 e = rw (le-leb most_text outLength room, e, conversion)
 
     module _ (some : 1 ≤ length old) where
-      pub long_2 : most_text < length old → conversion old outLength ≡ no_sheet 2
-      unfolding conversion
-      long_2 h = rw (le-leb most_text outLength room, lt-leb (length old) most_text h, and_false (leb 1 (length old)), conversion)
-
       module _ (short : length old ≤ most_text) where
         pub from_3 : conversion old outLength ≡ conversion_from3 old
         unfolding conversion

@@ -10,6 +10,7 @@ use lib.Dec.{eqb, ltb}
 use lib.ListN.{length, get_or, take, drop, set, length-map, length-set, length-drop, take-append-drop, get_or-append}
 use lib.Seq.{paste, length-paste, drop-paste, drop-drop, ext_get_or, length-take-le, get_or-take, get_or_at, get_or-set_same, get_or-set_other, take_all, take_at, drop_at, take-append-le, drop-append-le, drop-cons, set-append_seam, set-get_or, take-suc}
 use borrow.Author.Tests.{eqb-true, eqb-false, ltb-true, ltb-false}
+use Rattle.std.proofs.Common.{Option, Some, None}
 use Rattle.rules.specs.Factor.{Column, infimum}
 use Rattle.rules.proofs.Lists.{get_d_map}
 use Rattle.rules.proofs.Numbering.{by_cases}
@@ -57,7 +58,7 @@ module _ (n c : ℕ) (X : Column) (T : List ℕ) (on : length X ≡ n) (few : n 
 
 -- ---- the columns of the fields
 
-module _ (columns marks : List ℕ) (n plots : ℕ) (T : List ℕ) (good : Convertible columns marks n plots (length T)) where
+module _ (columns : List ℕ) (parents : List (Option ℕ)) (n plots : ℕ) (T : List ℕ) (good : Convertible columns parents n plots (length T)) where
   abbrev Cs : List Column
   Cs = columns_at plots T (take n columns)
 
@@ -89,7 +90,7 @@ module _ (columns marks : List ℕ) (n plots : ℕ) (T : List ℕ) (good : Conve
 
 -- ---- converted columns, then the others
 
-module _ (marks : List ℕ) (Cs Ds : List Column) (w : Within marks Cs Ds) (i : ℕ) (h : i < length Cs) where
+module _ (parents : List (Option ℕ)) (Cs Ds : List Column) (w : Within parents Cs Ds) (i : ℕ) (h : i < length Cs) where
   abbrev now_there : List Column
   now_there = take i Ds ++ drop i Cs
 
@@ -114,19 +115,19 @@ module _ (marks : List ℕ) (Cs Ds : List Column) (w : Within marks Cs Ds) (i : 
 
 -- ---- one turn: U is the table by now
 
-module _ (columns marks : List ℕ) (n plots : ℕ) (T : List ℕ) (good : Convertible columns marks n plots (length T)) (U : List ℕ) (same : length U ≡ length T) (i : ℕ) (h : i < n) where
+module _ (columns : List ℕ) (parents : List (Option ℕ)) (n plots : ℕ) (T : List ℕ) (good : Convertible columns parents n plots (length T)) (U : List ℕ) (same : length U ≡ length T) (i : ℕ) (h : i < n) where
   abbrev fields : List ℕ
   fields = take n columns
 
-  still : Convertible columns marks n plots (length U)
-  still = subst (Convertible columns marks n plots) (sym same) good
+  still : Convertible columns parents n plots (length U)
+  still = subst (Convertible columns parents n plots) (sym same) good
 
   -- the infimum of columns of two fields
   abbrev met : ℕ → Column
   met j = infimum (column_at plots U (get_or columns i 0)) (column_at plots U (get_or columns j 0))
 
   inside : i < length (columns_at plots T fields)
-  inside = rw (length_Cs columns marks n plots T good) h
+  inside = rw (length_Cs columns parents n plots T good) h
 
   length_met : (j : ℕ) → j < n → length (met j) ≡ plots
   length_met j l = length_infimum' plots (column_at plots U (get_or columns i 0)) (column_at plots U (get_or columns j 0)) (length_part plots (get_or columns i 0) U (still.inside i h)) (length_part plots (get_or columns j 0) U (still.inside j l))
@@ -135,33 +136,28 @@ module _ (columns marks : List ℕ) (n plots : ℕ) (T : List ℕ) (good : Conve
   pub turn_length : (j : ℕ) → j < n → length (paste U (240 * get_or columns i 0) (met j) plots) ≡ length T
   turn_length j l = length-paste U (240 * get_or columns i 0) (met j) plots (still.inside i h) (omega (arith, length_met j l)) ∙ same
 
-  module _ (Ds : List Column) (w : Within marks (columns_at plots T fields) Ds) (so_far : columns_at plots U fields ≡ take i Ds ++ drop i (columns_at plots T fields)) where
+  module _ (Ds : List Column) (w : Within parents (columns_at plots T fields) Ds) (so_far : columns_at plots U fields ≡ take i Ds ++ drop i (columns_at plots T fields)) where
     here : column_at plots U (get_or columns i 0) ≡ get_or (columns_at plots T fields) i []
-    here = sym (column_at_lem columns marks n plots U still U i h) ∙ ap (λ (r : List Column). get_or r i []) so_far ∙ at_hand marks (columns_at plots T fields) Ds w i inside
+    here = sym (column_at_lem columns parents n plots U still U i h) ∙ ap (λ (r : List Column). get_or r i []) so_far ∙ at_hand parents (columns_at plots T fields) Ds w i inside
 
     -- a column without a parent
-    pub turn_copied : get_or marks i 0 ≡ 0 → columns_at plots U fields ≡ take (i + 1) Ds ++ drop (i + 1) (columns_at plots T fields)
+    pub turn_copied : get_or parents i None ≡ None → columns_at plots U fields ≡ take (i + 1) Ds ++ drop (i + 1) (columns_at plots T fields)
     turn_copied e =
         so_far ∙ sym (set-get_or (take i Ds ++ drop i (columns_at plots T fields)) i [])
-        ∙ ap (set (take i Ds ++ drop i (columns_at plots T fields)) i) (at_hand marks (columns_at plots T fields) Ds w i inside ∙ sym (w.copied i inside e))
-        ∙ one_more marks (columns_at plots T fields) Ds w i inside
+        ∙ ap (set (take i Ds ++ drop i (columns_at plots T fields)) i) (at_hand parents (columns_at plots T fields) Ds w i inside ∙ sym (w.copied i inside e))
+        ∙ one_more parents (columns_at plots T fields) Ds w i inside
 
     -- a column with one
-    pub turn_within : 1 ≤ get_or marks i 0 → columns_at plots (paste U (240 * get_or columns i 0) (met (get_or marks i 0 - 1)) plots) fields ≡ take (i + 1) Ds ++ drop (i + 1) (columns_at plots T fields)
-    turn_within l =
-        columns_set columns marks n plots U still i (met j) h (length_met j below)
-        ∙ ap₂ (λ (r : List Column) (X : Column). set r i X) so_far (ap₂ infimum here there ∙ sym made.1) ∙ one_more marks (columns_at plots T fields) Ds w i inside
+    pub turn_within : (j : ℕ) → get_or parents i None ≡ Some j → columns_at plots (paste U (240 * get_or columns i 0) (met j) plots) fields ≡ take (i + 1) Ds ++ drop (i + 1) (columns_at plots T fields)
+    turn_within j e =
+        columns_set columns parents n plots U still i (met j) h (length_met j below)
+        ∙ ap₂ (λ (r : List Column) (X : Column). set r i X) so_far (ap₂ infimum here there ∙ sym made.1) ∙ one_more parents (columns_at plots T fields) Ds w i inside
       where
-        j : ℕ
-        j = get_or marks i 0 - 1
+        made : (j < i) × (get_or Ds i [] ≡ infimum (get_or (columns_at plots T fields) i []) (get_or Ds j []))
+        made = w.within i j inside e
 
-        made : (get_or marks i 0 - 1 < i) × (get_or Ds i [] ≡ infimum (get_or (columns_at plots T fields) i []) (get_or Ds (get_or marks i 0 - 1) []))
-        made = w.within i (get_or marks i 0 - 1) inside (omega arith)
-
-        below : get_or marks i 0 - 1 < n
+        below : j < n
         below = omega (arith, made.0)
 
-        there : column_at plots U (get_or columns (get_or marks i 0 - 1) 0) ≡ get_or Ds (get_or marks i 0 - 1) []
-        there =
-            sym (column_at_lem columns marks n plots U still U (get_or marks i 0 - 1) below) ∙ ap (λ (r : List Column). get_or r (get_or marks i 0 - 1) []) so_far
-            ∙ further_left marks (columns_at plots T fields) Ds w i inside (get_or marks i 0 - 1) made.0
+        there : column_at plots U (get_or columns j 0) ≡ get_or Ds j []
+        there = sym (column_at_lem columns parents n plots U still U j below) ∙ ap (λ (r : List Column). get_or r j []) so_far ∙ further_left parents (columns_at plots T fields) Ds w i inside j made.0

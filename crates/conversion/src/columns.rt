@@ -25,8 +25,8 @@ fn write_column(levels: &mut [Level], c: usize, numbers: &[u8])
     requires { most_plots * c + length numbers.now ≤ length levels.old }
     ensures { levels.new ≡ paste levels.old (most_plots * c) numbers.now (length numbers.now) }
 {
-    for u in 0..numbers.len() {
-        levels[PLOTS * c + u] = numbers[u] as Level;
+    for (u, &number) in numbers.iter().enumerate() {
+        levels[PLOTS * c + u] = Level::from(number);
     }
 }
 
@@ -40,19 +40,18 @@ fn within_parent(levels: &mut [Level], plots: usize, c: usize, parent: usize)
     write_column(levels, c, &numbers[..plots]);
 }
 
-// Converts the columns of the first `n` fields, from left to right: a field's mark is 1 more than the place of its parent, 0 where it has none.
-pub fn convert_columns(columns: &[u8], parents: &[u8], n: usize, plots: usize, levels: &mut [Level])
-    requires { Convertible columns.now parents.now n plots (length levels.old) }
-    ensures { ConvertedTo columns.now parents.now n plots levels.old levels.new }
+// Converts the columns of the fields, from left to right: each has the place of its parent, if it has one.
+pub fn convert_columns(columns: &[u8], parents: &[Option<u8>], plots: usize, levels: &mut [Level])
+    requires { Convertible columns.now parents.now (length parents.now) plots (length levels.old) }
+    ensures { ConvertedTo columns.now parents.now (length parents.now) plots levels.old levels.new }
 {
-    for i in 0..n {
-        let mark = parents[i] as usize;
-        if 0 < mark {
+    for (i, &parent) in parents.iter().enumerate() {
+        if let Some(parent) = parent {
             within_parent(
                 levels,
                 plots,
-                columns[i] as usize,
-                columns[mark - 1] as usize,
+                usize::from(columns[i]),
+                usize::from(columns[usize::from(parent)]),
             );
         }
     }

@@ -12,33 +12,30 @@ mod columns;
 mod first_line;
 mod parents;
 
-use limits::{FIELDS, LEVELS, Level, TEXT};
-use sheet::{Counts, Reading};
-use writer::Writing;
+use limits::{LEVELS, Level, TEXT};
+use refusal::Refusal;
+use sheet::Counts;
 
 // Writes the sheet that an old one is converted to. A refusal writes nothing.
-pub fn convert(old: &[u8], out: &mut [u8]) -> Writing
+pub fn convert(old: &[u8], out: &mut [u8]) -> Result<usize, Refusal>
     ensures answer { writing_numbers result ≡ answer_numbers (conversion old.now (length out.old)) }
     ensures sheet { out.new ≡ sheet_buffer out.old (conversion old.now (length out.old)) }
     ensures converted { HoldsConverted old.now (length out.old) out.new }
 {
     if out.len() < TEXT {
-        return Writing::Refused(6);
+        return Err(Refusal::Limits);
     }
-    if old.len() < 1 {
-        return Writing::Refused(2);
-    }
-    if TEXT < old.len() {
-        return Writing::Refused(2);
+    if !(1..=TEXT).contains(&old.len()) {
+        return Err(Refusal::TextLength);
     }
     if !first_line::slashes_formed(old) {
-        return Writing::Refused(3);
+        return Err(Refusal::FirstLine);
     }
     convert_formed(old, out)
 }
 
 // The same where the slash parts have their form: the sheet without these is read as any other.
-fn convert_formed(old: &[u8], out: &mut [u8]) -> Writing
+fn convert_formed(old: &[u8], out: &mut [u8]) -> Result<usize, Refusal>
     requires { Formed old.now (length out.old) }
     ensures answer { writing_numbers result ≡ answer_numbers (conversion_from3 old.now) }
     ensures sheet { out.new ≡ sheet_buffer out.old (conversion_from3 old.now) }
@@ -47,11 +44,8 @@ fn convert_formed(old: &[u8], out: &mut [u8]) -> Writing
     let size = first_line::write_plain(old, &mut text);
     let plain = &text[..size];
     let mut levels: [Level; LEVELS] = [0; LEVELS];
-    let reading = sheet::read_sheet(plain, &mut levels);
-    match reading {
-        Reading::Refused(q) => Writing::Refused(q),
-        Reading::Read(counts) => convert_read(old, plain, counts, &mut levels, out),
-    }
+    let counts = sheet::read_sheet(plain, &mut levels)?;
+    convert_read(old, plain, counts, &mut levels, out)
 }
 
 // The same for a sheet that was read into the level table.
@@ -61,20 +55,17 @@ fn convert_read(
     counts: Counts,
     levels: &mut [Level],
     out: &mut [u8],
-) -> Writing
+) -> Result<usize, Refusal>
     requires { PlainRead old.now plain.now counts levels.old (length out.old) }
     ensures answer { writing_numbers result ≡ answer_numbers (conversion_from3 old.now) }
     ensures sheet { out.new ≡ sheet_buffer out.old (conversion_from3 old.now) }
 {
-    let mut parents = [0u8; FIELDS];
-    if !parents::parent_places(old, plain, &mut parents) {
-        return Writing::Refused(23);
-    }
-    let h = sheet::read_header(plain);
-    let columns = h.columns;
+    let parents = parents::parent_places(old, plain)?;
+    // the text was read, so its first line has the form
+    let header = sheet::read_header(plain).unwrap();
+    let columns = header.columns;
     let n = counts.plot_columns + counts.treatment_columns;
-    columns::convert_columns(&columns, &parents, n, counts.plots, levels);
-    let line = h.end - 1;
-    let size = writer::write_sheet(&plain[..line], &columns[..n], counts.plots, levels, out);
-    Writing::Written(size)
+    columns::convert_columns(&columns, &parents[..n], counts.plots, levels);
+    let line = &plain[..header.end - 1];
+    Ok(writer::write_sheet(line, &columns[..n], counts.plots, levels, out))
 }

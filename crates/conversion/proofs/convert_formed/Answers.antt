@@ -15,6 +15,8 @@ use Rattle.sheet.specs.Answers.{outcome_of}
 use Rattle.conversion.specs.Plain.{plain_text}
 use Rattle.writer.specs.Answers.{writing_numbers, answer_numbers}
 use Rattle.conversion.proofs.PlainLaws.{text_size, plain_answers, answer_after}
+use Rattle.std.proofs.lemmas.Result.{err_from_is_err_and}
+use Rattle.refusal.specs.Numbers.{number_of}
 use Rattle.conversion.proofs.convert_formed.Goals as goal
 use Rattle.conversion.proofs.convert_formed.Goals.{After-write_plain-size}
 
@@ -54,23 +56,23 @@ pub convert_read-requires : goal.convert_read-requires
 convert_read-requires c =
     let w = (goal.at.convert_read-requires c).After-write_plain-size in
     let s = w in
-    let sheet = c.read_sheet-reading in
+    let sheet = c.read_sheet in
     record {
       formed = s.requires;
       is_plain = plain-is w;
       before = zeros 2880;
-      is_read = sym sheet.ensures.answer ∙ ap outcome_of c.in-Read.is;
+      is_read = sym sheet.ensures.answer ∙ ap outcome_of c.in_ok-counts.was;
       table = sheet.ensures.table;
     }
 
-pub returns-in-Refused : goal.returns-in-Refused
+pub returns-in_err-counts : goal.returns-in_err-counts
 unfolding writing_numbers answer_numbers answer_after
-returns-in-Refused c =
-    let w = (goal.at.returns-in-Refused c).After-write_plain-size in
-    let s = w in
-    let a = s.args in
-    let q = c.in-Refused.q in
-    let is : reading (plain_text a.old.now) (zeros 2880) ≡ refused q = ap (λ (t : List ℕ). reading t (zeros 2880)) (sym (plain-is w)) ∙ sym c.read_sheet-reading.ensures.answer ∙ ap outcome_of c.in-Refused.is in
-    let e : conversion_from3 a.old.now ≡ no_sheet q = plain_answers a.old.now (length a.out.now) s.requires (zeros 2880) table ∙ ap (answer_after a.old.now) is in
-    let some = (reading_number (plain_text a.old.now) (zeros 2880) q is).0 in
-    record { answer = rw e (rw (ne_eqb q 0 (λ z. omega arith)) refl); sheet = rw e refl }
+returns-in_err-counts c =
+    let w = (goal.at.returns-in_err-counts c).After-write_plain-size in
+    let a = w.args in
+    let p = err_from_is_err_and c.from_residual.result c.from_residual.ensures.1 in
+    let q = c.in_err-counts.field-0.0 in
+    let is : reading (plain_text a.old.now) (zeros 2880) ≡ refused (number_of q) = ap (λ (t : List ℕ). reading t (zeros 2880)) (sym (plain-is w)) ∙ sym c.in_err-counts.ensures.answer in
+    let e : conversion_from3 a.old.now ≡ no_sheet (number_of q) = plain_answers a.old.now (length a.out.now) w.requires (zeros 2880) table ∙ ap (answer_after a.old.now) is in
+    let some = (reading_number (plain_text a.old.now) (zeros 2880) (number_of q) is).0 in
+    rw (p.1, p.2) record { answer = rw e (rw (ne_eqb (number_of q) 0 (λ z. omega arith)) refl); sheet = rw e refl }

@@ -1,26 +1,20 @@
--- `first_line::slash_form`: no slash, or a plot column with a name after it.
-use Prim.Native.Nat.{ℕ, ◌+◌}
-use mathlib.Core.Path.{sym, ap, ◌∙◌}
-use native.Mathlib.Omega.{arith}
-use lib.ListN.{drop}
+-- `first_line::slash_form`: a slash part is a plot column's, and has the form of a name.
+use Rattle.std.proofs.Common.{sym, ap, ◌∙◌}
 use Rattle.rules.specs.Sheet.{is_name}
-use Rattle.sheet.proofs.FirstByte.{rest_taken}
-use Rattle.conversion.proofs.Slashes.{form_none, form_kind, form_name}
+use Rattle.conversion.proofs.Slashes.{told_slash, told_no_slash, form_none, form_kind, form_name}
 use Rattle.conversion.proofs.first_line.slash_form.Goals as goal
 
-pub returns-then-field-s : goal.returns-then-field-s
-returns-then-field-s c =
-    let f = c.args.field.now in
-    sym (form_none f (omega (arith, c.place_of-s.ensures)))
+pub returns-in_default : goal.returns-in_default
+returns-in_default c = sym (form_none c.args.field.now (told_no_slash c.args.field.now c.in_default.ensures))
 
-pub returns-then-field-ne112 : goal.returns-then-field-ne112
-returns-then-field-ne112 c =
+pub returns-then-starts_with : goal.returns-then-starts_with
+returns-then-starts_with c =
     let f = c.args.field.now in
-    sym (form_kind f (omega (arith, c.place_of-s.ensures)) c.if-field-ne112.true)
+    let told = told_slash f c.in-Some.name.now c.in-Some.ensures in
+    c.is_name.ensures ∙ ap is_name told.1 ∙ sym (form_name f told.0 (sym c.starts_with.ensures.value ∙ c.if-starts_with.true))
 
-pub returns : goal.returns
-returns c =
+pub returns-else-starts_with : goal.returns-else-starts_with
+returns-else-starts_with c =
     let f = c.args.field.now in
-    let p = c.place_of-s in
-    c.is_name.ensures ∙ ap is_name (rest_taken (p.result + 1) f ∙ ap (λ (k : ℕ). drop (k + 1) f) p.ensures)
-    ∙ sym (form_name f (omega (arith, p.ensures)) (omega arith))
+    let told = told_slash f c.in-Some.name.now c.in-Some.ensures in
+    c.if-starts_with.false ∙ sym (form_kind f told.0 (sym c.starts_with.ensures.value ∙ c.if-starts_with.false))
