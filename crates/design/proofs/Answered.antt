@@ -11,7 +11,6 @@ use Rattle.rules.specs.Asking.{plot_design_by}
 use Rattle.rules.specs.Comparison.{pair_passes}
 use Rattle.rules.proofs.ComparedPairs.{plot_compares}
 use Rattle.rules.proofs.Verdict.{verdict_members}
-use borrow.Author.Tests.{eq-eqb, ne_eqb}
 use mathlib.Core.List.{List}
 use mathlib.Core.Path.{◌≡◌, refl, ap, ◌∙◌}
 use mathlib.Core.Bool.{true, false}
@@ -21,7 +20,6 @@ use Rattle.refusal.specs.Numbers.{number_of}
 use Rattle.refusal.specs.declared.Refusal.{Refusal}
 use Rattle.refusal.specs.declared.Refusal.TheVariants as question
 use lib.Dec.{eqb}
-use Rattle.design.specs.Closings.{closed_in}
 use Rattle.design.specs.Answers.{PlotNumbers, plot_numbers_of, PlotTrusted}
 
 -- no question has the number 0, which says that all were passed
@@ -98,18 +96,6 @@ module _ (n : ℕ) (x : Closing) where
   -- then it is written
   pub eight_buffer : (P : Family) (buffer : List ℕ) → x ≡ family P → plot_buffer buffer (question8 n x) ≡ written buffer 0 P
   eight_buffer P buffer e = ap (λ (y : Closing). plot_buffer buffer (question8 n y)) e ∙ ap (written buffer 0) (verdict_members n P)
-
--- the family that memory holds
-module _ (n : ℕ) (memory : List ℕ) (m : ℕ) where
-  -- it is too large
-  pub held_over : m ≡ 33 → closed_in n memory m ≡ too_many
-  unfolding closed_in
-  held_over e = rw (eq-eqb m 33 e, closed_in)
-
-  -- it is not
-  pub held_on : (m ≡ 33 → ⊥) → closed_in n memory m ≡ family (members_of n memory m)
-  unfolding closed_in
-  held_on ne = rw (ne_eqb m 33 ne, closed_in)
 
 -- ---- the plot design
 

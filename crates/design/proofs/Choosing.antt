@@ -1,5 +1,6 @@
 -- Laws of the choices of treatment columns, of their infima in a buffer, and of the infima placed in turn.
 -- Assumes nothing.
+use Rattle.std.specs.Prelude.{Option, None, Some}
 use mathlib.Core.Path.{◌≡◌, refl, sym, ap, ap₂, ◌∙◌, subst}
 use mathlib.Core.Logic.{◌⊎◌, inl, inr}
 use mathlib.Core.Bool.{Bool, true, false}
@@ -14,8 +15,8 @@ use lib.ListN.{length, get_or, take, drop, set, length-set, length-append, repli
 use lib.Seq.{paste, take-suc, take_all, take-length, get_or-set_same, get_or-set_other, get_or_at}
 use borrow.Author.Tests.{lt-ltb, le-ltb, ltb-true, ltb-false, eqb-true, eqb-false}
 use Rattle.rules.specs.Factor.{Column, number, infimum, universal}
-use Rattle.rules.specs.Family.{Family, ◌∈◌, columns_from, members_of, insert_all}
-use Rattle.rules.specs.Closing.{choices, infimum_all, treatment_generators, only_supremum, too_many, family, close, given, Chosen, none_of, skipping, taking}
+use Rattle.rules.specs.Family.{Family, ◌∈◌, columns_from, members_of}
+use Rattle.rules.specs.Closing.{choices, infimum_all, treatment_generators, only_supremum, too_many, close, given, Chosen, none_of, skipping, taking}
 use Rattle.rules.proofs.Numbering.{by_cases, length_number, number_number, length_infimum, number_infimum}
 use Rattle.rules.proofs.Bounds.{infimum_number}
 use Rattle.rules.proofs.ClassCount.{infimum_universal}
@@ -25,8 +26,8 @@ use Rattle.rules.proofs.WorkList.{member_in, found_over}
 use Rattle.rules.proofs.Families.{choices_chosen}
 use Rattle.factor.specs.Lent.{on_common, overlay}
 use Rattle.factor.proofs.Lent.{common_all, take_overlay}
-use Rattle.design.specs.State.{column_at, PlacedMember, full, old, new, grown_to, Begun, make_of, Work, Closed, exceeded, complete}
-use Rattle.design.specs.Treatments.{with_choice, shorter, extended, Room, Infima, AllPlaced, over, on}
+use Rattle.design.specs.State.{column_at, PlacedMember, old, new, NoRoom, grown_to, Begun}
+use Rattle.design.specs.Treatments.{with_choice, shorter, extended, Room, Infima, AllPlaced}
 use Rattle.design.proofs.Placing.{grown_old}
 use Rattle.factor.proofs.Lent.{part_of, length_part}
 use Rattle.design.proofs.Start.{begun_more}
@@ -509,11 +510,10 @@ module _ (n : ℕ) (As : List Column) (store counts : List ℕ) (size : ℕ) (b 
   ends = length_members n b.held.most store size
 
   -- one column more, where it has found a place
-  pub begun_next : number F ≡ F → (r ≡ 32 → ⊥) → Begun n (As ++ F ∷ []) after counts' (grown_to size r)
-  begun_next numbered d = by_cases (ltb size 32) (λ e. begun_more n As store counts size b (ltb-true size 32 e) F numbered r after counts' p) (λ e. go (ltb-false size 32 e) p)
+  pub begun_next : number F ≡ F → Begun n (As ++ F ∷ []) after counts' (grown_to size r)
+  begun_next numbered = by_cases (ltb size 32) (λ e. begun_more n As store counts size b (ltb-true size 32 e) F numbered r after counts' p) (λ e. go (ltb-false size 32 e) p)
     where
       go : 32 ≤ size → PlacedMember n S F r after counts' → Begun n (As ++ F ∷ []) after counts' (grown_to size r)
-      go h (full e l m) = absurd (d e)
       go h (new e l m k q) = absurd (let w : 32 ≤ r = omega (arith, ends) in omega arith)
       go h (old l m k e) =
           let g : grown_to size r ≡ length S = grown_old size r (λ q. omega (arith, ends)) ∙ sym ends in
@@ -532,8 +532,8 @@ module _ (n : ℕ) (As : List Column) (store counts : List ℕ) (size : ℕ) (b 
           is_placed G (inr i) = Memᴰ.cast (Memᴰ.eq_of_singleton i ∙ sym m) (member_in S r l)
 
   -- the same with it in front
-  pub begun_before : number F ≡ F → (r ≡ 32 → ⊥) → Begun n (F ∷ As) after counts' (grown_to size r)
-  begun_before numbered d = let q = begun_next numbered d in record {
+  pub begun_before : number F ≡ F → Begun n (F ∷ As) after counts' (grown_to size r)
+  begun_before numbered = let q = begun_next numbered in record {
     held = q.held;
     most = omega (arith, q.most, length-append As (F ∷ []));
     distinct = q.distinct;
@@ -550,28 +550,19 @@ module _ (n : ℕ) (As : List Column) (store counts : List ℕ) (size : ℕ) (b 
       back G (inl e) = Memᴰ.append_right As (Memᴰ.head e)
       back G (inr m) = Memᴰ.append_left _ m
 
-  -- it has found none: more than 32 columns differ
-  pub begun_over : r ≡ 32 → (Gs : List Column) → ((G : Column) → G ∈ As → G ∈ Gs) → F ∈ Gs → close only_supremum Gs ≡ too_many
-  begun_over e Gs sub i = go p
-    where
-      go : PlacedMember n S F r after counts' → close only_supremum Gs ≡ too_many
-      go (old l m k q) = absurd (let w : 32 < size = omega (arith, ends) in omega (arith, b.held.few))
-      go (new q l m k w) = absurd (let z : 32 < 32 = omega arith in omega arith)
-      go (full q l m) = found_over only_supremum Gs S record { distinct = b.distinct; only = λ G j. given (sub G (b.only G j)) } F (given i) m (omega arith)
-
--- a place past the 33rd is no place
-beyond : {r : ℕ} → r ≡ 33 → r ≤ 32 → ⊥
-beyond e h = omega arith
+-- it has found none: more than 32 columns differ
+pub begun_over : (n : ℕ) (As : List Column) (store counts : List ℕ) (size : ℕ) → Begun n As store counts size → (F : Column) {after counts' : List ℕ} → NoRoom n (members_of n store size) F after counts'
+    → (Gs : List Column) → ((G : Column) → G ∈ As → G ∈ Gs) → F ∈ Gs → close only_supremum Gs ≡ too_many
+begun_over n As store counts size b F room Gs sub i =
+    found_over only_supremum Gs (members_of n store size) record { distinct = b.distinct; only = λ G j. given (sub G (b.only G j)) } F (given i) room.fresh (omega (arith, room.full))
 
 -- all columns have found places
-pub all_on : {n : ℕ} {Gs : List Column} {store counts : List ℕ} {r : ℕ} → (r ≡ 33 → ⊥) → AllPlaced n Gs store counts r → Begun n Gs store counts r
-all_on d (over e q) = absurd (d e)
-all_on d (on b) = b
+pub all_on : {n : ℕ} {Gs : List Column} {store counts : List ℕ} {r : Option ℕ} {size : ℕ} → r ≡ Some size → AllPlaced n Gs store counts r → Begun n Gs store counts size
+all_on e a = rw e at a
 
 -- one has found none
-pub all_over : {n : ℕ} {Gs : List Column} {store counts : List ℕ} {r : ℕ} → r ≡ 33 → AllPlaced n Gs store counts r → close only_supremum Gs ≡ too_many
-all_over e (over w q) = q
-all_over e (on b) = absurd (beyond e b.held.few)
+pub all_over : (n : ℕ) (Gs : List Column) (store counts : List ℕ) {r : Option ℕ} → r ≡ None → AllPlaced n Gs store counts r → close only_supremum Gs ≡ too_many
+all_over n Gs store counts e a = rw e at a
 
 -- the members are made of themselves
 pub begun_own : {n : ℕ} {As : List Column} {store counts : List ℕ} {size : ℕ} → Begun n As store counts size → Begun n (members_of n store size) store counts size
@@ -583,19 +574,6 @@ begun_own {n} {As} {store} {counts} {size} b = record {
   only = λ F m. m;
   given = λ F m. m;
 }
-
--- ---- the closed family
-
--- all pairs are combined
-pub closed_on : {n : ℕ} {infima : Bool} {Gs : List Column} {store counts marks : List ℕ} {r : ℕ} → (r ≡ 33 → ⊥) → Closed n infima Gs store counts marks r
-    → Work n infima Gs store counts marks r r 0 × (close (make_of infima) Gs ≡ family (insert_all (members_of n store r) []))
-closed_on d (exceeded e q) = absurd (d e)
-closed_on d (complete w q) = (w, q)
-
--- the family is too large
-pub closed_over : {n : ℕ} {infima : Bool} {Gs : List Column} {store counts marks : List ℕ} {r : ℕ} → r ≡ 33 → Closed n infima Gs store counts marks r → close (make_of infima) Gs ≡ too_many
-closed_over e (exceeded w q) = q
-closed_over e (complete w q) = absurd (beyond e w.held.few)
 
 -- ---- the infima are numbered
 

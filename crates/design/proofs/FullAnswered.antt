@@ -13,12 +13,13 @@ use Rattle.rules.proofs.Closing.{pigeonhole, ascending_distinct}
 use Rattle.rules.proofs.Made.{WellMade, first_made}
 use Rattle.rules.proofs.Treatments.{final_contains, final_length}
 use Rattle.design.proofs.Rewriting.{written_over}
+use Rattle.std.specs.Prelude.{Option, None, Some, IfSome}
+use Rattle.design.specs.declared.closed.ClosedFamily.{ClosedFamily}
 use mathlib.Core.Logic.{◌⊎◌, inl, inr}
-use Rattle.design.proofs.Answered.{held_over, held_on}
 use Rattle.design.proofs.Search.{cross_found}
 use Rattle.design.specs.Search.{cross_first, cross_second}
 use Rattle.design.specs.Closings.{closed_in}
-use Rattle.design.specs.Judging.{MarksTell, Listed, unlisted, listed}
+use Rattle.design.specs.Judging.{MarksTell, listed, Listing}
 use Rattle.design.specs.Treatments.{orthogonal_at, Numbered}
 use Rattle.design.proofs.Asked.{numbered_made}
 use mathlib.Core.Path.{◌≡◌, refl, sym, ap, ◌∙◌, subst, ap₂}
@@ -165,8 +166,8 @@ module _ (n k : ℕ) (Ts : List Column) (on : (T : Column) → T ∈ Ts → leng
   first_length F (of_infimum {T} {C} c h) = infimum_length (T ∷ C) (λ U m. on U (chosen_in c U m))
   first_length F (of_supremum {F = G} {G = H} p q) = length_supremum G H (first_length G p ∙ sym (first_length H q)) ∙ first_length G p
 
-  module _ (before after marks order : List ℕ) (r : ℕ) (small : n ≤ 240) (room : 7680 ≤ length before) where
-    module _ (S : Family) (is : first_treatment_family n k Ts ≡ family S) (q : r ≡ length S) (h : r ≤ 32) (s : after ≡ written before 0 S) where
+  module _ (before after marks : List ℕ) (small : n ≤ 240) (room : 7680 ≤ length before) where
+    module _ {r : ℕ} (S : Family) (is : first_treatment_family n k Ts ≡ family S) (q : r ≡ length S) (h : r ≤ 32) (s : after ≡ written before 0 S) where
       on_first : (F : Column) → F ∈ S → length F ≡ n
       on_first F m = first_length F ((first_family_lists n k Ts S is).only F m)
 
@@ -178,29 +179,27 @@ module _ (n k : ℕ) (Ts : List Column) (on : (T : Column) → T ∈ Ts → leng
       room_after = rw s (rw (length_written n small S before 0 on_first (omega (arith, room, h, q))) room)
 
     -- memory holds it
-    pub first_held : Listed n false (treatment_generators n k Ts) before after marks order r → closed_in n after r ≡ first_treatment_family n k Ts
+    pub first_held : (x : Option ClosedFamily) → Listing n false (treatment_generators n k Ts) before after marks x → closed_in n after x ≡ first_treatment_family n k Ts
     unfolding first_treatment_family
-    first_held (unlisted q t s) = held_over n after r q ∙ sym t
-    first_held (listed S is q h s t) = held_on n after r (λ z. omega arith) ∙ ap family (same S is q h s) ∙ sym is
+    first_held None (t, s) = sym t
+    first_held (Some c) (listed S is q h s t) = ap family (same S is q h s) ∙ sym is
 
-    -- its members are numbered
-    pub first_numbered : Listed n false (treatment_generators n k Ts) before after marks order r → (r ≡ 33 → ⊥) → Numbered n after r
+    -- its members are numbered, and the marks tell which are orthogonal
+    pub first_tells : (x : Option ClosedFamily) → Listing n false (treatment_generators n k Ts) before after marks x
+        → IfSome x (λ c. Numbered n after c.size × MarksTell (orthogonal n) (members_of n after c.size) c.order marks c.size)
     unfolding first_treatment_family
-    first_numbered (unlisted q t s) d = absurd (d q)
-    first_numbered (listed S is q h s t) d = numbered_made n small after r (room_after S is q h s) h (subst (WellMade n) (sym (same S is q h s)) (first_made n k Ts on S is))
-
-    -- the marks tell which are orthogonal
-    pub first_tells : Listed n false (treatment_generators n k Ts) before after marks order r → (r ≡ 33 → ⊥) → MarksTell (orthogonal n) (members_of n after r) order marks r
-    unfolding first_treatment_family
-    first_tells (unlisted q t s) d = absurd (d q)
-    first_tells (listed S is q h s t) d = subst (λ (T : Family). MarksTell (orthogonal n) T order marks r) (sym (same S is q h s)) t
+    first_tells None l = tt
+    first_tells (Some c) (listed S is q h s t) = (
+      numbered_made n small after c.size (room_after S is q h s) h (subst (WellMade n) (sym (same S is q h s)) (first_made n k Ts on S is)),
+      subst (λ (T : Family). MarksTell (orthogonal n) T c.order marks c.size) (sym (same S is q h s)) t,
+    )
 
     -- what is written next covers it
-    pub first_covered : (P : Family) → ((F : Column) → F ∈ P → length F ≡ n) → equality n ∈ P → Listed n false (treatment_generators n k Ts) before after marks order r
+    pub first_covered : (P : Family) → ((F : Column) → F ∈ P → length F ≡ n) → equality n ∈ P → (x : Option ClosedFamily) → Listing n false (treatment_generators n k Ts) before after marks x
         → treatment_buffer after (question11 n P (first_treatment_family n k Ts)) ≡ treatment_buffer before (question11 n P (first_treatment_family n k Ts))
     unfolding first_treatment_family
-    first_covered P on_p e (unlisted q t s) = ap (λ (b : List ℕ). treatment_buffer b (question11 n P (first_treatment_family n k Ts))) s
-    first_covered P on_p e (listed S is q h s t) =
+    first_covered P on_p e None (t, s) = ap (λ (b : List ℕ). treatment_buffer b (question11 n P (first_treatment_family n k Ts))) s
+    first_covered P on_p e (Some c) (listed S is q h s t) =
         let p = passed_11 n P (first_treatment_family n k Ts) S is in
         ap (treatment_buffer after) p ∙ ap (λ (b : List ℕ). written b 0 T) s ∙ go (treatments_either n P S (first_pair (orthogonal n) 1 S)) ∙ ap (treatment_buffer before) (sym p)
       where

@@ -22,11 +22,12 @@ use Rattle.rules.proofs.Numbering.{by_cases}
 use Rattle.rules.proofs.Bounds.{supremum_left}
 use Rattle.rules.proofs.Between.{between_supremum, between_test, between_supremum_right, between_test_right}
 use Rattle.rules.proofs.Buffer.{length_members, member_is}
-use Rattle.design.specs.State.{column_at, Held, PlacedMember, full, old, new, grown_to, Begun}
+use Rattle.rules.specs.Relation.{member_at}
+use Rattle.design.specs.State.{column_at, Held, PlacedMember, old, new, grown_to, Begun}
 use Rattle.design.specs.Treatments.{orthogonal_at}
 use Rattle.design.specs.Crossing.{FinerBits, Placing, exceeded, begun, Growing, Grown, Adds, Stands, Join, entry_at, Joins, Tested, Chosen}
 use Rattle.factor.proofs.Lent.{length_part}
-use Rattle.design.proofs.Placing.{place_in, placed_full, placed_old, grown_old}
+use Rattle.design.proofs.Placing.{placed_old, no_room, grown_old}
 use Rattle.design.proofs.Suprema.{insert_all_more, begun_placed, over_placed, placing_over, placing_begun}
 use Rattle.design.proofs.Work.{member_column, size_members, Stood, stood, column_kept}
 
@@ -139,15 +140,11 @@ module _ {n : ℕ} {store counts : List ℕ} {size : ℕ} {over : Bool} (g : Gro
     room_place = go w
       where
         go : PlacedMember n (members_of n store size) F p after counts' → p < 32
-        go (full e l m) = absurd (let q : 32 ≡ size = sym l ∙ size_members g.held in omega arith)
         go (old l m k e) = omega (arith, size_members g.held, g.held.few)
         go (new e l m k q) = l
 
-    missing : p ≡ 32 → ⊥
-    missing e = omega (arith, room_place)
-
     stands : Stood n (members_of n store size) F p after counts' (grown_to size p)
-    stands = stood size (size_members g.held) w missing
+    stands = stood size (size_members g.held) w
 
     -- there were not too many
     within : over ≡ true → ⊥
@@ -165,9 +162,9 @@ module _ {n : ℕ} {store counts : List ℕ} {size : ℕ} {over : Bool} (g : Gro
     pub room_adds : Adds n store counts size over F after counts' (grown_to size p) over
     room_adds As q =
         let z : over ≡ false = untrue over within in
-        begun z (begun_placed n store counts size g.held F p after counts' As (placing_begun n As store counts size over z q) numbered missing w)
+        begun z (begun_placed n store counts size g.held F p after counts' As (placing_begun n As store counts size over z q) numbered w)
 
-  module _ (length-is : length F ≡ n) (most : 32 ≤ size) {p : ℕ} (found : p ≡ place_in (members_of n store 32) F) where
+  module _ (length-is : length F ≡ n) (most : 32 ≤ size) where
     all : size ≡ 32
     all = omega (arith, g.held.few)
 
@@ -179,33 +176,30 @@ module _ {n : ℕ} {store counts : List ℕ} {size : ℕ} {over : Bool} (g : Gro
     as_placed As z q = subst (Begun n As store counts) all (placing_begun n As store counts size over z q)
 
     -- it is new, and there is no room
-    module _ (e : p ≡ 32) where
+    module _ (fresh : F ∈ members_of n store 32 → ⊥) where
       pub full_growing : Growing n store counts size true
       full_growing = record { held = g.held; full = λ z. all }
 
       pub full_adds : Adds n store counts size over F store counts size true
       full_adds As q = by_cases over
           (λ h. over_adds n store counts size over F store counts size true h refl As q)
-          (λ h. exceeded refl (over_placed n store counts 32 held_all F p store counts As (as_placed As h q) e (placed_full n store counts 32 held_all F length-is p found e)))
+          (λ h. exceeded refl (over_placed n store counts 32 held_all F 32 store counts As (as_placed As h q) (no_room n store counts 32 held_all F length-is refl fresh)))
 
     -- it is there
-    module _ (d : p ≡ 32 → ⊥) where
+    module _ {p : ℕ} (d : p < 32) (is : member_at (members_of n store 32) p ≡ F) where
       there : Stood n (members_of n store 32) F p store counts (grown_to 32 p)
-      there = stood 32 (size_members held_all) (placed_old n store counts 32 held_all F length-is p found d) d
+      there = stood 32 (size_members held_all) (placed_old n store counts 32 held_all F length-is p d is)
 
       same_size : grown_to 32 p ≡ 32
-      same_size = grown_old 32 p d
-
-      pub old_place : p < 32
-      old_place = omega (arith, there.here, same_size)
+      same_size = grown_old 32 p (λ z. omega arith)
 
       pub old_stands : Stands n F store size (Some p)
-      old_stands q e = let h : p ≡ q = cc in subst (λ (k : ℕ). (k < size) × (column_at n store k ≡ F)) h (omega (arith, old_place, all), sym (member_column there.held p there.here) ∙ there.is)
+      old_stands q e = let h : p ≡ q = cc in subst (λ (k : ℕ). (k < size) × (column_at n store k ≡ F)) h (omega (arith, d, all), sym (member_column there.held p there.here) ∙ there.is)
 
       pub old_adds : Adds n store counts size over F store counts size over
       old_adds As q = by_cases over
           (λ h. over_adds n store counts size over F store counts size over h h As q)
-          (λ h. begun h (subst (Begun n (As ++ F ∷ []) store counts) (same_size ∙ sym all) (begun_placed n store counts 32 held_all F p store counts As (as_placed As h q) numbered d (placed_old n store counts 32 held_all F length-is p found d))))
+          (λ h. begun h (subst (Begun n (As ++ F ∷ []) store counts) (same_size ∙ sym all) (begun_placed n store counts 32 held_all F p store counts As (as_placed As h q) numbered (placed_old n store counts 32 held_all F length-is p d is))))
 
 -- as it was
 pub grown_same : (n : ℕ) (store : List ℕ) (size : ℕ) → Grown n store size store size
@@ -306,9 +300,8 @@ joined_adds {n} {store} {counts} {size} {over} g F G q numbered w As p = by_case
     let held = g.held in
     let m : q < length (members_of n store size) = rw (size_members held) w.less in
     let there : PlacedMember n (members_of n store size) (supremum F G) q store counts = old m (member_column held q w.less ∙ w.is) (rw (size_members held) held) (ap (members_of n store) (size_members held)) in
-    let less : (q ≡ 32 → ⊥) = λ z. omega (arith, held.few, w.less) in
     let same : grown_to size q ≡ size = grown_old size q (λ z. omega (arith, w.less)) in
-    begun h (subst (Begun n (As ++ supremum F G ∷ []) store counts) same (begun_placed n store counts size held (supremum F G) q store counts As (placing_begun n As store counts size over h p) numbered less there)))
+    begun h (subst (Begun n (As ++ supremum F G ∷ []) store counts) same (begun_placed n store counts size held (supremum F G) q store counts As (placing_begun n As store counts size over h p) numbered there)))
 
 -- ---- entries of finer members
 

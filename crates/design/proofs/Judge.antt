@@ -1,5 +1,7 @@
 -- Laws of a closed family in its order: the marks tell what questions 10 and 12 ask; and of the plot family as it is written.
 -- Assumes nothing.
+use Rattle.std.specs.Prelude.{Option, None, Some}
+use Rattle.design.specs.declared.closed.ClosedFamily.{ClosedFamily}
 use mathlib.Core.Path.{◌≡◌, refl, sym, ap, ap₂, ◌∙◌, subst}
 use mathlib.Core.Bool.{Bool, true, false}
 use mathlib.Core.List.Memᴰ
@@ -14,7 +16,7 @@ use lib.Seq.{length-take-le, get_or-take}
 use borrow.Author.Tests.{ltb-true, ltb-false}
 use Rattle.rules.specs.Factor.{Column, classes, uniform, orthogonal}
 use Rattle.rules.specs.Family.{Family, ◌∈◌, Distinct, none_left, apart, empty, insert_all, members_of, written}
-use Rattle.rules.specs.Closing.{both, only_supremum, Made, plot_generators, plot_family, too_many, family, close}
+use Rattle.rules.specs.Closing.{both, only_supremum, Made, plot_generators, plot_family, family, close}
 use Rattle.rules.specs.Design.{Places, first_failing, first_pair, question8, plot_buffer}
 use Rattle.rules.specs.Relation.{member_at}
 use Rattle.rules.proofs.Numbering.{by_cases}
@@ -26,15 +28,15 @@ use Rattle.rules.proofs.Orthogonality.{same_test, by_counts}
 use Rattle.rules.proofs.Tests.{orthogonal_test, orthogonal_sym}
 use Rattle.rules.proofs.Questions.{question_10, plot_length}
 use Rattle.rules.proofs.Made.{WellMade, plot_made}
-use Rattle.rules.proofs.PlotInfima.{plot_infima, infima_given, infima_many, infima_whole, suprema_made, same_family}
+use Rattle.rules.proofs.PlotInfima.{plot_infima, infima_given, infima_whole, suprema_made, same_family}
 use Rattle.rules.proofs.WorkList.{length_sorted, member_in}
 use Rattle.design.specs.State.{column_at, make_of, pair_mark, marked, Work, Sorted}
 use Rattle.design.specs.Search.{first_pair_of}
-use Rattle.design.specs.Judging.{apart_at, MarksTell, Listed, unlisted, listed, PlotListed, by_counts_holds, by_tests, Judging}
+use Rattle.design.specs.Judging.{apart_at, MarksTell, Listed, listed, Listing, PlotListed, PlotListing, by_counts_holds, by_tests, Judging}
 use Rattle.design.specs.Closings.{closed_in, Ready}
 use Rattle.design.specs.Treatments.{Numbered}
 use Rattle.design.proofs.Asked.{numbered_made}
-use Rattle.design.proofs.Answered.{eight_over, eight_buffer, held_over, held_on}
+use Rattle.design.proofs.Answered.{eight_over, eight_buffer}
 use Rattle.design.proofs.Order.{sorted_columns}
 use Rattle.design.proofs.Search.{pair_found, marked_below, marked_above}
 use Rattle.design.proofs.Work.{member_length}
@@ -129,8 +131,8 @@ module _ {n : ℕ} {infima : Bool} {Gs : List Column} {store counts marks order 
 
 -- ---- the plot family as it is written
 
-module _ (n : ℕ) (small : n ≤ 240) (some : 1 ≤ n) (Fs : List Column) (on : (F : Column) → F ∈ Fs → length F ≡ n) (before after marks order : List ℕ) (r : ℕ) (room : 7680 ≤ length before) where
-  module _ (S : Family) (is : plot_family n Fs ≡ family S) (q : r ≡ length S) (h : r ≤ 32) (e : after ≡ written before 0 S) where
+module _ (n : ℕ) (small : n ≤ 240) (some : 1 ≤ n) (Fs : List Column) (on : (F : Column) → F ∈ Fs → length F ≡ n) (before after marks : List ℕ) (room : 7680 ≤ length before) where
+  module _ {r : ℕ} (S : Family) (is : plot_family n Fs ≡ family S) (q : r ≡ length S) (h : r ≤ 32) (e : after ≡ written before 0 S) where
     -- its members are in memory
     held_members : members_of n after r ≡ S
     unfolding members_of
@@ -143,8 +145,8 @@ module _ (n : ℕ) (small : n ≤ 240) (some : 1 ≤ n) (Fs : List Column) (on :
         (subst (WellMade n) (sym held_members) (plot_made n Fs on S is))
 
     -- what questions 9 and 10 need to know
-    judging : MarksTell by_counts S order marks r → Judging n r after order marks
-    judging t = record {
+    judging : {order : List ℕ} → MarksTell by_counts S order marks r → Judging n r after order marks
+    judging {order} t = record {
       some = some;
       most = small;
       members = held_numbered;
@@ -156,7 +158,7 @@ module _ (n : ℕ) (small : n ≤ 240) (some : 1 ≤ n) (Fs : List Column) (on :
         told z = let f = question_10 n Fs on S is some z in record { places = t.places; first = t.first ∙ ap (λ (p : Places). p.first) (sym f); second = t.second ∙ ap (λ (p : Places). p.second) (sym f) }
 
     -- the same by marks that tell it of themselves
-    judging_tests : MarksTell (orthogonal n) S order marks r → Judging n r after order marks
+    judging_tests : {order : List ℕ} → MarksTell (orthogonal n) S order marks r → Judging n r after order marks
     judging_tests t = record {
       some = some;
       most = small;
@@ -166,47 +168,45 @@ module _ (n : ℕ) (small : n ≤ 240) (some : 1 ≤ n) (Fs : List Column) (on :
     }
 
   -- memory holds it
-  pub plot_held : PlotListed n Fs before after marks order r → closed_in n after r ≡ plot_family n Fs
+  pub plot_held : (x : Option ClosedFamily) → PlotListing n Fs before after marks x → closed_in n after x ≡ plot_family n Fs
   unfolding plot_family
-  plot_held (by_counts_holds (unlisted q t e)) = held_over n after r q ∙ sym t
-  plot_held (by_counts_holds (listed S is q h e t)) = held_on n after r (λ z. omega arith) ∙ ap family (held_members S is q h e) ∙ sym is
-  plot_held (by_tests S is q h e t) = held_on n after r (λ z. omega arith) ∙ ap family (held_members S is q h e) ∙ sym is
+  plot_held None (t, e) = sym t
+  plot_held (Some c) (by_counts_holds (listed S is q h e t)) = ap family (held_members S is q h e) ∙ sym is
+  plot_held (Some c) (by_tests S is q h e t) = ap family (held_members S is q h e) ∙ sym is
 
   -- the buffer is as the rules say
-  pub plot_left : PlotListed n Fs before after marks order r → after ≡ plot_buffer before (question8 n (plot_family n Fs))
+  pub plot_left : (x : Option ClosedFamily) → PlotListing n Fs before after marks x → after ≡ plot_buffer before (question8 n (plot_family n Fs))
   unfolding plot_family written
-  plot_left (by_counts_holds (unlisted q t e)) = e ∙ ap (plot_buffer before) (sym (eight_over n (plot_family n Fs) t))
-  plot_left (by_counts_holds (listed S is q h e t)) = e ∙ sym (eight_buffer n (plot_family n Fs) S before is)
-  plot_left (by_tests S is q h e t) = e ∙ sym (eight_buffer n (plot_family n Fs) S before is)
+  plot_left None (t, e) = e ∙ ap (plot_buffer before) (sym (eight_over n (plot_family n Fs) t))
+  plot_left (Some c) (by_counts_holds (listed S is q h e t)) = e ∙ sym (eight_buffer n (plot_family n Fs) S before is)
+  plot_left (Some c) (by_tests S is q h e t) = e ∙ sym (eight_buffer n (plot_family n Fs) S before is)
 
   -- it is held with what the questions need
-  pub plot_ready : PlotListed n Fs before after marks order r → Ready n r after order marks
+  pub plot_ready : (x : Option ClosedFamily) → PlotListing n Fs before after marks x → Ready n after marks x
   unfolding plot_family
-  plot_ready (by_counts_holds (unlisted q t e)) = record { most = small; room = rw e room; judging = λ d. absurd (d q) }
-  plot_ready (by_counts_holds (listed S is q h e t)) = let j = judging S is q h e t in record { most = small; room = j.members.room; judging = λ d. j }
-  plot_ready (by_tests S is q h e t) = let j = judging_tests S is q h e t in record { most = small; room = j.members.room; judging = λ d. j }
+  plot_ready None (t, e) = record { most = small; room = rw e room; judging = tt }
+  plot_ready (Some c) (by_counts_holds (listed S is q h e t)) = let j = judging S is q h e t in record { most = small; room = j.members.room; judging = j }
+  plot_ready (Some c) (by_tests S is q h e t) = let j = judging_tests S is q h e t in record { most = small; room = j.members.room; judging = j }
+
+-- a family that is closed from the plot columns is listed by numbers of classes
+pub plot_counted : (n : ℕ) (Fs : List Column) (before after marks : List ℕ) (x : Option ClosedFamily) → Listing n true (plot_generators n Fs) before after marks x → PlotListing n Fs before after marks x
+unfolding plot_family
+plot_counted n Fs before after marks None l = l
+plot_counted n Fs before after marks (Some c) l = by_counts_holds l
 
 -- ---- the plot family by the infima of its columns
 
-module _ {n : ℕ} {Fs : List Column} {before after marks order : List ℕ} {r : ℕ} (on : (F : Column) → F ∈ Fs → length F ≡ n) where
-  -- too many infima, or suprema of them
-  pub plot_over : r ≡ 33 → close only_supremum (plot_infima n Fs) ≡ too_many → after ≡ before → PlotListed n Fs before after marks order r
-  unfolding plot_family
-  plot_over q c e = by_counts_holds (unlisted q (infima_many n Fs on c) e)
-
+module _ {n : ℕ} {Fs : List Column} (on : (F : Column) → F ∈ Fs → length F ≡ n) where
   -- supremum adds nothing to them
-  pub plot_whole : length Fs ≤ 6 → (S : Family) → Distinct S → ((F : Column) → F ∈ S → F ∈ plot_infima n Fs) → r ≡ length S → Listed n false (plot_infima n Fs) before after marks order r → r ≤ 32 → PlotListed n Fs before after marks order r
-  plot_whole few S d only l (unlisted q c e) h = absurd (omega arith)
-  plot_whole few S d only l (listed P is q h e t) k = by_tests P (infima_whole n Fs on few S P d only is (sym q ∙ l)) q h e t
+  pub plot_whole : {before after marks order : List ℕ} {r : ℕ} → length Fs ≤ 6 → (S : Family) → Distinct S → ((F : Column) → F ∈ S → F ∈ plot_infima n Fs) → r ≡ length S → Listed n false (plot_infima n Fs) before after marks order r → PlotListed n Fs before after marks order r
+  plot_whole few S d only l (listed P is q h e t) = by_tests P (infima_whole n Fs on few S P d only is (sym q ∙ l)) q h e t
 
   -- it does: all that was found is closed under both operations
-  pub plot_grown : (Ms : List Column) → ((F : Column) → F ∈ Ms → Made only_supremum (plot_infima n Fs) F) → ((G : Column) → G ∈ plot_infima n Fs → G ∈ Ms) → Listed n true Ms before after marks order r → PlotListed n Fs before after marks order r
-  unfolding plot_family
-  plot_grown Ms only given l = by_counts_holds (as_family l)
-    where
-      same : close both Ms ≡ close both (plot_generators n Fs)
-      same = same_family n Fs Ms (λ F m. suprema_made n Fs on F (only F m)) (λ G m. given G (infima_given n Fs on G m))
+  module _ (Ms : List Column) (only : (F : Column) → F ∈ Ms → Made only_supremum (plot_infima n Fs) F) (given : (G : Column) → G ∈ plot_infima n Fs → G ∈ Ms) where
+    same_closed : close both Ms ≡ plot_family n Fs
+    same_closed = same_family n Fs Ms (λ F m. suprema_made n Fs on F (only F m)) (λ G m. given G (infima_given n Fs on G m))
 
-      as_family : Listed n true Ms before after marks order r → Listed n true (plot_generators n Fs) before after marks order r
-      as_family (unlisted q c e) = unlisted q (sym same ∙ c) e
-      as_family (listed S is q h e t) = listed S (sym same ∙ is) q h e t
+    pub plot_grown : (before after marks : List ℕ) (x : Option ClosedFamily) → Listing n true Ms before after marks x → PlotListing n Fs before after marks x
+    unfolding plot_family
+    plot_grown before after marks None (c, e) = (sym same_closed ∙ c, e)
+    plot_grown before after marks (Some c) (listed P is q h e t) = by_counts_holds (listed P (sym same_closed ∙ is) q h e t)

@@ -19,7 +19,7 @@ use Rattle.rules.proofs.Numbering.{length_number}
 use Rattle.rules.proofs.Extremes.{number_equality}
 use Rattle.rules.proofs.Closing.{close_too_many}
 use Rattle.rules.proofs.WorkList.{member_in, Found, found_more, found_over}
-use Rattle.design.specs.State.{column_at, Held, PlacedMember, full, old, new, grown_to, Begun, make_of, pair_mark, marked_row, Work}
+use Rattle.design.specs.State.{column_at, Held, PlacedMember, NoRoom, grown_to, Begun, make_of, pair_mark, marked_row, Work}
 use Rattle.design.specs.Points.{Points, points_on_plots, Gathered}
 use Rattle.design.proofs.Common.{column_length}
 use Rattle.design.proofs.PointLaws.{plots_apart, classes_plots, number_plots, infimum_plots, supremum_plots, counts_plots, plots_few, plots_part, points_some, points_most}
@@ -245,10 +245,8 @@ module _ {n m : ℕ} {p : Column} (P : Points n m p) where
       found = found_plots true g.plots g.only w some_plots small store room spread
 
       -- there is no room for E
-      pub equality_over : {q : ℕ} {store' counts' : List ℕ} → PlacedMember n (members_of n store r) (equality n) q store' counts' → q ≡ 32 → close both Gs ≡ too_many
-      equality_over (full e l f) z = found_over both Gs R found (equality n) (given g.equal) not_equality (omega (arith, ap length members_are))
-      equality_over (old h is held same) z = absurd (omega (arith, w.held.few, ap length members_are, size_r))
-      equality_over (new e h f held same) z = absurd (omega arith)
+      pub equality_over : {store' counts' : List ℕ} → NoRoom n (members_of n store r) (equality n) store' counts' → close both Gs ≡ too_many
+      equality_over room = found_over both Gs R found (equality n) (given g.equal) not_equality (omega (arith, room.full, ap length members_are))
 
       -- with E, all pairs are combined but those of E
       pub with_equality : {q : ℕ} {store' counts' : List ℕ} {size : ℕ} → Stood n (members_of n store r) (equality n) q store' counts' size → Work n true Gs store' counts' marks size r 0

@@ -1,25 +1,24 @@
 -- Laws of a store of members: the search for a column, and a column placed after the last member.
 -- Assumes nothing.
+use Rattle.std.specs.Prelude.{Option, None, Some, MatchOption}
 use mathlib.Core.Path.{◌≡◌, refl, sym, ap, ◌∙◌, subst}
-use mathlib.Core.Logic.{◌⊎◌, inl, inr}
 use mathlib.Core.Bool.{Bool, true, false}
 use mathlib.Core.List.{List, [], ◌∷◌, ◌++◌}
 use Prim.Native.Nat.{ℕ, suc, ◌+◌, ◌*◌, ◌≤◌, ◌<◌}
 use native.Mathlib.Nat.{lt_irrefl}
-use native.Mathlib.Numerals.{add-one}
 use native.Mathlib.Omega.{arith}
 use lib.Dec.{ltb}
-use lib.ListN.{length, get_or, drop, set, length-set, drop_of_length-le, get_or-append}
-use lib.Seq.{paste, drop-cons, take-length, get_or-set_same, get_or-set_other, get_or_at}
+use lib.ListN.{length, get_or, set, length-set, get_or-append}
+use lib.Seq.{paste, take-length, get_or-set_same, get_or-set_other, get_or_at}
 use borrow.Author.Tests.{eq-eqb, ne_eqb, ltb-true, ltb-false}
-use Rattle.rules.specs.Factor.{Column, classes, index_of}
+use Rattle.rules.specs.Factor.{Column, classes}
 use Rattle.rules.specs.Family.{Family, ◌∈◌, alike, members_of}
 use Rattle.rules.specs.Relation.{member_at}
-use Rattle.rules.proofs.Numbering.{by_cases, place_yes, place_no, Has, has_get_d, has_or_new, get_d_place}
-use Rattle.rules.proofs.Members.{alike_sound, alike_self}
+use Rattle.rules.proofs.Numbering.{by_cases}
+use Rattle.rules.proofs.Members.{alike_sound}
 use Rattle.rules.proofs.WorkList.{place_of}
 use Rattle.rules.proofs.Buffer.{put, length_put, length_members, member_is, members_add}
-use Rattle.design.specs.State.{column_at, Held, PlacedMember, full, old, new, grown_to}
+use Rattle.design.specs.State.{column_at, Held, PlacedMember, old, new, NoRoom, grown_to}
 
 -- ---- the search for a column
 
@@ -27,41 +26,9 @@ use Rattle.design.specs.State.{column_at, Held, PlacedMember, full, old, new, gr
 pub unlike_counts : (G F : Column) → (classes G ≡ classes F → ⊥) → alike G F ≡ false
 unlike_counts G F n = by_cases (alike G F) (λ e. absurd (n (ap classes (alike_sound G F e)))) (λ e. e)
 
-module _ (S : Family) (F : Column) where
-  -- where F first stands
-  abbrev pub place_in : ℕ
-  place_in = index_of alike S F
-
-  -- the search from place i on finds what the whole search finds
-  abbrev pub Sought : ℕ → Type 0
-  Sought i = place_in ≡ i + index_of alike (drop i S) F
-
-  -- the member at i is another column
-  pub sought_on : (i : ℕ) → i < length S → alike (member_at S i) F ≡ false → Sought i → Sought (i + 1)
-  sought_on i h e s =
-      let p : index_of alike (drop i S) F ≡ suc (index_of alike (drop (i + 1) S) F) =
-      rw (add-one, drop-cons S i [] h) (place_no alike alike_sound alike_self (member_at S i) (drop (suc i) S) F e) in
-      omega arith
-
-  -- the member at i is the column
-  pub sought_here : (i : ℕ) → i < length S → alike (member_at S i) F ≡ true → Sought i → place_in ≡ i
-  sought_here i h e s =
-      let p : index_of alike (drop i S) F ≡ 0 = rw (drop-cons S i [] h) (place_yes alike alike_sound alike_self (member_at S i) (drop (suc i) S) F e) in
-      omega arith
-
-  -- no member is left
-  pub sought_end : (i : ℕ) → length S ≤ i → Sought i → place_in ≡ i
-  unfolding index_of
-  sought_end i h s =
-      let p : index_of alike (drop i S) F ≡ 0 = rw (drop_of_length-le S h) in
-      omega arith
-
-  -- a column that is not found is no member
-  pub not_found : place_in ≡ length S → F ∈ S → ⊥
-  not_found e m =
-      let p = place_of S F m in
-      let h = has_get_d alike alike_sound alike_self S p.place [] p.less in
-      lt_irrefl (length S) (rw (p.is, e) at h)
+-- a column that stands at no place is no member
+pub absent_lem : (S : Family) (F : Column) → ((k : ℕ) → k < length S → member_at S k ≡ F → ⊥) → F ∈ S → ⊥
+absent_lem S F h m = let p = place_of S F m in h p.place p.less p.is
 
 -- ---- a column after the last member
 
@@ -113,36 +80,26 @@ module _ (n : ℕ) (store counts : List ℕ) (size : ℕ) (h : Held n store coun
       counted = λ i k. counted_more i k (ltb i size) refl;
     }
 
-  -- ---- what placing answers, where the search answers r
+  -- ---- what placing leaves
 
-  module _ (r : ℕ) (found : r ≡ place_in S F) where
-    at_end : (Has alike alike_sound alike_self S F → ⊥) → place_in S F ≡ length S
-    at_end n = go (has_or_new alike alike_sound alike_self S F)
-      where
-        go : Has alike alike_sound alike_self S F ⊎ (place_in S F ≡ length S) → place_in S F ≡ length S
-        go (inl k) = absurd (n k)
-        go (inr e) = e
+  -- the column is a member
+  pub placed_old : (r : ℕ) → r < size → member_at S r ≡ F → PlacedMember n S F r store counts
+  placed_old r q e = old (rw ends q) e (rw ends h) (ap (members_of n store) ends)
 
-    -- r is past the last place that a family has
-    pub placed_full : r ≡ 32 → PlacedMember n S F r store counts
-    placed_full e =
-        let q : place_in S F ≡ length S = at_end (λ k. let w : place_in S F < length S = k in omega (arith, h.few, ends)) in
-        full e (omega arith) (not_found S F q)
+  -- it is none, and there is no room
+  pub no_room : size ≡ 32 → (F ∈ S → ⊥) → NoRoom n S F store counts
+  no_room e f = record { full = ends ∙ e; fresh = f; held = rw ends h; members = ap (members_of n store) ends }
 
-    -- r is a member's place
-    pub placed_old : (r ≡ size → ⊥) → PlacedMember n S F r store counts
-    placed_old d = go (has_or_new alike alike_sound alike_self S F)
-      where
-        go : Has alike alike_sound alike_self S F ⊎ (place_in S F ≡ length S) → PlacedMember n S F r store counts
-        go (inl k) = old (rw found k) (rw found (get_d_place alike alike_sound alike_self S F [] k)) (rw ends h) (ap (members_of n store) ends)
-        go (inr e) = absurd (d (found ∙ e ∙ ends))
+  -- the same by what a search finds
+  pub placed_found : (r : Option ℕ) → size ≡ 32 → MatchOption r (F ∈ S → ⊥) (λ i. (i < size) × (member_at S i ≡ F)) → MatchOption r (NoRoom n S F store counts) (λ i. PlacedMember n S F i store counts)
+  placed_found None e f = no_room e f
+  placed_found (Some i) e q = placed_old i q.0 q.1
 
-    -- r is the place after the last member
-    pub placed_new : r ≡ size → (r ≡ 32 → ⊥) → (after : List ℕ) → after ≡ paste store (240 * size) F (length F) → (count : ℕ) → count ≡ classes F → PlacedMember n S F r after (set counts size count)
-    placed_new e d after p count q =
-        let less : size < 32 = omega (arith, h.few) in
-        subst (λ (t : List ℕ). PlacedMember n S F r t (set counts size count)) (sym (p ∙ paste_put n h.most store size F l))
-        (new (e ∙ sym ends) (rw e less) (not_found S F (sym found ∙ e ∙ sym ends)) (rw (e, q) (held_more less)) (rw e (longer less)))
+  -- it is put after the last member
+  pub placed_new : size < 32 → (F ∈ S → ⊥) → (after : List ℕ) → after ≡ paste store (240 * size) F (length F) → (count : ℕ) → count ≡ classes F → PlacedMember n S F size after (set counts size count)
+  placed_new less f after p count q =
+      subst (λ (t : List ℕ). PlacedMember n S F size t (set counts size count)) (sym (p ∙ paste_put n h.most store size F l))
+      (new (sym ends) less f (rw q (held_more less)) (longer less))
 
 -- ---- the size
 

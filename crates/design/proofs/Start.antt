@@ -1,5 +1,6 @@
 -- Laws of the columns that a family starts from: each is placed in turn, and none twice.
 -- Assumes nothing.
+use Rattle.std.specs.Prelude.{Option, None, Some, MatchOption}
 use mathlib.Core.Path.{◌≡◌, refl, sym, ap, ◌∙◌, subst}
 use mathlib.Core.Logic.{◌⊎◌, inl, inr}
 use mathlib.Core.List.Memᴰ
@@ -14,7 +15,7 @@ use Rattle.rules.specs.Family.{Family, ◌∈◌, Distinct, none_left, columns_f
 use Rattle.rules.specs.Closing.{plot_generators}
 use Rattle.rules.proofs.WorkList.{member_in, distinct_more}
 use Rattle.rules.proofs.Buffer.{length_columns, columns_snoc, length_members}
-use Rattle.design.specs.State.{column_at, Held, PlacedMember, full, old, new, grown_to, Begun}
+use Rattle.design.specs.State.{column_at, Held, PlacedMember, old, new, NoRoom, grown_to, Begun}
 use Rattle.design.proofs.Placing.{grown_new, grown_old}
 
 -- ---- placing
@@ -39,10 +40,6 @@ module _ (n : ℕ) (store counts : List ℕ) (size : ℕ) (h : Held n store coun
 
   -- what placing answers, where there is room
   pub after_placed : (r : ℕ) (after counts' : List ℕ) → PlacedMember n S F r after counts' → After r after counts'
-  after_placed r after counts' (full e l m) = absurd (impossible l)
-    where
-      impossible : length S ≡ 32 → ⊥
-      impossible l = let q : 32 < 32 = omega (arith, ends) in omega arith
   after_placed r after counts' (old l m k e) =
       let g : grown_to size r ≡ length S = grown_old size r (λ q. omega (arith, ends)) ∙ sym ends in
       record {
@@ -123,7 +120,6 @@ first_placed n store counts h F r after counts' p = go p
     ends_0 = length_members n h.most store 0
 
     go : PlacedMember n (members_of n store 0) F r after counts' → grown_to 0 r ≡ 1
-    go (full e l m) = absurd (let q : 32 ≡ 0 = sym l ∙ ends_0 in omega arith)
     go (old l m k e) = absurd (let q : r < 0 = rw ends_0 at l in omega arith)
     go (new e l m k q) = grown_new 0 r (e ∙ ends_0)
 
@@ -134,6 +130,18 @@ pub placed_on : (n : ℕ) (store : List ℕ) (size : ℕ) (X F : Column) (r : �
     → PlacedMember n (members_of n store size) F r after counts'
 placed_on n store size X F r after counts' e l p =
     subst (λ (k : ℕ). PlacedMember k (members_of k store size) F r after counts') l (subst (λ (Y : Column). PlacedMember (length Y) (members_of (length Y) store size) Y r after counts') e p)
+
+-- the same where there is no room
+pub no_room_on : (n : ℕ) (store : List ℕ) (size : ℕ) (X F : Column) (after counts' : List ℕ) → X ≡ F → length F ≡ n → NoRoom (length X) (members_of (length X) store size) X after counts' → NoRoom n (members_of n store size) F after counts'
+no_room_on n store size X F after counts' e l p =
+    subst (λ (k : ℕ). NoRoom k (members_of k store size) F after counts') l (subst (λ (Y : Column). NoRoom (length Y) (members_of (length Y) store size) Y after counts') e p)
+
+-- the same of what trying to place it answers
+pub tried_on : (n : ℕ) (store : List ℕ) (size : ℕ) (X F : Column) (r : Option ℕ) (after counts' : List ℕ) → X ≡ F → length F ≡ n
+    → MatchOption r (NoRoom (length X) (members_of (length X) store size) X after counts') (λ p. PlacedMember (length X) (members_of (length X) store size) X p after counts')
+    → MatchOption r (NoRoom n (members_of n store size) F after counts') (λ p. PlacedMember n (members_of n store size) F p after counts')
+tried_on n store size X F None after counts' e l q = no_room_on n store size X F after counts' e l q
+tried_on n store size X F (Some p) after counts' e l q = placed_on n store size X F p after counts' e l q
 
 -- the same of a store
 pub held_on : (n : ℕ) (store counts : List ℕ) (size : ℕ) (X F : Column) → X ≡ F → length F ≡ n → Held n store counts size → Held (length X) store counts size

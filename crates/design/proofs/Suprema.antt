@@ -23,7 +23,7 @@ use Rattle.rules.proofs.Supremum.{length_supremum}
 use Rattle.rules.proofs.WorkList.{member_in, distinct_more, length_sorted}
 use Rattle.factor.specs.Lent.{on_common, overlay}
 use Rattle.factor.proofs.Lent.{common_all, length_part}
-use Rattle.design.specs.State.{column_at, Held, PlacedMember, full, old, new, grown_to, Begun, Sorted}
+use Rattle.design.specs.State.{column_at, Held, PlacedMember, old, new, NoRoom, grown_to, Begun, Sorted}
 use Rattle.design.specs.Treatments.{known_finer, Member}
 use Rattle.design.specs.Crossing.{Placing, exceeded, begun}
 use Rattle.design.proofs.Extremes.{one_class_coarsest, all_classes_finest, finer_supremum, finer_orthogonal, coarser_supremum, coarser_orthogonal}
@@ -143,23 +143,21 @@ module _ (n : ℕ) (store counts : List ℕ) (size : ℕ) (h : Held n store coun
   ends = length_members n h.most store size
 
   -- there was room: the store holds what it held, and the column
-  pub held_placed : (r ≡ 32 → ⊥) → PlacedMember n S F r after counts' → Held n after counts' (grown_to size r) × (size ≤ grown_to size r)
-  held_placed d (full e l m) = absurd (d e)
-  held_placed d (old l m k e) =
+  pub held_placed : PlacedMember n S F r after counts' → Held n after counts' (grown_to size r) × (size ≤ grown_to size r)
+  held_placed (old l m k e) =
       let g : grown_to size r ≡ length S = grown_old size r (λ q. omega (arith, ends)) ∙ sym ends in
       (rw g k, omega (arith, ends))
-  held_placed d (new e l m k q) =
+  held_placed (new e l m k q) =
       let g : grown_to size r ≡ suc r = grown_new size r (e ∙ ends) ∙ omega (arith, ends) in
       (rw g k, omega (arith, ends))
 
   module _ (As : List Column) (b : Begun n As store counts size) where
     -- there was room: the members are the columns As and F
-    pub begun_placed : number F ≡ F → (r ≡ 32 → ⊥) → PlacedMember n S F r after counts' → Begun n (As ++ F ∷ []) after counts' (grown_to size r)
-    begun_placed i d (full e l m) = absurd (d e)
-    begun_placed i d (new e l m k q) =
+    pub begun_placed : number F ≡ F → PlacedMember n S F r after counts' → Begun n (As ++ F ∷ []) after counts' (grown_to size r)
+    begun_placed i (new e l m k q) =
         let less : size < 32 = omega (arith, ends) in
         begun_more n As store counts size b less F i r after counts' (new e l m k q)
-    begun_placed i d (old l m k e) =
+    begun_placed i (old l m k e) =
         let g : grown_to size r ≡ length S = grown_old size r (λ q. omega (arith, ends)) ∙ sym ends in
         let members : members_of n after (grown_to size r) ≡ S = ap (members_of n after) g ∙ e in
         record {
@@ -176,11 +174,10 @@ module _ (n : ℕ) (store counts : List ℕ) (size : ℕ) (h : Held n store coun
         is_placed l m G (inr w) = Memᴰ.cast (Memᴰ.eq_of_singleton w ∙ sym m) (member_in S r l)
 
     -- there was none: they are more than 32
-    pub over_placed : r ≡ 32 → PlacedMember n S F r after counts' → 32 < length (insert_all (As ++ F ∷ []) [])
-    over_placed d (old l m k e) = absurd (let q : 32 < 32 = omega (arith, ends, h.few) in omega arith)
-    over_placed d (new e l m k q) = absurd (let q : 32 < 32 = omega arith in omega arith)
-    over_placed d (full e l m) =
-        let p = pigeonhole (S ++ F ∷ []) (insert_all (As ++ F ∷ []) []) (distinct_more b.distinct m) (λ G w. insert_all_has (As ++ F ∷ []) [] G (is_given G (Memᴰ.append_cases S w))) in
+    pub over_placed : NoRoom n S F after counts' → 32 < length (insert_all (As ++ F ∷ []) [])
+    over_placed room =
+        let l = room.full in
+        let p = pigeonhole (S ++ F ∷ []) (insert_all (As ++ F ∷ []) []) (distinct_more b.distinct room.fresh) (λ G w. insert_all_has (As ++ F ∷ []) [] G (is_given G (Memᴰ.append_cases S w))) in
         omega (arith, p, length-append S (F ∷ []))
       where
         is_given : (G : Column) → (G ∈ S) ⊎ (G ∈ F ∷ []) → G ∈ As ++ F ∷ []

@@ -1,5 +1,7 @@
 -- Laws of the full design around the plot design: what an accepted and a refused plot family lead to, questions 6 and 7, and the promise whole.
 -- Assumes nothing.
+use Rattle.std.specs.Prelude.{Option, None, Some}
+use Rattle.design.specs.declared.closed.ClosedFamily.{ClosedFamily}
 use mathlib.Core.Path.{◌≡◌, refl, sym, ap, ap₂, ◌∙◌}
 use mathlib.Core.Bool.{true, false, ◌&&◌, true≢false}
 use mathlib.Core.List.{List, [], ◌∷◌, ◌++◌}
@@ -27,8 +29,8 @@ use Rattle.rules.proofs.FullStrata.{demand_trusted}
 use Rattle.design.specs.Treatments.{Numbered}
 use Rattle.design.proofs.Asked.{numbered_made}
 use Rattle.design.specs.Answers.{PlotNumbers, plot_numbers_of, FullNumbers, full_numbers_of, full_left, FullTrusted, full_refusing}
-use Rattle.design.specs.Closings.{closed_in, goes_on}
-use Rattle.design.proofs.Answered.{accepting, held_over, held_on}
+use Rattle.design.specs.Closings.{closed_in, Ready, goes_on}
+use Rattle.design.proofs.Answered.{accepting}
 
 -- ---- the plot design writes no treatment family
 
@@ -117,24 +119,25 @@ pub record Goes (n : ℕ) (x : Closing) (held : List ℕ) (size : ℕ) : Type 0 
   pub members : members_of n held size ≡ (question8 n x).plot
   pub closed : x ≡ family (members_of n held size)
 
-pub goes_on_lem : (n : ℕ) (b : List ℕ) (m : ℕ) → n ≤ 240 → ((m ≡ 33 → ⊥) → m ≤ 32) → {size : ℕ}
-    → accepting size ≡ plot_numbers_of (question8 n (closed_in n b m)) → Goes n (closed_in n b m) b size
+pub goes_on_lem : (n : ℕ) (b : List ℕ) (marks : List ℕ) (x : Option ClosedFamily) → Ready n b marks x → {size : ℕ}
+    → accepting size ≡ plot_numbers_of (question8 n (closed_in n b x)) → Goes n (closed_in n b x) b size
 unfolding plot_numbers_of question8
-goes_on_lem n b m small most {size} e = record {
+goes_on_lem n b marks None r {size} e = absurd (suc-ne-zero 7 (sym (ap (λ (x : PlotNumbers). x.refusal) e)))
+goes_on_lem n b marks (Some c) r {size} e = record {
   accepted = sym (ap (λ (x : PlotNumbers). x.refusal) e);
-  few = omega (arith, most fits, is);
+  few = omega (arith, r.judging.members.few, is);
   members = ap (members_of n b) is ∙ sym plot;
-  closed = held_on n b m fits ∙ ap (λ (k : ℕ). family (members_of n b k)) (sym is);
+  closed = ap (λ (k : ℕ). family (members_of n b k)) (sym is);
 }
   where
-    fits : m ≡ 33 → ⊥
-    fits q = suc-ne-zero 7 (ap (λ (x : Closing). (question8 n x).refusal) (sym (held_over n b m q)) ∙ sym (ap (λ (x : PlotNumbers). x.refusal) e))
+    m : ℕ
+    m = c.size
 
-    plot : (question8 n (closed_in n b m)).plot ≡ members_of n b m
-    plot = ap (λ (x : Closing). (question8 n x).plot) (held_on n b m fits) ∙ verdict_members n (members_of n b m)
+    plot : (question8 n (family (members_of n b m))).plot ≡ members_of n b m
+    plot = verdict_members n (members_of n b m)
 
     is : size ≡ m
-    is = ap (λ (x : PlotNumbers). x.size) e ∙ ap length plot ∙ length_members n small b m
+    is = ap (λ (x : PlotNumbers). x.size) e ∙ ap length plot ∙ length_members n r.most b m
 
 -- its members are numbered, and E is one
 pub goes_numbered : (n : ℕ) (Fs : List Column) → ((F : Column) → F ∈ Fs → length F ≡ n) → (b : List ℕ) (size : ℕ) {x : Closing} → n ≤ 240 → 7680 ≤ length b → x ≡ plot_family n Fs → Goes n x b size

@@ -1,6 +1,7 @@
 -- Laws of closing under way: a column that is placed, a pair that is combined, a row that is done, and the whole.
 -- Assumes nothing.
 use mathlib.Core.Path.{◌≡◌, refl, sym, ap, ap₂, ◌∙◌, subst}
+use Rattle.std.specs.Prelude.{Option}
 use mathlib.Core.Logic.{◌⊎◌, inl, inr, ⊎_elim}
 use mathlib.Core.Bool.{Bool, true, false, not}
 use mathlib.Core.List.Memᴰ
@@ -27,7 +28,7 @@ use Rattle.rules.proofs.WorkList.{PlaceOf, place_of, member_in, Found, found_mor
 use Rattle.design.proofs.Common.{column_length}
 use Rattle.design.proofs.Extremes.{finer_infimum, finer_supremum, coarser_infimum, coarser_supremum, finer_orthogonal, coarser_orthogonal}
 use Rattle.design.proofs.Placing.{grown_new, grown_old}
-use Rattle.design.specs.State.{column_at, Held, PlacedMember, full, old, new, grown_to, Begun, make_of, pair_mark, marked_row, entry_of, Joins, Work, Follows, unknown, follows, Known, Kept, Advanced, Stepped, over, on, Grows, too_large, whole, more}
+use Rattle.design.specs.State.{column_at, Held, PlacedMember, old, new, NoRoom, grown_to, Begun, make_of, pair_mark, marked_row, entry_of, Joins, Work, Follows, unknown, follows, Stepped, ClosedOrMore, whole, more}
 
 -- ---- members by their places
 
@@ -79,10 +80,9 @@ pub record Stood (n : ℕ) (S : Family) (F : Column) (r : ℕ) (store counts : L
 last_is : (S : Family) (F : Column) → member_at (S ++ F ∷ []) (length S) ≡ F
 last_is S F = ap (member_at (S ++ F ∷ [])) (sym (add-zero (length S))) ∙ get_or-append-add S (F ∷ []) 0 []
 
--- what placing leaves, unless there was no room
-pub stood : {n : ℕ} {S : Family} {F : Column} {r : ℕ} {store counts : List ℕ} (size : ℕ) → length S ≡ size → PlacedMember n S F r store counts → (r ≡ 32 → ⊥) → Stood n S F r store counts (grown_to size r)
-stood size e (full q l f) miss = absurd (miss q)
-stood {n} {S} {F} {r} {store} {counts} size e (old h is held same) miss = subst (Stood n S F r store counts) (sym g) record {
+-- what placing leaves
+pub stood : {n : ℕ} {S : Family} {F : Column} {r : ℕ} {store counts : List ℕ} (size : ℕ) → length S ≡ size → PlacedMember n S F r store counts → Stood n S F r store counts (grown_to size r)
+stood {n} {S} {F} {r} {store} {counts} size e (old h is held same) = subst (Stood n S F r store counts) (sym g) record {
   held = held;
   more = omega arith;
   here = h;
@@ -93,7 +93,7 @@ stood {n} {S} {F} {r} {store} {counts} size e (old h is held same) miss = subst 
   where
     g : grown_to size r ≡ length S
     g = grown_old size r (λ q. omega arith) ∙ sym e
-stood {n} {S} {F} {r} {store} {counts} size e (new q h f held same) miss = subst (Stood n S F r store counts) (sym g) record {
+stood {n} {S} {F} {r} {store} {counts} size e (new q h f held same) = subst (Stood n S F r store counts) (sym g) record {
   held = held;
   more = omega arith;
   here = omega arith;
@@ -294,10 +294,8 @@ module _ {n : ℕ} {infima : Bool} {Gs : List Column} {store counts marks : List
       s.members)
 
   -- it is new, and there is no room
-  work_over : {F : Column} {r : ℕ} {store' counts' : List ℕ} → Made (make_of infima) Gs F → PlacedMember n S F r store' counts' → r ≡ 32 → close (make_of infima) Gs ≡ too_many
-  work_over {F} p (full q l f) e = found_over (make_of infima) Gs S w.found F p f (omega arith)
-  work_over p (old h is held same) e = absurd (omega (arith, size_members w.held, w.held.few))
-  work_over p (new q h f held same) e = absurd (omega arith)
+  work_over : {F : Column} {store' counts' : List ℕ} → Made (make_of infima) Gs F → NoRoom n S F store' counts' → close (make_of infima) Gs ≡ too_many
+  work_over {F} p r = found_over (make_of infima) Gs S w.found F p r.fresh (omega (arith, r.full))
 
   module _ (hi : i < size) (hj : j < i) where
     -- the two members of the pair
@@ -330,8 +328,8 @@ module _ {n : ℕ} {infima : Bool} {Gs : List Column} {store counts marks : List
     work_supremum s = work_place hi (omega arith) made_supremum (number_supremum A B (l_a ∙ sym l_b)) s
 
     -- there is no room for the supremum
-    pub over_supremum : {r : ℕ} {store' counts' : List ℕ} → PlacedMember n S (supremum A B) r store' counts' → r ≡ 32 → close (make_of infima) Gs ≡ too_many
-    over_supremum s e = work_over made_supremum s e
+    pub over_supremum : {store' counts' : List ℕ} → NoRoom n S (supremum A B) store' counts' → close (make_of infima) Gs ≡ too_many
+    over_supremum r = work_over made_supremum r
 
     -- the pair has its mark
     work_step : (mark : ℕ) → ((H : Column) → H ∈ make_of infima (member_at S i) (member_at S j) → H ∈ S) → not (eqb mark 0) ≡ pair_mark infima n (member_at S i) (member_at S j) → Joins S i j mark → Work n infima Gs store counts (set marks (32 * i + j) mark) size i (j + 1)
@@ -369,8 +367,8 @@ module _ {n : ℕ} {Gs : List Column} {store counts marks : List ℕ} {size i j 
   work_infimum s = work_place w hi (omega arith) made_infimum (number_infimum (column_at n store i) (column_at n store j) (l_a w hi hj ∙ sym (l_b w hi hj))) s
 
   -- there is no room for the infimum
-  pub over_infimum : {r : ℕ} {store' counts' : List ℕ} → PlacedMember n (members_of n store size) (infimum (column_at n store i) (column_at n store j)) r store' counts' → r ≡ 32 → close both Gs ≡ too_many
-  over_infimum s e = work_over w made_infimum s e
+  pub over_infimum : {store' counts' : List ℕ} → NoRoom n (members_of n store size) (infimum (column_at n store i) (column_at n store j)) store' counts' → close both Gs ≡ too_many
+  over_infimum r = work_over w made_infimum r
 
 -- the same pair by other names
 pub work_at : {n : ℕ} {infima : Bool} {Gs : List Column} {store counts marks : List ℕ} {size i j i' j' : ℕ} → i ≡ i' → j ≡ j' → Work n infima Gs store counts marks size i j → Work n infima Gs store counts marks size i' j'
@@ -512,37 +510,15 @@ module _ {n : ℕ} {Gs : List Column} {store counts marks : List ℕ} {size i j 
 -- ---- what a step answers
 
 -- a step where infima are asked for, or are not
-pub step_as : {n : ℕ} {infima t : Bool} {Gs : List Column} {store counts marks : List ℕ} {size i j : ℕ} {store' counts' marks' : List ℕ} {r i' j' : ℕ} → infima ≡ t
+pub step_as : {n : ℕ} {infima t : Bool} {Gs : List Column} {store counts marks : List ℕ} {size i j : ℕ} (store' counts' marks' : List ℕ) (r : Option ℕ) (i' j' : ℕ) → infima ≡ t
     → (Work n t Gs store counts marks size i j → Stepped n t Gs store' counts' marks' r i' j') → Work n infima Gs store counts marks size i j → Stepped n infima Gs store' counts' marks' r i' j'
-step_as {n} {Gs = Gs} {store} {counts} {marks} {size} {i} {j} {store'} {counts'} {marks'} {r} {i'} {j'} e f =
+step_as {n} {Gs = Gs} {store} {counts} {marks} {size} {i} {j} store' counts' marks' r i' j' e f =
     subst (λ (t : Bool). Work n t Gs store counts marks size i j → Stepped n t Gs store' counts' marks' r i' j') (sym e) f
 
--- the family is too large
-pub stepped_over : {n : ℕ} {infima : Bool} {Gs : List Column} {store counts marks : List ℕ} {r i j : ℕ} → r ≡ 33 → Stepped n infima Gs store counts marks r i j → close (make_of infima) Gs ≡ too_many
-stepped_over e (over q c) = c
-stepped_over e (on w) = absurd (omega (arith, w.held.few))
-
--- the work goes on
-pub stepped_on : {n : ℕ} {infima : Bool} {Gs : List Column} {store counts marks : List ℕ} {r i j : ℕ} → (r ≡ 33 → ⊥) → Stepped n infima Gs store counts marks r i j → Work n infima Gs store counts marks r i j
-stepped_on f (over q c) = absurd (f q)
-stepped_on f (on w) = w
-
--- the work has come to a row that changes the size: the family is too large, or has members more
-pub stepped_grows : {n : ℕ} {Gs : List Column} {store counts marks : List ℕ} {size r i j : ℕ} → (r ≡ size → ⊥) → Stepped n false Gs store counts marks r i j → Grows n Gs store counts marks size r
-stepped_grows d (over q c) = too_large q c
-stepped_grows {i = i} {j = j} d (on w) = more d i j w
-
--- the family is too large
-pub grows_over : {n : ℕ} {Gs : List Column} {store counts marks : List ℕ} {size r : ℕ} → r ≡ 33 → Grows n Gs store counts marks size r → close only_supremum Gs ≡ too_many
-grows_over e (too_large q c) = c
-grows_over e (whole q w) = absurd (omega (arith, w.held.few))
-grows_over e (more d i j w) = absurd (omega (arith, w.held.few))
-
 -- no member is new, so all pairs are combined
-pub grows_whole : {n : ℕ} {Gs : List Column} {store counts marks : List ℕ} {size r : ℕ} → (r ≡ 33 → ⊥) → r ≡ size → Grows n Gs store counts marks size r → Work n false Gs store counts marks r r 0
-grows_whole d e (too_large q c) = absurd (d q)
-grows_whole d e (whole q w) = w
-grows_whole d e (more f i j w) = absurd (f e)
+pub grows_whole : {n : ℕ} {Gs : List Column} {store counts marks : List ℕ} {size r : ℕ} → r ≡ size → ClosedOrMore n Gs store counts marks size r → Work n false Gs store counts marks r r 0
+grows_whole e (whole q w) = w
+grows_whole e (more f i j w) = absurd (f e)
 
 -- the members are begun with by themselves, are made of the columns, and have them
 pub record MadeOf (n : ℕ) (Gs : List Column) (store counts marks : List ℕ) (r : ℕ) : Type 0 where
@@ -559,17 +535,6 @@ work_own w = record {
   given = w.given;
 }
 
-pub grows_own : {n : ℕ} {Gs : List Column} {store counts marks : List ℕ} {size r : ℕ} → (r ≡ 33 → ⊥) → Grows n Gs store counts marks size r → MadeOf n Gs store counts marks r
-grows_own d (too_large q c) = absurd (d q)
-grows_own d (whole q w) = work_own w
-grows_own d (more f i j w) = work_own w
-
--- the store is held, without what is known of the order
-pub advanced_kept : {n : ℕ} {store counts above : List ℕ} {size r : ℕ} → Advanced n store counts above size r → Kept n store counts size r
-advanced_kept (inl q) = inl q
-advanced_kept (inr k) = inr (k.0, k.1)
-
--- the store is held, and what is known of the order is true
-pub advanced_on : {n : ℕ} {store counts above : List ℕ} {size r : ℕ} → (r ≡ 33 → ⊥) → Advanced n store counts above size r → Held n store counts r × (size ≤ r) × Known n store above r
-advanced_on f (inl q) = absurd (f q)
-advanced_on f (inr k) = k
+pub grows_own : {n : ℕ} {Gs : List Column} {store counts marks : List ℕ} {size r : ℕ} → ClosedOrMore n Gs store counts marks size r → MadeOf n Gs store counts marks r
+grows_own (whole q w) = work_own w
+grows_own (more f i j w) = work_own w

@@ -1,12 +1,13 @@
 -- What questions 9, 10 and 12 need to know of a family that is written: where its members were found, and the marks of pairs.
 -- Assumes nothing.
-use Rattle.std.specs.Prelude.{◌≡◌, Bool, true, List, ℕ, ◌≤◌, ◌<◌, length, get_or}
+use Rattle.std.specs.Prelude.{◌≡◌, Bool, true, Option, MatchOption, List, ℕ, ◌≤◌, ◌<◌, length, get_or}
 use Rattle.rules.specs.Limits.{most_plots, most_members}
 use Rattle.rules.specs.Factor.{Column, uniform, orthogonal}
 use Rattle.rules.specs.Family.{Family, members_of, written}
 use Rattle.rules.specs.Closing.{too_many, family, close, plot_generators, plot_family}
 use Rattle.rules.specs.Design.{first_failing, first_pair}
 use Rattle.design.specs.declared.questions.Places as found
+use Rattle.design.specs.declared.closed.ClosedFamily.{ClosedFamily}
 use Rattle.design.specs.State.{make_of, pair_mark, marked}
 use Rattle.design.specs.Search.{first_pair_of}
 use Rattle.design.specs.Treatments.{Numbered}
@@ -22,15 +23,22 @@ pub record MarksTell (test : Column → Column → Bool) (S : Family) (order mar
   pub first : (apart_at order marks size).first ≡ (first_pair test 1 S).first
   pub second : (apart_at order marks size).second ≡ (first_pair test 1 S).second
 
--- the closed family of the columns Gs is written, with the marks of its pairs; or it is too large and nothing is written
+-- the closed family of the columns Gs is written, with the marks of its pairs
 pub data Listed (n : ℕ) (infima : Bool) (Gs : List Column) (before after marks order : List ℕ) (r : ℕ) : Type 0 where
-  unlisted : r ≡ 33 → close (make_of infima) Gs ≡ too_many → after ≡ before → Listed n infima Gs before after marks order r
   listed : (S : Family) → close (make_of infima) Gs ≡ family S → r ≡ length S → r ≤ most_members → after ≡ written before 0 S → MarksTell (pair_mark infima n) S order marks r → Listed n infima Gs before after marks order r
+
+-- the same, or it is too large and nothing is written
+abbrev pub Listing : ℕ → Bool → List Column → List ℕ → List ℕ → List ℕ → Option ClosedFamily → Type 0
+Listing n infima Gs before after marks r = MatchOption r ((close (make_of infima) Gs ≡ too_many) × (after ≡ before)) (λ c. Listed n infima Gs before after marks c.order c.size)
 
 -- the plot family is closed and written, with marks by numbers of classes, or with marks that tell which members are orthogonal
 pub data PlotListed (n : ℕ) (Fs : List Column) (before after marks order : List ℕ) (r : ℕ) : Type 0 where
   by_counts_holds : Listed n true (plot_generators n Fs) before after marks order r → PlotListed n Fs before after marks order r
   by_tests : (S : Family) → plot_family n Fs ≡ family S → r ≡ length S → r ≤ most_members → after ≡ written before 0 S → MarksTell (orthogonal n) S order marks r → PlotListed n Fs before after marks order r
+
+-- the same, or it is too large and nothing is written
+abbrev pub PlotListing : ℕ → List Column → List ℕ → List ℕ → List ℕ → Option ClosedFamily → Type 0
+PlotListing n Fs before after marks r = MatchOption r ((plot_family n Fs ≡ too_many) × (after ≡ before)) (λ c. PlotListed n Fs before after marks c.order c.size)
 
 -- the plot family in memory: where all members have classes of one size, the marks tell those that are orthogonal
 pub record Judging (n size : ℕ) (plot order marks : List ℕ) : Type 0 where

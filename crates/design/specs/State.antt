@@ -1,6 +1,6 @@
 -- What the steps of closing keep: members in the order of their discovery, their numbers of classes, and a mark for each pair.
 -- Members and pairs are counted from 0 here. Assumes nothing.
-use Rattle.std.specs.Prelude.{◌≡◌, ◌⊎◌, Bool, true, false, not, ◌||◌, List, [], ◌∷◌, ◌++◌, map, ℕ, suc, ◌+◌, ◌*◌, ◌%◌, ◌^◌, ◌≤◌, ◌<◌, eqb, ltb, length, get_or, set, take}
+use Rattle.std.specs.Prelude.{◌≡◌, Bool, true, false, not, ◌||◌, Option, MatchOption, IfSome, List, [], ◌∷◌, ◌++◌, map, ℕ, suc, ◌+◌, ◌*◌, ◌%◌, ◌^◌, ◌≤◌, ◌<◌, eqb, ltb, length, get_or, set, take}
 use Rattle.std.specs.Int.Bits.{bit_or}
 use Rattle.rules.specs.Limits.{most_plots, most_members, family_bytes}
 use Rattle.rules.specs.Factor.{Column, Finer, number, classes, supremum, orthogonal}
@@ -36,14 +36,19 @@ pub record Known (n : ℕ) (store above : List ℕ) (size : ℕ) : Type 0 where
   pub words : length above ≡ most_members
   pub sound : (a b : ℕ) → bit_at (get_or above a 0) b ≡ true → (a < size) × (b < size) × Finer n (column_at n store a) (column_at n store b)
 
--- What placing the column F among the members S answers: r is its place.
+-- The column F stands at place r among the members S, or after them.
 pub data PlacedMember (n : ℕ) (S : Family) (F : Column) (r : ℕ) (store counts : List ℕ) : Type 0 where
-  -- it is new, and there is no room
-  full : r ≡ most_members → length S ≡ most_members → (F ∈ S → ⊥) → PlacedMember n S F r store counts
   -- it is a member
   old : r < length S → member_at S r ≡ F → Held n store counts (length S) → members_of n store (length S) ≡ S → PlacedMember n S F r store counts
   -- it is new, and stands at the end
   new : r ≡ length S → r < most_members → (F ∈ S → ⊥) → Held n store counts (suc r) → members_of n store (suc r) ≡ S ++ F ∷ [] → PlacedMember n S F r store counts
+
+-- the column F is none of the members S, and there is no room for it: the store is as it was
+pub record NoRoom (n : ℕ) (S : Family) (F : Column) (store counts : List ℕ) : Type 0 where
+  pub full : length S ≡ most_members
+  pub fresh : F ∈ S → ⊥
+  pub held : Held n store counts (length S)
+  pub members : members_of n store (length S) ≡ S
 
 -- the size once a column stands at a place
 abbrev pub grown_to : ℕ → ℕ → ℕ
@@ -111,29 +116,31 @@ pub data Follows (n : ℕ) (store marks : List ℕ) (size i j r : ℕ) : Type 0 
   unknown : r ≡ 0 → Follows n store marks size i j r
   follows : (y q : ℕ) → y < j → r ≡ get_or marks (most_members * i + y) 0 → r ≡ suc q → q < size → Finer n (column_at n store y) (column_at n store j) → Finer n (column_at n store j) (column_at n store q) → Follows n store marks size i j r
 
--- what a step leaves, whatever it works towards: 33 where the family is too large, or a store that has not shrunk
-abbrev pub Kept : ℕ → List ℕ → List ℕ → ℕ → ℕ → Type 0
-Kept n store counts size r = (r ≡ 33) ⊎ (Held n store counts r × (size ≤ r))
+-- what a step leaves, whatever it works towards: a store that has not shrunk, unless the family is too large
+abbrev pub Kept : ℕ → List ℕ → List ℕ → ℕ → Option ℕ → Type 0
+Kept n store counts size r = IfSome r (λ now. Held n store counts now × (size ≤ now))
 
 -- the same, with what is known of the order of members
-abbrev pub Advanced : ℕ → List ℕ → List ℕ → List ℕ → ℕ → ℕ → Type 0
-Advanced n store counts above size r = (r ≡ 33) ⊎ (Held n store counts r × (size ≤ r) × Known n store above r)
+abbrev pub Advanced : ℕ → List ℕ → List ℕ → List ℕ → ℕ → Option ℕ → Type 0
+Advanced n store counts above size r = IfSome r (λ now. Held n store counts now × (size ≤ now) × Known n store above now)
 
--- a step to the pair i, j: the new size, or 33 where the family is too large
-pub data Stepped (n : ℕ) (infima : Bool) (Gs : List Column) (store counts marks : List ℕ) (r i j : ℕ) : Type 0 where
-  over : r ≡ 33 → close (make_of infima) Gs ≡ too_many → Stepped n infima Gs store counts marks r i j
-  on : Work n infima Gs store counts marks r i j → Stepped n infima Gs store counts marks r i j
+-- a step to the pair i, j: the new size, or none where the family is too large
+abbrev pub Stepped : ℕ → Bool → List Column → List ℕ → List ℕ → List ℕ → Option ℕ → ℕ → ℕ → Type 0
+Stepped n infima Gs store counts marks r i j = MatchOption r (close (make_of infima) Gs ≡ too_many) (λ now. Work n infima Gs store counts marks now i j)
 
--- all pairs are combined: the members are those of the closed family
-pub data Closed (n : ℕ) (infima : Bool) (Gs : List Column) (store counts marks : List ℕ) (r : ℕ) : Type 0 where
-  exceeded : r ≡ 33 → close (make_of infima) Gs ≡ too_many → Closed n infima Gs store counts marks r
-  complete : Work n infima Gs store counts marks r r 0 → close (make_of infima) Gs ≡ family (insert_all (members_of n store r) []) → Closed n infima Gs store counts marks r
+-- all pairs are combined: the members are those of the closed family, or it is too large
+abbrev pub Closed : ℕ → Bool → List Column → List ℕ → List ℕ → List ℕ → Option ℕ → Type 0
+Closed n infima Gs store counts marks r =
+    MatchOption r (close (make_of infima) Gs ≡ too_many) (λ now. Work n infima Gs store counts marks now now 0 × (close (make_of infima) Gs ≡ family (insert_all (members_of n store now) [])))
 
--- what closing under supremum up to the first row that adds a member leaves: the family is too large, or closed, or has members more
-pub data Grows (n : ℕ) (Gs : List Column) (store counts marks : List ℕ) (size r : ℕ) : Type 0 where
-  too_large : r ≡ 33 → close only_supremum Gs ≡ too_many → Grows n Gs store counts marks size r
-  whole : r ≡ size → Work n false Gs store counts marks r r 0 → Grows n Gs store counts marks size r
-  more : (r ≡ size → ⊥) → (i j : ℕ) → Work n false Gs store counts marks r i j → Grows n Gs store counts marks size r
+-- what closing under supremum up to the first row that adds a member leaves: the family is closed, or has members more
+pub data ClosedOrMore (n : ℕ) (Gs : List Column) (store counts marks : List ℕ) (size r : ℕ) : Type 0 where
+  whole : r ≡ size → Work n false Gs store counts marks r r 0 → ClosedOrMore n Gs store counts marks size r
+  more : (r ≡ size → ⊥) → (i j : ℕ) → Work n false Gs store counts marks r i j → ClosedOrMore n Gs store counts marks size r
+
+-- the same, or it is too large
+abbrev pub Grows : ℕ → List Column → List ℕ → List ℕ → List ℕ → ℕ → Option ℕ → Type 0
+Grows n Gs store counts marks size r = MatchOption r (close only_supremum Gs ≡ too_many) (ClosedOrMore n Gs store counts marks size)
 
 -- ---- the order of members
 

@@ -1,6 +1,6 @@
 -- What the steps towards the treatment families keep.
 -- Members are counted from 0 here. Assumes nothing.
-use Rattle.std.specs.Prelude.{◌≡◌, Bool, true, false, ◌||◌, List, [], ◌∷◌, ◌++◌, map, ℕ, zero, suc, ◌*◌, ◌≤◌, ◌<◌, eqb, ltb, length, get_or}
+use Rattle.std.specs.Prelude.{◌≡◌, Option, MatchOption, Bool, true, false, ◌||◌, List, [], ◌∷◌, ◌++◌, map, ℕ, zero, suc, ◌*◌, ◌≤◌, ◌<◌, eqb, ltb, length, get_or}
 use Rattle.rules.specs.Limits.{most_plots, most_members, family_bytes}
 use Rattle.rules.specs.Factor.{Column, number, classes, infimum, orthogonal}
 use Rattle.rules.specs.Family.{members_of}
@@ -39,9 +39,8 @@ pub record Infima (n : ℕ) (infima lengths : List ℕ) (total : ℕ) (Cs : List
   pub sizes : (e : ℕ) → e < total → get_or lengths e 0 ≡ length (get_or Cs e [])
 
 -- the columns Gs are placed, or they are more than 32
-pub data AllPlaced (n : ℕ) (Gs : List Column) (store counts : List ℕ) (r : ℕ) : Type 0 where
-  over : r ≡ 33 → close only_supremum Gs ≡ too_many → AllPlaced n Gs store counts r
-  on : Begun n Gs store counts r → AllPlaced n Gs store counts r
+abbrev pub AllPlaced : ℕ → List Column → List ℕ → List ℕ → Option ℕ → Type 0
+AllPlaced n Gs store counts r = MatchOption r (close only_supremum Gs ≡ too_many) (Begun n Gs store counts)
 
 -- plot member i and treatment member j are orthogonal
 abbrev pub orthogonal_at : ℕ → List ℕ → List ℕ → ℕ → ℕ → Bool

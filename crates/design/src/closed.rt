@@ -6,11 +6,11 @@ ghost use Rattle.rules.specs.Family.{◌∈◌, columns_from, members_of};
 ghost use Rattle.rules.specs.Closing.{plot_family, treatment_generators};
 ghost use Rattle.rules.specs.Design.{question8, plot_buffer};
 ghost use Rattle.design.specs.State.{Begun, Work};
-ghost use Rattle.design.specs.Judging.{Listed, PlotListed};
+ghost use Rattle.design.specs.Judging.{Listing, PlotListing};
 ghost use Rattle.design.specs.Treatments.{AllPlaced};
 ghost use Rattle.design.specs.Closings.{closed_in, Ready};
 
-use crate::closing::{PAIRS, TOO_MANY, close, close_or_grow};
+use crate::closing::{PAIRS, close, close_or_grow};
 use crate::columns::{equality, place_plot_columns};
 use crate::points::{close_points, meet_members};
 use crate::sorting::{sort, write};
@@ -24,7 +24,7 @@ const CROSSED: usize = 5;
 // U, E and four columns: fewer make a family that is closed in less time than points take.
 const PARTED: usize = 6;
 
-// A closed family: its size, or TOO_MANY; and where its members were found, in their order.
+// A closed family: its size, and where its members were found, in their order.
 #[derive(Clone, Copy)]
 pub struct ClosedFamily {
     pub size: usize,
@@ -32,7 +32,7 @@ pub struct ClosedFamily {
 }
 
 // Closes the family that starts from the first `start` members of a store, of which those before place `from` are combined with each
-// other; marks its pairs, and writes it in its order where it is not too large.
+// other; marks its pairs, and writes it in its order; none where it is too large.
 pub fn close_family(
     store: &mut [u8],
     counts: &mut [u8; MEMBERS],
@@ -42,45 +42,30 @@ pub fn close_family(
     n: usize,
     infima: bool,
     family: &mut [u8],
-) -> ClosedFamily
+) -> Option<ClosedFamily>
     requires { Work n infima (members_of n store.old start) store.old counts.old marks.old start from 0 × (from ≤ start) × (family_bytes ≤ length family.old) }
-    ensures { (Gs : List Column) → Work n infima Gs store.old counts.old marks.old start from 0 → Listed n infima Gs family.old family.new marks.new result.order result.size }
+    ensures { (Gs : List Column) → Work n infima Gs store.old counts.old marks.old start from 0 → Listing n infima Gs family.old family.new marks.new result }
 {
-    let size = close(store, counts, marks, start, from, n, infima);
-    if size == TOO_MANY {
-        let order = [0u8; MEMBERS];
-        return ClosedFamily { size, order };
-    }
+    let size = close(store, counts, marks, start, from, n, infima)?;
     let order = sort(store, counts, n, size);
     write(store, &order, n, size, family);
-    ClosedFamily { size, order }
+    Some(ClosedFamily { size, order })
 }
 
-// Places E and the infima of all choices of plot columns; answers how many members they make, or TOO_MANY.
+// Places E and the infima of all choices of plot columns; answers how many members they make, unless these are too many.
 fn place_plot_infima(
     levels: &[Level],
     n: usize,
     c: usize,
     store: &mut [u8],
     counts: &mut [u8; MEMBERS],
-) -> usize
+) -> Option<usize>
     requires { (1 ≤ n) × (n ≤ most_plots) × (c ≤ 6) × (table_cells ≤ length levels.now) × (length store.old ≡ family_bytes) × (length counts.old ≡ most_members) }
     ensures { AllPlaced n (treatment_generators n 6 (columns_from n levels.now 0 c) ++ equality n ∷ []) store.new counts.new result }
 {
     let column = equality(n);
     place(store, counts, 0, &column[..n], n as u8);
     place_choices(levels, n, 0, c, COLUMNS, store, counts, 1)
-}
-
-// The answer for a family that is too large.
-pub fn too_many() -> ClosedFamily
-    ensures { result.size ≡ 33 }
-{
-    let order = [0u8; MEMBERS];
-    ClosedFamily {
-        size: TOO_MANY,
-        order,
-    }
 }
 
 // Closes the plot family by the infima of its columns: these make no other infima, so that they are the family where no two of them
@@ -93,22 +78,16 @@ fn close_by_infima(
     counts: &mut [u8; MEMBERS],
     marks: &mut [u8; PAIRS],
     plot: &mut [u8],
-) -> ClosedFamily
+) -> Option<ClosedFamily>
     requires { (1 ≤ n) × (n ≤ most_plots) × (columns ≤ 6) × (table_cells ≤ length levels.now) × (family_bytes ≤ length plot.old) × (length store.old ≡ family_bytes) × (length counts.old ≡ most_members) × (length marks.old ≡ 1024) }
-    ensures { PlotListed n (columns_from n levels.now 0 columns) plot.old plot.new marks.new result.order result.size }
+    ensures { PlotListing n (columns_from n levels.now 0 columns) plot.old plot.new marks.new result }
 {
-    let start = place_plot_infima(levels, n, columns, store, counts);
-    if start == TOO_MANY {
-        return too_many();
-    }
-    let size = close_or_grow(store, counts, marks, start, n);
-    if size == TOO_MANY {
-        return too_many();
-    }
+    let start = place_plot_infima(levels, n, columns, store, counts)?;
+    let size = close_or_grow(store, counts, marks, start, n)?;
     if size == start {
         let order = sort(store, counts, n, size);
         write(store, &order, n, size, plot);
-        return ClosedFamily { size, order };
+        return Some(ClosedFamily { size, order });
     }
     close_family(store, counts, marks, size, 0, n, true, plot)
 }
@@ -162,9 +141,9 @@ fn close_columns(
     start: usize,
     n: usize,
     family: &mut [u8],
-) -> ClosedFamily
+) -> Option<ClosedFamily>
     requires { Begun n (members_of n store.old start) store.old counts.old start × (equality n ∈ members_of n store.old start) × (length marks.old ≡ 1024) × (family_bytes ≤ length family.old) }
-    ensures { (Gs : List Column) → Begun n Gs store.old counts.old start → Listed n true Gs family.old family.new marks.new result.order result.size }
+    ensures { (Gs : List Column) → Begun n Gs store.old counts.old start → Listing n true Gs family.old family.new marks.new result }
 {
     if !few_classes(counts, start, n) {
         return close_family(store, counts, marks, start, 0, n, true, family);
@@ -185,11 +164,11 @@ pub fn close_plot_family(
     store: &mut [u8],
     marks: &mut [u8; PAIRS],
     plot: &mut [u8],
-) -> ClosedFamily
+) -> Option<ClosedFamily>
     requires { (1 ≤ n) × (n ≤ most_plots) × (columns ≤ 6) × (table_cells ≤ length levels.now) × (family_bytes ≤ length plot.old) × (length store.old ≡ family_bytes) × (length marks.old ≡ 1024) }
-    ensures family { closed_in n plot.new result.size ≡ plot_family n (columns_from n levels.now 0 columns) }
+    ensures family { closed_in n plot.new result ≡ plot_family n (columns_from n levels.now 0 columns) }
     ensures buffer { plot.new ≡ plot_buffer plot.old (question8 n (plot_family n (columns_from n levels.now 0 columns))) }
-    ensures tables { Ready n result.size plot.new result.order marks.new }
+    ensures tables { Ready n plot.new marks.new result }
 {
     let mut counts = [0u8; MEMBERS];
     let start = place_plot_columns(levels, columns, store, &mut counts, n);

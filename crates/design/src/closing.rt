@@ -5,12 +5,12 @@ ghost use Rattle.rules.specs.Factor.{Column, classes, infimum, supremum, finer, 
 ghost use Rattle.factor.specs.Lent.{overlay};
 ghost use Rattle.design.specs.State.{column_at, told_finer, noted, entry_of, NamesCoarser, Follows, Held, Known, Work, Kept, Advanced, Stepped, Closed, Grows};
 
-use crate::store::{grown, place};
+use crate::store::{grown, try_place};
 use families::member;
 use limits::{MEMBERS, PLOTS};
 use standing::{Bounds, Crossing};
 
-// The answer of a step where the family would have more members than it may.
+// The size of a final treatment family that would have more members than it may.
 pub const TOO_MANY: usize = 33;
 
 // The cells of a table with a row of 32 places for each member.
@@ -160,7 +160,7 @@ fn combine_both(
     n: usize,
     i: usize,
     j: usize,
-) -> usize
+) -> Option<usize>
     requires { Held n store.old counts.old size × (i < size) × (j < i) × Known n store.old above.old size }
     ensures kept { Advanced n store.new counts.new above.new size result }
     ensures step { (Gs : List Column) → Work n true Gs store.old counts.old marks.old size i j → Stepped n true Gs store.new counts.new marks.new result i (j + 1) }
@@ -169,19 +169,13 @@ fn combine_both(
     let mut supremum = [0u8; PLOTS];
     let bounds = member_bounds(store, n, i, j, &mut infimum, &mut supremum);
     let mark = same_product(bounds.infimum, bounds.supremum, counts[i], counts[j]);
-    let p = place(store, counts, size, &infimum[..n], bounds.infimum as u8);
-    if p == MEMBERS {
-        return TOO_MANY;
-    }
+    let p = try_place(store, counts, size, &infimum[..n], bounds.infimum as u8)?;
     let more = grown(size, p);
-    let q = place(store, counts, more, &supremum[..n], bounds.supremum as u8);
-    if q == MEMBERS {
-        return TOO_MANY;
-    }
+    let q = try_place(store, counts, more, &supremum[..n], bounds.supremum as u8)?;
     marks[MEMBERS * i + j] = entry(mark, q);
     note_supremum(above, i, j, q);
     note_infimum(above, i, j, p);
-    grown(more, q)
+    Some(grown(more, q))
 }
 
 // Combines two members under supremum, with a mark where they are orthogonal.
@@ -194,20 +188,17 @@ fn combine_supremum(
     n: usize,
     i: usize,
     j: usize,
-) -> usize
+) -> Option<usize>
     requires { Held n store.old counts.old size × (i < size) × (j < i) × Known n store.old above.old size }
     ensures kept { Advanced n store.new counts.new above.new size result }
     ensures step { (Gs : List Column) → Work n false Gs store.old counts.old marks.old size i j → Stepped n false Gs store.new counts.new marks.new result i (j + 1) }
 {
     let mut column = [0u8; PLOTS];
     let crossing = member_crossing(store, n, i, j, &mut column);
-    let q = place(store, counts, size, &column[..n], crossing.supremum as u8);
-    if q == MEMBERS {
-        return TOO_MANY;
-    }
+    let q = try_place(store, counts, size, &column[..n], crossing.supremum as u8)?;
     marks[MEMBERS * i + j] = entry(crossing.orthogonal, q);
     note_supremum(above, i, j, q);
-    grown(size, q)
+    Some(grown(size, q))
 }
 
 // Whether an entry of `marks` names a member that is known to be coarser than member `j`.
@@ -268,7 +259,7 @@ fn combine_join(
     n: usize,
     i: usize,
     j: usize,
-) -> usize
+) -> Option<usize>
     requires { Held n store.old counts.old size × (i < size) × (j < i) × Known n store.old above.old size }
     ensures kept { Advanced n store.new counts.new above.new size result }
     ensures step { (Gs : List Column) → Work n false Gs store.old counts.old marks.old size i j → Stepped n false Gs store.new counts.new marks.new result i (j + 1) }
@@ -276,12 +267,12 @@ fn combine_join(
     let known = known_entry(counts, marks, above, size, n, i, j);
     if known != 0 {
         marks[MEMBERS * i + j] = known;
-        return size;
+        return Some(size);
     }
     combine_supremum(store, counts, marks, above, size, n, i, j)
 }
 
-// Combines members `i` and `j`; answers the new size, or TOO_MANY. Two that are found to be nested make nothing new, and have the mark.
+// Combines members `i` and `j`; answers the new size; none where the family is too large. Two that are found to be nested make nothing new, and have the mark.
 fn combine(
     store: &mut [u8],
     counts: &mut [u8; MEMBERS],
@@ -292,7 +283,7 @@ fn combine(
     infima: bool,
     i: usize,
     j: usize,
-) -> usize
+) -> Option<usize>
     requires { Held n store.old counts.old size × (i < size) × (j < i) × Known n store.old above.old size }
     ensures kept { Advanced n store.new counts.new above.new size result }
     ensures step { (Gs : List Column) → Work n infima Gs store.old counts.old marks.old size i j → Stepped n infima Gs store.new counts.new marks.new result i (j + 1) }
@@ -300,11 +291,11 @@ fn combine(
     let at = MEMBERS * i + j;
     if found_finer(store, counts, above, size, n, infima, i, j) {
         marks[at] = entry(true, j);
-        return size;
+        return Some(size);
     }
     if found_finer(store, counts, above, size, n, infima, j, i) {
         marks[at] = entry(true, i);
-        return size;
+        return Some(size);
     }
     if infima {
         return combine_both(store, counts, marks, above, size, n, i, j);
@@ -312,7 +303,7 @@ fn combine(
     combine_join(store, counts, marks, above, size, n, i, j)
 }
 
-// Combines member `i` with each that was found before it; answers the new size, or TOO_MANY.
+// Combines member `i` with each that was found before it; answers the new size; none where the family is too large.
 fn combine_row(
     store: &mut [u8],
     counts: &mut [u8; MEMBERS],
@@ -322,22 +313,19 @@ fn combine_row(
     n: usize,
     infima: bool,
     i: usize,
-) -> usize
+) -> Option<usize>
     requires { Held n store.old counts.old size × (i < size) × Known n store.old above.old size }
     ensures kept { Advanced n store.new counts.new above.new size result }
     ensures step { (Gs : List Column) → Work n infima Gs store.old counts.old marks.old size i 0 → Stepped n infima Gs store.new counts.new marks.new result i i }
 {
     let mut now = size;
     for j in 0..i {
-        now = combine(store, counts, marks, above, now, n, infima, i, j);
-        if now == TOO_MANY {
-            return TOO_MANY;
-        }
+        now = combine(store, counts, marks, above, now, n, infima, i, j)?;
     }
-    now
+    Some(now)
 }
 
-// Closes the family, of which the members before place `from` are combined with each other; answers its size, or TOO_MANY.
+// Closes the family, of which the members before place `from` are combined with each other; answers its size; none where it is too large.
 pub fn close(
     store: &mut [u8],
     counts: &mut [u8; MEMBERS],
@@ -346,7 +334,7 @@ pub fn close(
     from: usize,
     n: usize,
     infima: bool,
-) -> usize
+) -> Option<usize>
     requires { Held n store.old counts.old size × (from ≤ size) }
     ensures kept { Kept n store.new counts.new size result }
     ensures closes { (Gs : List Column) → Work n infima Gs store.old counts.old marks.old size from 0 → Closed n infima Gs store.new counts.new marks.new result }
@@ -355,33 +343,31 @@ pub fn close(
     let mut now = size;
     let mut i = from;
     while i < now {
-        now = combine_row(store, counts, marks, &mut above, now, n, infima, i);
-        if now == TOO_MANY {
-            return TOO_MANY;
-        }
+        now = combine_row(store, counts, marks, &mut above, now, n, infima, i)?;
         i += 1;
     }
-    now
+    Some(now)
 }
 
-// Combines members under supremum up to the first row that adds one; answers the new size, or TOO_MANY. Where it is as it was, they are closed.
+// Combines members under supremum up to the first row that adds one; answers the new size; none where the family is too large. Where
+// it is as it was, they are closed.
 pub fn close_or_grow(
     store: &mut [u8],
     counts: &mut [u8; MEMBERS],
     marks: &mut [u8; PAIRS],
     size: usize,
     n: usize,
-) -> usize
+) -> Option<usize>
     requires { Held n store.old counts.old size }
     ensures kept { Kept n store.new counts.new size result }
     ensures grows { (Gs : List Column) → Work n false Gs store.old counts.old marks.old size 0 0 → Grows n Gs store.new counts.new marks.new size result }
 {
     let mut above = [0u32; MEMBERS];
     for i in 0..size {
-        let now = combine_row(store, counts, marks, &mut above, size, n, false, i);
+        let now = combine_row(store, counts, marks, &mut above, size, n, false, i)?;
         if now != size {
-            return now;
+            return Some(now);
         }
     }
-    size
+    Some(size)
 }

@@ -49,11 +49,10 @@ impl Suprema {
             self.size = grown(self.size, p);
             return Some(p as u8);
         }
-        let p = find(&self.bytes, &self.counts, MEMBERS, column, count);
-        if p == MEMBERS {
+        let Some(p) = find(&self.bytes, &self.counts, MEMBERS, column, count) else {
             self.over = true;
             return None;
-        }
+        };
         Some(p as u8)
     }
 }

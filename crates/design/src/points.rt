@@ -5,13 +5,13 @@ ghost use Rattle.rules.specs.Limits.{most_plots, most_members, family_bytes};
 ghost use Rattle.rules.specs.Factor.{Column, Finer, number, classes, infimum, universal, equality};
 ghost use Rattle.rules.specs.Family.{◌∈◌, Distinct, members_of};
 ghost use Rattle.design.specs.State.{column_at, Held, Begun};
-ghost use Rattle.design.specs.Judging.{Listed};
+ghost use Rattle.design.specs.Judging.{Listing};
 ghost use Rattle.design.specs.Points.{Points, Ranged, points_on_plots, Gathered};
 
-use crate::closed::{ClosedFamily, close_family, too_many};
-use crate::closing::{PAIRS, TOO_MANY, close};
+use crate::closed::{ClosedFamily, close_family};
+use crate::closing::{PAIRS, close};
 use crate::columns::equality;
-use crate::store::{grown, place, put};
+use crate::store::{grown, place, put, try_place};
 use families::member;
 use limits::{FAMILY, MEMBERS, PLOTS};
 
@@ -114,7 +114,7 @@ pub fn gather_all(
 }
 
 // Closes the plot family that starts from the first `start` members of a store, with E among them, on their `m` points, marks its pairs,
-// and writes it in its order where it is not too large.
+// and writes it in its order; none where it is too large.
 pub fn close_points(
     store: &mut [u8],
     counts: &[u8; MEMBERS],
@@ -124,9 +124,9 @@ pub fn close_points(
     points: &[u8; PLOTS],
     m: usize,
     family: &mut [u8],
-) -> ClosedFamily
+) -> Option<ClosedFamily>
     requires { Begun n (members_of n store.old start) store.old counts.now start × (equality n ∈ members_of n store.old start) × Points n m (take n points.now) × (m < n) × ((i : ℕ) → i < start → (get_or counts.now i 0 ≡ n → ⊥) → Finer n (take n points.now) (column_at n store.old i)) × (length marks.old ≡ 1024) × (family_bytes ≤ length family.old) }
-    ensures { (Gs : List Column) → Begun n Gs store.old counts.now start → Listed n true Gs family.old family.new marks.new result.order result.size }
+    ensures { (Gs : List Column) → Begun n Gs store.old counts.now start → Listing n true Gs family.old family.new marks.new result }
 {
     let mut own = [0u8; FAMILY];
     let mut own_counts = [0u8; MEMBERS];
@@ -140,16 +140,10 @@ pub fn close_points(
         &mut own,
         &mut own_counts,
     );
-    let size = close(&mut own, &mut own_counts, marks, some, 0, m, true);
-    if size == TOO_MANY {
-        return too_many();
-    }
+    let size = close(&mut own, &mut own_counts, marks, some, 0, m, true)?;
     spread_all(&own, size, n, points, store);
     let column = equality(n);
-    let p = place(store, &mut own_counts, size, &column[..n], n as u8);
-    if p == MEMBERS {
-        return too_many();
-    }
+    let p = try_place(store, &mut own_counts, size, &column[..n], n as u8)?;
     close_family(
         store,
         &mut own_counts,

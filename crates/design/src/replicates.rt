@@ -7,11 +7,11 @@ ghost use Rattle.rules.specs.Factor.{Uniform, Finer, classes, infimum, universal
 ghost use Rattle.rules.specs.Family.{columns_from};
 ghost use Rattle.rules.specs.Closing.{treatment_generators};
 ghost use Rattle.design.specs.State.{column_at};
-ghost use Rattle.design.specs.Judging.{Listed};
+ghost use Rattle.design.specs.Judging.{Listing};
 ghost use Rattle.design.specs.Points.{Points, Ranged, points_on_plots};
 
-use crate::closed::{ClosedFamily, close_family, times, too_many};
-use crate::closing::{PAIRS, TOO_MANY, close};
+use crate::closed::{ClosedFamily, close_family, times};
+use crate::closing::{PAIRS, close};
 use crate::points::spread_all;
 use crate::treatments::place_choices;
 use limits::{COLUMNS, FAMILY, LEVELS, Level, MEMBERS, PLOTS};
@@ -123,22 +123,16 @@ pub fn first_points(
     store: &mut [u8],
     marks: &mut [u8; PAIRS],
     family: &mut [u8],
-) -> ClosedFamily
+) -> Option<ClosedFamily>
     requires { (1 ≤ n) × (n ≤ most_plots) × (d ≤ 6) × (1 ≤ k) × (k ≤ 6) × (table_cells ≤ length levels.now) × (family_bytes ≤ length family.old) × (length store.old ≡ family_bytes) × (length marks.old ≡ 1024) × Points n m (take n points.now) × Uniform n (take n points.now) × ((c : ℕ) → c < d → Finer n (take n points.now) (column_at n levels.now (6 + c))) }
-    ensures { Listed n false (treatment_generators n k (columns_from n levels.now 6 d)) family.old family.new marks.new result.order result.size }
+    ensures { Listing n false (treatment_generators n k (columns_from n levels.now 6 d)) family.old family.new marks.new result }
 {
     let mut own_levels: [Level; LEVELS] = [0; LEVELS];
     gather_levels(levels, n, d, points, &mut own_levels);
     let mut own = [0u8; FAMILY];
     let mut counts = [0u8; MEMBERS];
-    let start = place_choices(&own_levels, m, 0, d, k, &mut own, &mut counts, 0);
-    if start == TOO_MANY {
-        return too_many();
-    }
-    let size = close(&mut own, &mut counts, marks, start, 0, m, false);
-    if size == TOO_MANY {
-        return too_many();
-    }
+    let start = place_choices(&own_levels, m, 0, d, k, &mut own, &mut counts, 0)?;
+    let size = close(&mut own, &mut counts, marks, start, 0, m, false)?;
     spread_all(&own, size, n, points, store);
     close_family(store, &mut counts, marks, size, size, n, false, family)
 }

@@ -1,28 +1,32 @@
 // A family as it grows: members in the order of their discovery, 240 bytes apart, with their numbers of classes.
-ghost use Rattle.std.specs.Prelude.{◌≡◌, ◌+◌, ◌*◌, ◌≤◌, length};
+ghost use Rattle.std.specs.Prelude.{◌≡◌, ◌+◌, ◌*◌, ◌≤◌, ◌<◌, length, MatchOption};
 ghost use Rattle.std.proofs.Math.Seq.{paste};
 ghost use Rattle.rules.specs.Limits.{most_plots, most_members};
-ghost use Rattle.rules.specs.Factor.{classes, index_of};
-ghost use Rattle.rules.specs.Family.{members_of, alike};
-ghost use Rattle.design.specs.State.{Held, PlacedMember, grown_to};
+ghost use Rattle.rules.specs.Factor.{classes};
+ghost use Rattle.rules.specs.Family.{◌∈◌, members_of};
+ghost use Rattle.rules.specs.Relation.{member_at};
+ghost use Rattle.design.specs.State.{Held, PlacedMember, NoRoom, grown_to};
 
 use families::member;
 use limits::{MEMBERS, PLOTS};
 
-// The place, from 0, of the member equal to `column`, which has `count` classes; `size` where there is none.
-pub fn find(store: &[u8], counts: &[u8; MEMBERS], size: usize, column: &[u8], count: u8) -> usize
+// The place, from 0, of the member equal to `column`, which has `count` classes.
+pub fn find(
+    store: &[u8],
+    counts: &[u8; MEMBERS],
+    size: usize,
+    column: &[u8],
+    count: u8,
+) -> Option<usize>
     requires { Held (length column.now) store.now counts.now size × (count ≡ classes column.now) }
-    ensures { result ≡ index_of alike (members_of (length column.now) store.now size) column.now }
+    ensures { MatchOption result (column.now ∈ members_of (length column.now) store.now size → ⊥) (λ i. (i < size) × (member_at (members_of (length column.now) store.now size) i ≡ column.now)) }
 {
-    let n = column.len();
-    for i in 0..size {
-        if counts[i] == count {
-            if factor::alike(member(store, i, n), column) {
-                return i;
-            }
+    for (i, &known) in counts[..size].iter().enumerate() {
+        if known == count && factor::alike(member(store, i, column.len()), column) {
+            return Some(i);
         }
     }
-    size
+    None
 }
 
 // Copies a column to the place of member `i`.
@@ -31,12 +35,10 @@ pub fn put(store: &mut [u8], i: usize, column: &[u8])
     ensures { store.new ≡ paste store.old (most_plots * i) column.now (length column.now) }
 {
     let at = PLOTS * i;
-    for u in 0..column.len() {
-        store[at + u] = column[u];
-    }
+    store[at..at + column.len()].copy_from_slice(column);
 }
 
-// The place of a column, which is added at the end where it is new; MEMBERS where it is new and there is no room.
+// The place of a column, which is added at the end where it is new: there is room.
 pub fn place(
     store: &mut [u8],
     counts: &mut [u8; MEMBERS],
@@ -44,18 +46,32 @@ pub fn place(
     column: &[u8],
     count: u8,
 ) -> usize
-    requires { Held (length column.now) store.old counts.old size × (count ≡ classes column.now) }
+    requires { Held (length column.now) store.old counts.old size × (count ≡ classes column.now) × (size < most_members) }
     ensures { PlacedMember (length column.now) (members_of (length column.now) store.old size) column.now result store.new counts.new }
 {
-    let i = find(store, counts, size, column, count);
-    if i == MEMBERS {
+    if let Some(i) = find(store, counts, size, column, count) {
         return i;
     }
-    if i == size {
-        put(store, size, column);
-        counts[size] = count;
+    put(store, size, column);
+    counts[size] = count;
+    size
+}
+
+// The place of a column, which is added at the end where it is new; none where it is new and there is no room.
+pub fn try_place(
+    store: &mut [u8],
+    counts: &mut [u8; MEMBERS],
+    size: usize,
+    column: &[u8],
+    count: u8,
+) -> Option<usize>
+    requires { Held (length column.now) store.old counts.old size × (count ≡ classes column.now) }
+    ensures { MatchOption result (NoRoom (length column.now) (members_of (length column.now) store.old size) column.now store.new counts.new) (λ r. PlacedMember (length column.now) (members_of (length column.now) store.old size) column.now r store.new counts.new) }
+{
+    if size < MEMBERS {
+        return Some(place(store, counts, size, column, count));
     }
-    i
+    find(store, counts, size, column, count)
 }
 
 // The size once a column has been placed.

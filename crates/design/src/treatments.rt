@@ -1,18 +1,18 @@
 // The infima of columns that a family starts from, and the first treatment family. (The final one: crossing.rt.)
-ghost use Rattle.std.specs.Prelude.{◌≡◌, false, List, ◌++◌, ◌⊎◌, ◌+◌, ◌*◌, ◌≤◌, ◌<◌, length};
+ghost use Rattle.std.specs.Prelude.{◌≡◌, MatchOption, false, List, ◌++◌, ◌⊎◌, ◌+◌, ◌*◌, ◌≤◌, ◌<◌, length};
 ghost use Rattle.std.proofs.Math.Seq.{paste};
 ghost use Rattle.rules.specs.Limits.{most_plots, table_cells, family_bytes};
 ghost use Rattle.rules.specs.Factor.{Column, number, infimum};
 ghost use Rattle.rules.specs.Family.{◌∈◌, columns_from, members_of};
 ghost use Rattle.rules.specs.Closing.{treatment_generators};
-ghost use Rattle.design.specs.State.{column_at, Held, PlacedMember, Begun};
-ghost use Rattle.design.specs.Judging.{Listed};
+ghost use Rattle.design.specs.State.{column_at, Held, PlacedMember, NoRoom, Begun};
+ghost use Rattle.design.specs.Judging.{Listing};
 ghost use Rattle.design.specs.Treatments.{extended, Room, Infima, AllPlaced, with_choice};
 
-use crate::closed::{ClosedFamily, close_family, too_many};
-use crate::closing::{PAIRS, TOO_MANY};
+use crate::closed::{ClosedFamily, close_family};
+use crate::closing::PAIRS;
 use crate::replicates::{few_combinations, first_points, meet_levels};
-use crate::store::{grown, place, put};
+use crate::store::{grown, put, try_place};
 use factor::largest;
 use families::member;
 use limits::{COLUMNS, Level, MEMBERS, PLOTS};
@@ -130,16 +130,16 @@ fn place_one(
     store: &mut [u8],
     counts: &mut [u8; MEMBERS],
     size: usize,
-) -> usize
+) -> Option<usize>
     requires { Held n store.old counts.old size × (most_plots * e + most_plots ≤ length infima.now) × (e < 64) × (number (column_at n infima.now e) ≡ column_at n infima.now e) }
-    ensures { PlacedMember n (members_of n store.old size) (column_at n infima.now e) result store.new counts.new }
+    ensures { MatchOption result (NoRoom n (members_of n store.old size) (column_at n infima.now e) store.new counts.new) (λ r. PlacedMember n (members_of n store.old size) (column_at n infima.now e) r store.new counts.new) }
 {
     let column = member(infima, e, n);
     let k = largest(column);
-    place(store, counts, size, column, k)
+    try_place(store, counts, size, column, k)
 }
 
-// Places the first `total` columns beside the `size` members of a store; answers how many members there are then, or TOO_MANY. The last is
+// Places the first `total` columns beside the `size` members of a store; answers how many members there are then, unless too many. The last is
 // placed first: infima of more columns, which are finer, come before those of fewer, so that closing can tell more suprema from others.
 fn place_all(
     infima: &[u8],
@@ -148,7 +148,7 @@ fn place_all(
     store: &mut [u8],
     counts: &mut [u8; MEMBERS],
     size: usize,
-) -> usize
+) -> Option<usize>
     requires { Begun n (members_of n store.old size) store.old counts.old size × (most_plots * total ≤ length infima.now) × (total ≤ 64) × ((F : Column) → F ∈ members_of n infima.now total → number F ≡ F) }
     ensures { AllPlaced n (members_of n infima.now total ++ members_of n store.old size) store.new counts.new result }
 {
@@ -156,17 +156,14 @@ fn place_all(
     let mut e = total;
     while 0 < e {
         e -= 1;
-        let p = place_one(infima, e, n, store, counts, now);
-        if p == MEMBERS {
-            return TOO_MANY;
-        }
+        let p = place_one(infima, e, n, store, counts, now)?;
         now = grown(now, p);
     }
-    now
+    Some(now)
 }
 
 // Places U and all infima of 1 to `k` different columns of the `d` from `first` on beside the members of a store, with memory for the
-// infima; answers how many members there are then, or TOO_MANY.
+// infima; answers how many members there are then, unless too many.
 fn place_infima(
     levels: &[Level],
     n: usize,
@@ -177,7 +174,7 @@ fn place_infima(
     store: &mut [u8],
     counts: &mut [u8; MEMBERS],
     size: usize,
-) -> usize
+) -> Option<usize>
     requires { (d ≤ 6) × (1 ≤ k) × (k ≤ 6) × (first ≤ 6) × (table_cells ≤ length levels.now) × (((d ≤ 3) × (1920 ≤ length infima.old)) ⊎ (15360 ≤ length infima.old)) × Begun n (members_of n store.old size) store.old counts.old size }
     ensures { AllPlaced n (treatment_generators n k (columns_from n levels.now first d) ++ members_of n store.old size) store.new counts.new result }
 {
@@ -195,7 +192,7 @@ pub fn place_choices(
     store: &mut [u8],
     counts: &mut [u8; MEMBERS],
     size: usize,
-) -> usize
+) -> Option<usize>
     requires { (d ≤ 6) × (1 ≤ k) × (k ≤ 6) × (first ≤ 6) × (table_cells ≤ length levels.now) × Begun n (members_of n store.old size) store.old counts.old size }
     ensures { AllPlaced n (treatment_generators n k (columns_from n levels.now first d) ++ members_of n store.old size) store.new counts.new result }
 {
@@ -216,15 +213,12 @@ fn first_whole(
     store: &mut [u8],
     marks: &mut [u8; PAIRS],
     family: &mut [u8],
-) -> ClosedFamily
+) -> Option<ClosedFamily>
     requires { (1 ≤ n) × (n ≤ most_plots) × (d ≤ 6) × (1 ≤ k) × (k ≤ 6) × (table_cells ≤ length levels.now) × (family_bytes ≤ length family.old) × (length store.old ≡ family_bytes) × (length marks.old ≡ 1024) }
-    ensures { Listed n false (treatment_generators n k (columns_from n levels.now 6 d)) family.old family.new marks.new result.order result.size }
+    ensures { Listing n false (treatment_generators n k (columns_from n levels.now 6 d)) family.old family.new marks.new result }
 {
     let mut counts = [0u8; MEMBERS];
-    let start = place_choices(levels, n, COLUMNS, d, k, store, &mut counts, 0);
-    if start == TOO_MANY {
-        return too_many();
-    }
+    let start = place_choices(levels, n, COLUMNS, d, k, store, &mut counts, 0)?;
     close_family(store, &mut counts, marks, start, 0, n, false, family)
 }
 
@@ -237,9 +231,9 @@ pub fn first_family(
     store: &mut [u8],
     marks: &mut [u8; PAIRS],
     family: &mut [u8],
-) -> ClosedFamily
+) -> Option<ClosedFamily>
     requires { (1 ≤ n) × (n ≤ most_plots) × (d ≤ 6) × (1 ≤ k) × (k ≤ 6) × (table_cells ≤ length levels.now) × (family_bytes ≤ length family.old) × (length store.old ≡ family_bytes) × (length marks.old ≡ 1024) }
-    ensures { Listed n false (treatment_generators n k (columns_from n levels.now 6 d)) family.old family.new marks.new result.order result.size }
+    ensures { Listing n false (treatment_generators n k (columns_from n levels.now 6 d)) family.old family.new marks.new result }
 {
     if !few_combinations(levels, n, d) {
         return first_whole(levels, n, d, k, store, marks, family);

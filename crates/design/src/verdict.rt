@@ -1,5 +1,5 @@
 // The judging step: questions 8 to 14 of families that are closed, in turn, and what is written.
-ghost use Rattle.std.specs.Prelude.{◌≡◌, ◌≤◌, ◌<◌, length};
+ghost use Rattle.std.specs.Prelude.{◌≡◌, IfSome, ◌≤◌, ◌<◌, length};
 ghost use Rattle.rules.specs.Limits.{most_plots, family_bytes};
 ghost use Rattle.rules.specs.Factor.{uniform, orthogonal};
 ghost use Rattle.rules.specs.Family.{members_of};
@@ -47,19 +47,17 @@ pub fn full_refused(question: Refusal) -> Result<Sizes, FullRefusal>
 // Questions 8 to 10 of a closed plot family.
 pub fn judge_plots(
     plot: &[u8],
-    closed: ClosedFamily,
+    closed: Option<ClosedFamily>,
     marks: &[u8; PAIRS],
     n: usize,
 ) -> Result<usize, PlotRefusal>
-    requires { Ready n closed.size plot.now closed.order marks.now }
-    ensures { plot_numbers result ≡ plot_numbers_of (question8 n (closed_in n plot.now closed.size)) }
+    requires { Ready n plot.now marks.now closed }
+    ensures { plot_numbers result ≡ plot_numbers_of (question8 n (closed_in n plot.now closed)) }
 {
-    let size = closed.size;
-    if size == TOO_MANY {
+    let Some(closed) = closed else {
         return refused(Refusal::PlotFamilySize);
-    }
-    let order = closed.order;
-    from_9(&order, marks, n, size, plot)
+    };
+    from_9(&closed.order, marks, n, closed.size, plot)
 }
 
 // Questions 9 and 10 of a family that is written.
@@ -119,21 +117,20 @@ fn treatments_refused(
 pub fn judge_treatments(
     plot_family: &[u8],
     plot: usize,
-    closed: ClosedFamily,
+    closed: Option<ClosedFamily>,
     marks: &[u8; PAIRS],
     n: usize,
     treatment_family: &mut [u8],
 ) -> Result<Sizes, FullRefusal>
-    requires { (1 ≤ n) × (n ≤ most_plots) × Numbered n plot_family.now plot × ((closed.size ≡ 33 → ⊥) → Numbered n treatment_family.old closed.size × MarksTell (orthogonal n) (members_of n treatment_family.old closed.size) closed.order marks.now closed.size) }
-    ensures answer { full_numbers result ≡ full_numbers_of (question11 n (members_of n plot_family.now plot) (closed_in n treatment_family.old closed.size)) }
-    ensures buffer { treatment_family.new ≡ treatment_buffer treatment_family.old (question11 n (members_of n plot_family.now plot) (closed_in n treatment_family.old closed.size)) }
+    requires { (1 ≤ n) × (n ≤ most_plots) × Numbered n plot_family.now plot × IfSome closed (λ c. Numbered n treatment_family.old c.size × MarksTell (orthogonal n) (members_of n treatment_family.old c.size) c.order marks.now c.size) }
+    ensures answer { full_numbers result ≡ full_numbers_of (question11 n (members_of n plot_family.now plot) (closed_in n treatment_family.old closed)) }
+    ensures buffer { treatment_family.new ≡ treatment_buffer treatment_family.old (question11 n (members_of n plot_family.now plot) (closed_in n treatment_family.old closed)) }
 {
-    let size = closed.size;
-    if size == TOO_MANY {
+    let Some(closed) = closed else {
         return treatments_refused(Refusal::TreatmentFamilySize, 0, 0, plot, 0);
-    }
-    let order = closed.order;
-    let pair = first_apart(&order, marks, size);
+    };
+    let size = closed.size;
+    let pair = first_apart(&closed.order, marks, size);
     from_12(plot_family, plot, pair, size, n, treatment_family)
 }
 

@@ -9,9 +9,8 @@ use Rattle.rules.specs.Factor.{Column, equality}
 use Rattle.rules.specs.Family.{◌∈◌, columns_from}
 use Rattle.rules.specs.Closing.{plot_generators}
 use Rattle.rules.proofs.Demand3.{column_length}
-use Rattle.design.specs.Judging.{by_counts_holds}
 use Rattle.design.proofs.Choosing.{begun_own}
-use Rattle.design.proofs.Judge.{plot_held, plot_left, plot_ready}
+use Rattle.design.proofs.Judge.{plot_held, plot_left, plot_ready, plot_counted}
 use Rattle.design.proofs.closed.close_plot_family.Goals as goal
 use Rattle.design.proofs.closed.close_plot_family.Goals.{Start}
 
@@ -39,9 +38,9 @@ returns-then-look_crossed c =
     let n = s.args.n in
     let Fs : List Column = columns_from n s.args.levels.now 0 s.args.columns in
     let l = c.close_by_infima.ensures in record {
-      family = plot_held n s.requires.1 s.requires.0 Fs (on s) _ _ _ _ _ s.requires.4 l;
-      buffer = plot_left n s.requires.1 s.requires.0 Fs (on s) _ _ _ _ _ s.requires.4 l;
-      tables = plot_ready n s.requires.1 s.requires.0 Fs (on s) _ _ _ _ _ s.requires.4 l;
+      family = plot_held n s.requires.1 s.requires.0 Fs (on s) _ _ _ s.requires.4 _ l;
+      buffer = plot_left n s.requires.1 s.requires.0 Fs (on s) _ _ _ s.requires.4 _ l;
+      tables = plot_ready n s.requires.1 s.requires.0 Fs (on s) _ _ _ s.requires.4 _ l;
     }
 
 pub close_columns-requires : goal.close_columns-requires
@@ -53,8 +52,8 @@ returns c =
     let s = (goal.at.returns c).Start in
     let n = s.args.n in
     let Fs : List Column = columns_from n s.args.levels.now 0 s.args.columns in
-    let l = by_counts_holds (c.close_columns.ensures (plot_generators n Fs) c.place_plot_columns-start.ensures) in record {
-      family = plot_held n s.requires.1 s.requires.0 Fs (on s) _ _ _ _ _ s.requires.4 l;
-      buffer = plot_left n s.requires.1 s.requires.0 Fs (on s) _ _ _ _ _ s.requires.4 l;
-      tables = plot_ready n s.requires.1 s.requires.0 Fs (on s) _ _ _ _ _ s.requires.4 l;
+    let l = plot_counted n Fs _ _ _ _ (c.close_columns.ensures (plot_generators n Fs) c.place_plot_columns-start.ensures) in record {
+      family = plot_held n s.requires.1 s.requires.0 Fs (on s) _ _ _ s.requires.4 _ l;
+      buffer = plot_left n s.requires.1 s.requires.0 Fs (on s) _ _ _ s.requires.4 _ l;
+      tables = plot_ready n s.requires.1 s.requires.0 Fs (on s) _ _ _ s.requires.4 _ l;
     }

@@ -1,4 +1,5 @@
 -- `place_plot_infima` meets its contract: E is the first member, and the infima are placed after it.
+use Rattle.std.specs.Prelude.{Option}
 use mathlib.Core.Path.{sym, ap, ◌∙◌, subst}
 use mathlib.Core.List.{List, [], ◌∷◌, ◌++◌}
 use Prim.Native.Nat.{ℕ}
@@ -33,9 +34,9 @@ begun-one c =
     (begun_more n [] store counts 0 (begun_none n store counts (empty-held s)) (omega arith) (equality n) (number_equality n) c.place.result c.place.new.store c.place.new.counts q)
 
 -- what is placed beside it
-beside-one : (c : After-place) {after counts : List ℕ} {r : ℕ} → let a = c.args in let Gs = treatment_generators a.n 6 (columns_from a.n a.levels.now 0 a.c) in
+beside-one : (c : After-place) (after counts : List ℕ) (r : Option ℕ) → let a = c.args in let Gs = treatment_generators a.n 6 (columns_from a.n a.levels.now 0 a.c) in
     AllPlaced a.n (Gs ++ members_of a.n c.place.new.store 1) after counts r → AllPlaced a.n (Gs ++ equality a.n ∷ []) after counts r
-beside-one c {after} {counts} {r} q =
+beside-one c after counts r q =
     let a = c.args in
     subst (λ (S : List Column). AllPlaced a.n (treatment_generators a.n 6 (columns_from a.n a.levels.now 0 a.c) ++ S) after counts r) (only_one (begun-one c)) q
 
@@ -49,6 +50,7 @@ place-requires c =
     let n = s.args.n in (
       held_on n s.args.store.now s.args.counts.now 0 (take n c.equality-column.result) (equality n) c.equality-column.ensures (length_equality n) (empty-held s),
       sym (ap classes c.equality-column.ensures ∙ classes_equality n),
+      omega arith,
     )
 
 pub place_choices-requires : goal.place_choices-requires
@@ -59,4 +61,4 @@ place_choices-requires c =
 pub returns : goal.returns
 returns c =
     let p = (goal.at.returns c).After-place in
-    beside-one p c.place_choices.ensures
+    beside-one p _ _ _ c.place_choices.ensures

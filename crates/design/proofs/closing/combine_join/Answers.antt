@@ -1,7 +1,5 @@
 -- `combine_join` meets its contract: an entry that follows is stored, and other pairs are walked.
-use mathlib.Core.Logic.{inr}
 use native.Mathlib.Nat.{le_refl}
-use Rattle.design.specs.State.{on}
 use Rattle.design.proofs.Work.{work_follows}
 use Rattle.design.proofs.closing.combine_join.Goals as goal
 
@@ -11,6 +9,6 @@ known_entry-known-requires c = (c.requires.0.places, c.requires.3.words, c.requi
 pub returns-then-known-ne0 : goal.returns-then-known-ne0
 returns-then-known-ne0 c =
     record {
-      kept = inr (c.requires.0, le_refl _, c.requires.3);
-      step = λ Gs w. on (work_follows w c.requires.1 c.requires.2 c.known_entry-known.result c.if-known-ne0.true (c.known_entry-known.ensures c.args.store.now c.requires.0 c.requires.3));
+      kept = (c.requires.0, le_refl _, c.requires.3);
+      step = λ Gs w. (work_follows w c.requires.1 c.requires.2 c.known_entry-known.result c.if-known-ne0.true (c.known_entry-known.ensures c.args.store.now c.requires.0 c.requires.3));
     }

@@ -41,6 +41,7 @@ place-p-requires c =
     let w = (goal.at.place-p-requires c).After-column_numbers-k in (
       held_on c.args.n c.args.store.now c.args.counts.now c.args.size (take c.args.n w.column_numbers-k.new.out) (column w) (made w).numbers (made w).numbered_plots c.requires.0,
       (made w).count ∙ ap classes (sym (made w).numbers),
+      c.requires.1,
     )
 
 pub returns : goal.returns

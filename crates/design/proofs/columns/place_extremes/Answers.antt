@@ -39,6 +39,7 @@ place-requires c =
     let ones : List ℕ = replicate 240 1 in (
       held_on n s.args.store.now s.args.counts.now 0 (take n ones) (universal n) (take_ones n s.requires.1) (length_universal n) (empty-held s),
       sym (ap classes (take_ones n s.requires.1) ∙ classes_universal n s.requires.0),
+      omega arith,
     )
 
 pub slice_bounds-place-end-2 : goal.slice_bounds-place-end-2
@@ -51,6 +52,7 @@ place-p-requires c =
     let n = p.args.n in (
       held_on n p.place.new.store p.place.new.counts 1 (take n c.equality-column.result) (equality n) c.equality-column.ensures (length_equality n) (begun-one p).held,
       sym (ap classes c.equality-column.ensures ∙ classes_equality n),
+      omega arith,
     )
 
 pub returns : goal.returns

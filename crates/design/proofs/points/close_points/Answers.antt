@@ -9,81 +9,79 @@ use Rattle.rules.specs.Factor.{Column, classes, equality}
 use Rattle.rules.specs.Family.{members_of}
 use Rattle.rules.proofs.ClassCount.{classes_equality}
 use Rattle.rules.proofs.Extremes.{length_equality}
-use Rattle.design.specs.State.{Held, PlacedMember, grown_to, Begun, Work, Closed}
-use Rattle.design.specs.Judging.{unlisted}
+use Rattle.design.specs.State.{Held, PlacedMember, grown_to, Begun, Work}
 use Rattle.design.specs.Points.{Gathered}
-use Rattle.design.proofs.Choosing.{closed_on, closed_over}
-use Rattle.design.proofs.Start.{held_on, placed_on}
+use Rattle.design.proofs.Start.{held_on, placed_on, no_room_on}
 use Rattle.design.proofs.Work.{size_members, work_begun, work_self, Stood, stood, stood_as}
 use Rattle.design.proofs.PointLaws.{ranged}
 use Rattle.design.proofs.Lifting.{Generates, points_over, spread_held, equality_over, with_equality, gathered_begun, gathered_generates}
 use Rattle.design.proofs.points.close_points.Goals as goal
-use Rattle.design.proofs.points.close_points.Goals.{After-close-size, After-equality-column, After-place-p, After-spread_all}
+use Rattle.design.proofs.points.close_points.Goals.{After-equality-column, After-gather_all-some, After-spread_all, In_ok-p, In_ok-size}
 
 -- the points
-abbrev points : After-close-size → Column
+abbrev points : After-gather_all-some → Column
 points c = take c.args.n c.args.points.now
 
 -- the columns of points that the family starts from
-abbrev columns : After-close-size → List Column
+abbrev columns : After-gather_all-some → List Column
 columns c = members_of c.args.m c.gather_all-some.new.own c.gather_all-some.result
 
-gathered : (c : After-close-size) → Gathered c.args.n c.args.m (points c) (members_of c.args.n c.args.store.now c.args.start) c.gather_all-some.new.own c.gather_all-some.new.own_counts c.gather_all-some.result
+gathered : (c : After-gather_all-some) → Gathered c.args.n c.args.m (points c) (members_of c.args.n c.args.store.now c.args.start) c.gather_all-some.new.own c.gather_all-some.new.own_counts c.gather_all-some.result
 gathered c = c.gather_all-some.ensures
 
 -- any columns of plots that it starts from are these and E
-generates : (c : After-close-size) (Gs : List Column) → Begun c.args.n Gs c.args.store.now c.args.counts.now c.args.start → Generates c.args.n c.args.m (points c) (columns c) Gs
+generates : (c : After-gather_all-some) (Gs : List Column) → Begun c.args.n Gs c.args.store.now c.args.counts.now c.args.start → Generates c.args.n c.args.m (points c) (columns c) Gs
 generates c Gs b = let s = c in gathered_generates s.args.store.now s.args.counts.now s.args.start (gathered c) s.requires.1 b
 
-closed : (c : After-close-size) → Closed c.args.m true (columns c) c.close-size.new.store c.close-size.new.counts c.close-size.new.marks c.close-size.result
-closed c = let s = c in c.close-size.ensures.closes (columns c) (work_begun true (gathered_begun s.args.store.now s.args.counts.now s.args.start (gathered c)) s.requires.5)
-
-work : (c : After-close-size) → (c.close-size.result ≡ 33 → ⊥) → Work c.args.m true (columns c) c.close-size.new.store c.close-size.new.counts c.close-size.new.marks c.close-size.result c.close-size.result 0
-work c d = (closed_on d (closed c)).0
+-- closing begins with them
+begins : (c : After-gather_all-some) → Work c.args.m true (columns c) c.gather_all-some.new.own c.gather_all-some.new.own_counts c.args.marks.now c.gather_all-some.result 0 0
+begins c = let s = c in work_begun true (gathered_begun s.args.store.now s.args.counts.now s.args.start (gathered c)) s.requires.5
 
 -- it is closed on the points
-work-of : (c : After-spread_all) → let q = (goal.at.After-spread_all c).After-close-size in Work q.args.m true (columns q) q.close-size.new.store q.close-size.new.counts q.close-size.new.marks q.close-size.result q.close-size.result 0
-work-of c = work (goal.at.After-spread_all c).After-close-size c.if-size-eq-TOO_MANY.false
+work : (c : In_ok-size) → let q = (goal.at.In_ok-size c).After-gather_all-some in Work q.args.m true (columns q) c.close.new.store c.close.new.counts c.close.new.marks c.in_ok-size.size c.in_ok-size.size 0
+work c = let q = (goal.at.In_ok-size c).After-gather_all-some in (c.in_ok-size.ensures.closes (columns q) (begins q)).0
 
 -- the store with its members as columns of plots
 abbrev spread : After-spread_all → List ℕ
 spread c = c.spread_all.new.store
 
 -- any columns that the family starts from generate it; its own are such
-own : (c : After-close-size) → Generates c.args.n c.args.m (points c) (columns c) (members_of c.args.n c.args.store.now c.args.start)
+own : (c : After-gather_all-some) → Generates c.args.n c.args.m (points c) (columns c) (members_of c.args.n c.args.store.now c.args.start)
 own c = generates c (members_of c.args.n c.args.store.now c.args.start) c.requires.0
 
-held : (c : After-spread_all) → let q = (goal.at.After-spread_all c).After-close-size in Held q.args.n (spread c) q.close-size.new.counts q.close-size.result
-held c = let q = (goal.at.After-spread_all c).After-close-size in let s = c in spread_held s.requires.2 (own q) (work-of c) s.requires.3 s.requires.0.held.most (spread c) c.spread_all.ensures.room c.spread_all.ensures.members
+held : (c : After-spread_all) → Held c.args.n (spread c) c.close.new.counts c.in_ok-size.size
+held c = let q = (goal.at.After-spread_all c).After-gather_all-some in let s = c in spread_held s.requires.2 (own q) (work (goal.at.After-spread_all c).In_ok-size) s.requires.3 s.requires.0.held.most (spread c) c.spread_all.ensures.room c.spread_all.ensures.members
 
 -- E is on n plots
 length-is : (c : After-equality-column) → let n = c.args.n in length (take n c.equality-column.result) ≡ n
 length-is c = let n = c.args.n in ap length c.equality-column.ensures ∙ length_equality n
 
-placed : (c : After-place-p) → let t = (goal.at.After-place-p c).After-spread_all in PlacedMember c.args.n (members_of c.args.n (spread t) c.close-size.result) (equality c.args.n) c.place-p.result c.place-p.new.store c.place-p.new.counts
+placed : (c : In_ok-p) → let t = (goal.at.In_ok-p c).After-spread_all in PlacedMember c.args.n (members_of c.args.n (spread t) c.in_ok-size.size) (equality c.args.n) c.in_ok-p.p c.try_place.new.store c.try_place.new.counts
 placed c =
-    let t = (goal.at.After-place-p c).After-spread_all in
+    let t = (goal.at.In_ok-p c).After-spread_all in
     let n = c.args.n in
-    placed_on n (spread t) c.close-size.result (take n c.equality-column.result) (equality n) c.place-p.result c.place-p.new.store c.place-p.new.counts c.equality-column.ensures (length_equality n) c.place-p.ensures
+    placed_on n (spread t) c.in_ok-size.size (take n c.equality-column.result) (equality n) c.in_ok-p.p c.try_place.new.store c.try_place.new.counts c.equality-column.ensures (length_equality n) c.in_ok-p.ensures
 
-stands : (c : After-place-p) → (c.place-p.result ≡ 32 → ⊥) → (size : ℕ) → let t = (goal.at.After-place-p c).After-spread_all in size ≡ grown_to c.close-size.result c.place-p.result
-    → Stood c.args.n (members_of c.args.n (spread t) c.close-size.result) (equality c.args.n) c.place-p.result c.place-p.new.store c.place-p.new.counts size
-stands c d size e = let t = (goal.at.After-place-p c).After-spread_all in stood_as e (stood c.close-size.result (size_members (held t)) (placed c) d)
+stands : (c : In_ok-p) (size : ℕ) → let t = (goal.at.In_ok-p c).After-spread_all in size ≡ grown_to c.in_ok-size.size c.in_ok-p.p
+    → Stood c.args.n (members_of c.args.n (spread t) c.in_ok-size.size) (equality c.args.n) c.in_ok-p.p c.try_place.new.store c.try_place.new.counts size
+stands c size e = let t = (goal.at.In_ok-p c).After-spread_all in stood_as e (stood c.in_ok-size.size (size_members (held t)) (placed c))
 
 -- with E, the members before it are combined with each other
-worked : (c : After-place-p) → (c.place-p.result ≡ 32 → ⊥) → (size : ℕ) → let q = (goal.at.After-place-p c).After-close-size in size ≡ grown_to c.close-size.result c.place-p.result
-    → (Gs : List Column) → Generates c.args.n c.args.m (points q) (columns q) Gs → Work c.args.n true Gs c.place-p.new.store c.place-p.new.counts c.close-size.new.marks size c.close-size.result 0
-worked c d size e Gs g =
-    let t = (goal.at.After-place-p c).After-spread_all in
-    with_equality c.requires.2 g (work-of t) c.requires.3 c.requires.0.held.most (spread t) c.spread_all.ensures.room c.spread_all.ensures.members (stands c d size e)
+worked : (c : In_ok-p) (size : ℕ) → let q = (goal.at.In_ok-p c).After-gather_all-some in size ≡ grown_to c.in_ok-size.size c.in_ok-p.p
+    → (Gs : List Column) → Generates c.args.n c.args.m (points q) (columns q) Gs → Work c.args.n true Gs c.try_place.new.store c.try_place.new.counts c.close.new.marks size c.in_ok-size.size 0
+worked c size e Gs g =
+    let t = (goal.at.In_ok-p c).After-spread_all in
+    with_equality c.requires.2 g (work (goal.at.In_ok-p c).In_ok-size) c.requires.3 c.requires.0.held.most (spread t) c.spread_all.ensures.room c.spread_all.ensures.members (stands c size e)
 
-pub returns-then-size-eq-TOO_MANY : goal.returns-then-size-eq-TOO_MANY
-returns-then-size-eq-TOO_MANY c = let q = (goal.at.returns-then-size-eq-TOO_MANY c).After-close-size in λ Gs b. unlisted c.too_many.ensures (points_over q.requires.2 (generates q Gs b) (closed_over c.if-size-eq-TOO_MANY.true (closed q))) refl
+pub close-requires : goal.close-requires
+close-requires c = ((begins (goal.at.close-requires c).After-gather_all-some).held, omega arith)
+
+pub returns-in_err-size : goal.returns-in_err-size
+returns-in_err-size c = let q = (goal.at.returns-in_err-size c).After-gather_all-some in λ Gs b. rw c.from_residual.ensures (points_over q.requires.2 (generates q Gs b) (c.in_err-size.ensures.closes (columns q) (begins q)), refl)
 
 pub spread_all-requires : goal.spread_all-requires
 spread_all-requires c =
-    let q = (goal.at.spread_all-requires c).After-close-size in
-    let w = work q c.if-size-eq-TOO_MANY.false in
+    let w = work (goal.at.spread_all-requires c).In_ok-size in
     (c.requires.0.held.most, w.held.room, c.requires.0.held.room, w.held.few, ranged c.requires.2 c.requires.0.held.most)
 
 pub slice_bounds-column-end : goal.slice_bounds-column-end
@@ -92,42 +90,42 @@ slice_bounds-column-end c =
     let n = e.args.n in
     omega (arith, length-is e, length-take n e.equality-column.result)
 
-pub slice_bounds-place-end : goal.slice_bounds-place-end
-slice_bounds-place-end c = sym (length-is (goal.at.slice_bounds-place-end c).After-equality-column)
+pub slice_bounds-try_place-end : goal.slice_bounds-try_place-end
+slice_bounds-try_place-end c = sym (length-is (goal.at.slice_bounds-try_place-end c).After-equality-column)
 
 pub overflow_cast-n : goal.overflow_cast-n
 overflow_cast-n c = omega (arith, c.requires.0.held.most)
 
-pub place-p-requires : goal.place-p-requires
-place-p-requires c =
-    let t = (goal.at.place-p-requires c).After-spread_all in
+pub try_place-requires : goal.try_place-requires
+try_place-requires c =
+    let t = (goal.at.try_place-requires c).After-spread_all in
     let n = c.args.n in (
-      held_on n (spread t) c.close-size.new.counts c.close-size.result (take n c.equality-column.result) (equality n) c.equality-column.ensures (length_equality n) (held t),
+      held_on n (spread t) c.close.new.counts c.in_ok-size.size (take n c.equality-column.result) (equality n) c.equality-column.ensures (length_equality n) (held t),
       sym (ap classes c.equality-column.ensures ∙ classes_equality n),
     )
 
-pub returns-then-p-eq-MEMBERS : goal.returns-then-p-eq-MEMBERS
-returns-then-p-eq-MEMBERS c =
-    let y = (goal.at.returns-then-p-eq-MEMBERS c).After-place-p in
-    let t = (goal.at.returns-then-p-eq-MEMBERS c).After-spread_all in
-    let q = (goal.at.returns-then-p-eq-MEMBERS c).After-close-size in
-    λ Gs b. unlisted c.too_many-then-p-eq-MEMBERS.ensures (equality_over c.requires.2 (generates q Gs b) (work-of t) c.requires.3 c.requires.0.held.most (spread t) c.spread_all.ensures.room c.spread_all.ensures.members (placed y) c.if-p-eq-MEMBERS.true) refl
+pub returns-in_err-p : goal.returns-in_err-p
+returns-in_err-p c =
+    let t = (goal.at.returns-in_err-p c).After-spread_all in
+    let q = (goal.at.returns-in_err-p c).After-gather_all-some in
+    let n = c.args.n in
+    let room = no_room_on n (spread t) c.in_ok-size.size (take n c.equality-column.result) (equality n) _ _ c.equality-column.ensures (length_equality n) c.in_err-p.ensures in
+    λ Gs b. rw c.from_residual-in_err-p.ensures (equality_over c.requires.2 (generates q Gs b) (work (goal.at.returns-in_err-p c).In_ok-size) c.requires.3 c.requires.0.held.most (spread t) c.spread_all.ensures.room c.spread_all.ensures.members room, refl)
 
 pub grown-requires : goal.grown-requires
-grown-requires c = (work-of (goal.at.grown-requires c).After-spread_all).held.few
+grown-requires c = (work (goal.at.grown-requires c).In_ok-size).held.few
 
 pub close_family-requires : goal.close_family-requires
 close_family-requires c =
-    let y = (goal.at.close_family-requires c).After-place-p in
+    let y = (goal.at.close_family-requires c).In_ok-p in
     let t = (goal.at.close_family-requires c).After-spread_all in
-    let q = (goal.at.close_family-requires c).After-close-size in
-    let d = c.if-p-eq-MEMBERS.false in
-    let w = worked y d c.grown.result c.grown.ensures (members_of c.args.n c.args.store.now c.args.start) (own q) in
-    (work_self w, omega (arith, (stands y d c.grown.result c.grown.ensures).more, size_members (held t)), c.requires.6)
+    let q = (goal.at.close_family-requires c).After-gather_all-some in
+    let w = worked y c.grown.result c.grown.ensures (members_of c.args.n c.args.store.now c.args.start) (own q) in
+    (work_self w, omega (arith, (stands y c.grown.result c.grown.ensures).more, size_members (held t)), c.requires.6)
 
 pub returns : goal.returns
 returns c =
-    let y = (goal.at.returns c).After-place-p in
-    let q = (goal.at.returns c).After-close-size in
+    let y = (goal.at.returns c).In_ok-p in
+    let q = (goal.at.returns c).After-gather_all-some in
     let g = c.grown in
-    λ Gs b. c.close_family.ensures Gs (worked y c.if-p-eq-MEMBERS.false g.result g.ensures Gs (generates q Gs b))
+    λ Gs b. c.close_family.ensures Gs (worked y g.result g.ensures Gs (generates q Gs b))

@@ -67,6 +67,7 @@ place-p-requires c =
     let l : i < c.args.size = omega arith in (
       held_on c.args.m c.loop-i.own c.loop-i.own_counts c.loop-i.some F F refl k c.loop-i.invariant.2.held,
       c.requires.0.counted i l ∙ ap classes (sym (is_member s r c.gathered-column.ensures.0 i c.gathered-column.ensures.1)) ∙ classes_plots c.requires.1 F k,
+      omega (arith, c.requires.0.few),
     )
 
 pub grown-some-requires : goal.grown-some-requires

@@ -11,7 +11,7 @@ use Rattle.rules.specs.Design.{question11, treatment_buffer}
 use Rattle.rules.proofs.Demand3.{column_length}
 use Rattle.design.specs.Answers.{full_numbers_of}
 use Rattle.design.proofs.Choosing.{members_plots}
-use Rattle.design.proofs.FullAnswered.{first_held, first_numbered, first_tells, first_covered}
+use Rattle.design.proofs.FullAnswered.{first_held, first_tells, first_covered}
 use Rattle.design.proofs.steps.full_from_11.Goals as goal
 use Rattle.design.proofs.steps.full_from_11.Goals.{After-first_family-closed}
 
@@ -26,28 +26,24 @@ on c = let s = c in column_length s.args.n s.args.levels.now s.args.d 6 s.requir
 abbrev after : After-first_family-closed → List ℕ
 after c = c.first_family-closed.new.family
 
--- the marks, and where the members were found
+-- the marks
 abbrev marks : After-first_family-closed → List ℕ
 marks c = c.first_family-closed.new.marks
-
-abbrev order : After-first_family-closed → List ℕ
-order c = c.first_family-closed.result.order
 
 pub judge_treatments-requires : goal.judge_treatments-requires
 judge_treatments-requires c =
     let f = (goal.at.judge_treatments-requires c).After-first_family-closed in
-    let numbered = first_numbered c.args.n c.args.k (columns f) (on f) c.args.treatment_family.now (after f) (marks f) (order f) f.first_family-closed.result.size c.requires.1 c.requires.8 f.first_family-closed.ensures in
-    let tells = first_tells c.args.n c.args.k (columns f) (on f) c.args.treatment_family.now (after f) (marks f) (order f) f.first_family-closed.result.size c.requires.1 c.requires.8 f.first_family-closed.ensures in
-    (c.requires.0, c.requires.1, c.requires.6, λ d. (numbered d, tells d))
+    let tells = first_tells c.args.n c.args.k (columns f) (on f) c.args.treatment_family.now (after f) (marks f) c.requires.1 c.requires.8 f.first_family-closed.result f.first_family-closed.ensures in
+    (c.requires.0, c.requires.1, c.requires.6, tells)
 
 pub returns : goal.returns
 returns c =
     let f = (goal.at.returns c).After-first_family-closed in
     let n = c.args.n in
     let P = members_of n c.args.plot.now c.args.held in
-    let held = first_held n c.args.k (columns f) (on f) c.args.treatment_family.now (after f) (marks f) (order f) f.first_family-closed.result.size c.requires.1 c.requires.8 f.first_family-closed.ensures in
+    let held = first_held n c.args.k (columns f) (on f) c.args.treatment_family.now (after f) (marks f) c.requires.1 c.requires.8 f.first_family-closed.result f.first_family-closed.ensures in
     let on_p = members_plots n c.args.plot.now c.args.held c.requires.1 (omega (arith, c.requires.6.room, c.requires.6.few)) in
-    let covered = first_covered n c.args.k (columns f) (on f) c.args.treatment_family.now (after f) (marks f) (order f) f.first_family-closed.result.size c.requires.1 c.requires.8 P on_p c.requires.7 f.first_family-closed.ensures in
+    let covered = first_covered n c.args.k (columns f) (on f) c.args.treatment_family.now (after f) (marks f) c.requires.1 c.requires.8 P on_p c.requires.7 f.first_family-closed.result f.first_family-closed.ensures in
     record {
       answer = c.judge_treatments.ensures.answer ∙ ap (λ (x : Closing). full_numbers_of (question11 n P x)) held;
       buffer = c.judge_treatments.ensures.buffer ∙ ap (λ (x : Closing). treatment_buffer (after f) (question11 n P x)) held ∙ covered;

@@ -22,7 +22,7 @@ memory c = c.close_plot_family-closed.new.plot
 
 -- what is answered to it
 abbrev answered : After-judge_plots → Answer
-answered c = question8 c.args.n (closed_in c.args.n (memory c) c.close_plot_family-closed.result.size)
+answered c = question8 c.args.n (closed_in c.args.n (memory c) c.close_plot_family-closed.result)
 
 -- the treatment columns, and their first family
 abbrev columns : After-judge_plots → List Column
@@ -63,14 +63,14 @@ left-plots c =
 AcceptedHere : (c : In_ok-held) → Type 0
 AcceptedHere c =
     let f = (goal.at.In_ok-held c).After-judge_plots in
-    Goes f.args.n (closed_in f.args.n (memory f) f.close_plot_family-closed.result.size) (memory f) c.in_ok-held.held
+    Goes f.args.n (closed_in f.args.n (memory f) f.close_plot_family-closed.result) (memory f) c.in_ok-held.held
 
 accepted-here : (c : In_ok-held) → AcceptedHere c
 unfolding AcceptedHere plot_numbers
 accepted-here c =
     let f = (goal.at.In_ok-held c).After-judge_plots in
     let s = c in
-    goes_on_lem s.args.n (memory f) f.close_plot_family-closed.result.size s.requires.1 (λ ne. (f.close_plot_family-closed.ensures.tables.judging ne).members.few)
+    goes_on_lem s.args.n (memory f) f.close_plot_family-closed.new.marks f.close_plot_family-closed.result f.close_plot_family-closed.ensures.tables
     c.in_ok-held.ensures
 
 pub full_from_11-requires : goal.full_from_11-requires
@@ -89,7 +89,7 @@ returns-in_err-held c =
     let f = (goal.at.returns-in_err-held c).After-judge_plots in
     let n = c.args.n in
     let e = c.in_err-held.ensures in
-    let alone = plot_alone n (closed_in n (memory f) f.close_plot_family-closed.result.size) in
+    let alone = plot_alone n (closed_in n (memory f) f.close_plot_family-closed.result) in
     let r = with_refused n (treatments f) (answered f) (refused_not n (treatments f) (answered f) _ e refl) in
     let p = err_from_is_err_and c.from_residual.result c.from_residual.ensures.1 in record {
       answer = rw (p.1, p.2) (refused_numbers n (treatments f) (answered f) _ e refl alone ∙ ap full_numbers_of (like-the-rules f));

@@ -1,13 +1,10 @@
--- `find` meets its contract: the search from each place on finds what the whole search finds.
+-- `find` meets its contract: no member passed is the column.
 use mathlib.Core.Path.{◌≡◌}
-use Prim.Native.Nat.{◌-◌, ◌≤◌}
+use Prim.Native.Nat.{ℕ, ◌<◌}
 use lib.ListN.{length}
 use Rattle.rules.specs.Family.{members_of}
-use Rattle.design.proofs.Placing.{Sought}
+use Rattle.rules.specs.Relation.{member_at}
 use Rattle.design.proofs.store.find.Given as goal
 
 abbrev pub invariant-loop-i : goal.invariant-loop-i
-invariant-loop-i l = (l.i ≤ l.size) × (l.n ≡ length l.column) × Sought (members_of (length l.column) l.store l.size) l.column l.i
-
-abbrev pub decreases-loop-i : goal.decreases-loop-i
-decreases-loop-i l = l.size - l.i
+invariant-loop-i l = (k : ℕ) → k < l.i → member_at (members_of (length l.column) l.store l.size) k ≡ l.column → ⊥

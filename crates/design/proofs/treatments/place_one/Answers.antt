@@ -7,7 +7,7 @@ use Rattle.design.specs.State.{column_at}
 use Rattle.factor.specs.Labels.{largest}
 use Rattle.factor.proofs.Lent.{length_part}
 use Rattle.factor.proofs.LargestLabel.{largest_classes}
-use Rattle.design.proofs.Start.{placed_on, held_on}
+use Rattle.design.proofs.Start.{tried_on, held_on}
 use Rattle.design.proofs.treatments.place_one.Goals as goal
 use Rattle.design.proofs.treatments.place_one.Goals.{After-largest-k}
 
@@ -27,9 +27,9 @@ length-is c =
     let s = c in
     length_part s.args.n s.args.e s.args.infima.now (omega (arith, s.requires.0.most))
 
-pub place-requires : goal.place-requires
-place-requires c =
-    let w = (goal.at.place-requires c).After-largest-k in (
+pub try_place-requires : goal.try_place-requires
+try_place-requires c =
+    let w = (goal.at.try_place-requires c).After-largest-k in (
       held_on c.args.n c.args.store.now c.args.counts.now c.args.size (lent w) (column w) (is w) (length-is w) c.requires.0,
       w.largest-k.ensures ∙ ap largest (is w) ∙ largest_classes (column w) c.requires.3 ∙ ap classes (sym (is w)),
     )
@@ -37,4 +37,4 @@ place-requires c =
 pub returns : goal.returns
 returns c =
     let w = (goal.at.returns c).After-largest-k in
-    placed_on c.args.n c.args.store.now c.args.size (lent w) (column w) c.place.result c.place.new.store c.place.new.counts (is w) (length-is w) c.place.ensures
+    tried_on c.args.n c.args.store.now c.args.size (lent w) (column w) c.try_place.result c.try_place.new.store c.try_place.new.counts (is w) (length-is w) c.try_place.ensures

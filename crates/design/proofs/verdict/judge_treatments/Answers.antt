@@ -7,30 +7,29 @@ use Rattle.design.specs.Answers.{full_numbers_of}
 use Rattle.design.specs.Closings.{closed_in}
 use Rattle.design.specs.Judging.{apart_at}
 use Rattle.design.specs.declared.questions.Places as found
-use Rattle.design.proofs.Answered.{held_over, held_on}
 use Rattle.design.proofs.FullAnswered.{full_refusing_is, told_11, passed_11, told_buffer}
 use Rattle.design.proofs.verdict.judge_treatments.Goals as goal
 
-pub returns-then-size-eq-TOO_MANY : goal.returns-then-size-eq-TOO_MANY
+pub returns-in_default : goal.returns-in_default
 unfolding written
-returns-then-size-eq-TOO_MANY c =
+returns-in_default c =
     let n = c.args.n in
     let P = members_of n c.args.plot_family.now c.args.plot in
     let first = c.args.treatment_family.now in
-    let t = told_11 n P (closed_in n first c.args.closed.size) (held_over n first c.args.closed.size c.if-size-eq-TOO_MANY.true) in record {
+    let t = told_11 n P (closed_in n first c.args.closed) (ap (closed_in n first) c.in_default.is) in record {
       answer = c.treatments_refused.ensures ∙ full_refusing_is 11 refl refl (sym (length_members n c.requires.1 c.args.plot_family.now c.args.plot)) refl ∙ sym t.numbers;
       buffer = sym (told_buffer first t);
     }
 
 pub first_apart-pair-requires : goal.first_apart-pair-requires
 first_apart-pair-requires c =
-    let w = c.requires.3 c.if-size-eq-TOO_MANY.false in
+    let w = rw c.in-Some.is at c.requires.3 in
     (w.0.few, w.1.places)
 
 pub from_12-requires : goal.from_12-requires
 unfolding apart_at
 from_12-requires c =
-    let w = c.requires.3 c.if-size-eq-TOO_MANY.false in (
+    let w = rw c.in-Some.is at c.requires.3 in (
       c.requires.0,
       c.requires.1,
       c.requires.2,
@@ -44,7 +43,7 @@ returns c =
     let n = c.args.n in
     let P = members_of n c.args.plot_family.now c.args.plot in
     let first = c.args.treatment_family.now in
-    let q = passed_11 n P (closed_in n first c.args.closed.size) (members_of n first c.args.closed.size) (held_on n first c.args.closed.size c.if-size-eq-TOO_MANY.false) in
+    let q = passed_11 n P (closed_in n first c.args.closed) (members_of n first c.in-Some.closed.size) (ap (closed_in n first) c.in-Some.is) in
     record {
       answer = c.from_12.ensures.answer ∙ ap full_numbers_of (sym q);
       buffer = c.from_12.ensures.buffer ∙ ap (treatment_buffer first) (sym q);

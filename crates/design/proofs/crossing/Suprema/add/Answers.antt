@@ -1,7 +1,6 @@
 -- `add` meets its contract: there is room, or what is there is found.
 use mathlib.Core.Path.{refl}
-use native.Mathlib.Omega.{arith}
-use Rattle.design.proofs.Joins.{room_growing, room_grown, room_stands, room_adds, full_adds, old_place, old_stands, old_adds}
+use Rattle.design.proofs.Joins.{room_growing, room_grown, room_stands, room_adds, full_adds, old_stands, old_adds}
 use Rattle.design.proofs.crossing.Suprema.add.Goals as goal
 
 pub returns-then-self-lt-MEMBERS-clause-growing : goal.returns-then-self-lt-MEMBERS-clause-growing
@@ -16,14 +15,11 @@ returns-then-self-lt-MEMBERS-clause-stands c = rw c.grown-self.ensures (room_sta
 pub returns-then-self-lt-MEMBERS-clause-adds : goal.returns-then-self-lt-MEMBERS-clause-adds
 returns-then-self-lt-MEMBERS-clause-adds c = rw c.grown-self.ensures (room_adds c.requires.0 c.requires.2 c.if-self-lt-MEMBERS.true c.place-p.ensures)
 
-pub returns-then-p-eq-MEMBERS-clause-adds : goal.returns-then-p-eq-MEMBERS-clause-adds
-returns-then-p-eq-MEMBERS-clause-adds c = full_adds c.requires.0 c.requires.2 refl c.if-self-lt-MEMBERS.false c.find-p.ensures c.if-p-eq-MEMBERS.true
-
-pub overflow_cast-result-2 : goal.overflow_cast-result-2
-overflow_cast-result-2 c = omega (arith, old_place c.requires.0 c.requires.2 refl c.if-self-lt-MEMBERS.false c.find-p.ensures c.if-p-eq-MEMBERS.false)
+pub returns-in_default-clause-adds : goal.returns-in_default-clause-adds
+returns-in_default-clause-adds c = full_adds c.requires.0 c.requires.2 refl c.if-self-lt-MEMBERS.false c.in_default.ensures
 
 pub returns-clause-stands : goal.returns-clause-stands
-returns-clause-stands c = old_stands c.requires.0 c.requires.2 refl c.if-self-lt-MEMBERS.false c.find-p.ensures c.if-p-eq-MEMBERS.false
+returns-clause-stands c = old_stands c.requires.0 c.requires.2 refl c.if-self-lt-MEMBERS.false c.in-Some.ensures.0 c.in-Some.ensures.1
 
 pub returns-clause-adds : goal.returns-clause-adds
-returns-clause-adds c = old_adds c.requires.0 c.requires.2 refl c.if-self-lt-MEMBERS.false c.find-p.ensures c.if-p-eq-MEMBERS.false
+returns-clause-adds c = old_adds c.requires.0 c.requires.2 refl c.if-self-lt-MEMBERS.false c.in-Some.ensures.0 c.in-Some.ensures.1
