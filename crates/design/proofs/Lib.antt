@@ -23,3 +23,4 @@ pub mod FullAnswered
 pub mod WithTreatments
 pub mod Pasted
 pub mod Gathering
+pub mod Ranges

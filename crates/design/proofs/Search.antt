@@ -1,5 +1,6 @@
 -- Laws of searches over places: a turn of a search, and the places that the rules name.
 -- Assumes nothing.
+use Rattle.std.specs.Prelude.{None, Some}
 use mathlib.Core.Path.{◌≡◌, refl, sym, ap, ap₂, ◌∙◌}
 use mathlib.Core.Bool.{Bool, true, false}
 use mathlib.Core.List.{List, [], ◌∷◌}
@@ -14,7 +15,7 @@ use Rattle.rules.specs.Factor.{Column}
 use Rattle.rules.specs.Family.{Family}
 use Rattle.rules.proofs.Numbering.{by_cases}
 use Rattle.rules.specs.Design.{first_failing, pair_at, first_pair, first_cross}
-use Rattle.design.specs.Search.{first_from, partner, first_place, second_place, first_pair_of, cross_partner, cross_first, cross_second}
+use Rattle.design.specs.Search.{place_told, first_from, partner, first_place, second_place, first_pair_of, cross_partner, cross_first, cross_second}
 use Rattle.design.specs.State.{marked_row, marked}
 
 -- ---- a turn
@@ -198,3 +199,13 @@ module _ (marks : List ℕ) (i j : ℕ) where
 
   pub marked_above : j ≤ i → marked marks i j ≡ marked_row marks i j
   marked_above h = ap (λ (b : Bool). elim b [ true ↦ marked_row marks j i | false ↦ marked_row marks i j ]) (le-ltb i j h)
+
+-- ---- a place that is told, or none
+
+pub told_place : (k u : ℕ) → Some u ≡ place_told k → (k ≡ u) × (k ≡ 0 → ⊥)
+told_place zero u e = cc
+told_place (suc k) u e = (cc, λ z. omega arith)
+
+pub told_none : (k : ℕ) → None ≡ place_told k → k ≡ 0
+told_none zero e = refl
+told_none (suc k) e = cc

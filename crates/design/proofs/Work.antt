@@ -28,7 +28,7 @@ use Rattle.rules.proofs.WorkList.{PlaceOf, place_of, member_in, Found, found_mor
 use Rattle.design.proofs.Common.{column_length}
 use Rattle.design.proofs.Extremes.{finer_infimum, finer_supremum, coarser_infimum, coarser_supremum, finer_orthogonal, coarser_orthogonal}
 use Rattle.design.proofs.Placing.{grown_new, grown_old}
-use Rattle.design.specs.State.{column_at, Held, PlacedMember, old, new, NoRoom, grown_to, Begun, make_of, pair_mark, marked_row, entry_of, Joins, Work, Follows, unknown, follows, Stepped, ClosedOrMore, whole, more}
+use Rattle.design.specs.State.{column_at, Held, PlacedMember, old, new, NoRoom, grown_to, Begun, make_of, pair_mark, marked_row, entry_of, Joins, Work, Follows, follows, Stepped, ClosedOrMore, whole, more}
 
 -- ---- members by their places
 
@@ -503,9 +503,8 @@ module _ {n : ℕ} {Gs : List Column} {store counts marks : List ℕ} {size i j 
       right = between_test_right n (A w hi hj) Y (B w hi hj) (l_a w hi hj) l_y (l_b w hi hj) fine under apart
 
   -- where it follows, its entry is stored
-  pub work_follows : (r : ℕ) → (r ≡ 0 → ⊥) → Follows n store marks size i j r → Work n false Gs store counts (set marks (32 * i + j) r) size i (j + 1)
-  work_follows r d (unknown e) = absurd (d e)
-  work_follows r d (follows y q hy e f hq fine below) = rw f (work_between y q hy (sym e ∙ f) hq fine below)
+  pub work_follows : (r : ℕ) → Follows n store marks size i j r → Work n false Gs store counts (set marks (32 * i + j) r) size i (j + 1)
+  work_follows r (follows y q hy e f hq fine below) = rw f (work_between y q hy (sym e ∙ f) hq fine below)
 
 -- ---- what a step answers
 

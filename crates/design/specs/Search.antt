@@ -8,6 +8,11 @@ unfoldable pub first_from : (ℕ → Bool) → ℕ → ℕ → ℕ
 first_from t j zero = 0
 first_from t j (suc left) = elim (t j) [ true ↦ first_from t (suc j) left | false ↦ suc j ]
 
+-- a place that is counted from 1, where 0 says that there is none
+abbrev pub place_told : ℕ → Option ℕ
+place_told zero = None
+place_told (suc k) = Some (suc k)
+
 -- the second place of the first failing pair whose first place is i + 1; 0 where there is none
 unfoldable pub partner : (ℕ → ℕ → Bool) → ℕ → ℕ → ℕ
 unfolding first_from

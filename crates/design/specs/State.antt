@@ -111,9 +111,8 @@ pub data NamesCoarser (n : ℕ) (counts above : List ℕ) (size j entry : ℕ) :
   names : (q : ℕ) → entry ≡ suc q → q < size → told_finer n (get_or counts j 0) (get_or counts q 0) (get_or above j 0) q ≡ true → NamesCoarser n counts above size j entry
 
 -- The supremum of members i and j follows from what is known: member y is finer than j, and the supremum of i and y is coarser than j. Then
--- r is the entry of i and y; 0 where no such member is known.
+-- r is the entry of i and y.
 pub data Follows (n : ℕ) (store marks : List ℕ) (size i j r : ℕ) : Type 0 where
-  unknown : r ≡ 0 → Follows n store marks size i j r
   follows : (y q : ℕ) → y < j → r ≡ get_or marks (most_members * i + y) 0 → r ≡ suc q → q < size → Finer n (column_at n store y) (column_at n store j) → Finer n (column_at n store j) (column_at n store q) → Follows n store marks size i j r
 
 -- what a step leaves, whatever it works towards: a store that has not shrunk, unless the family is too large

@@ -108,8 +108,8 @@ fn look_crossed(counts: &[u8; MEMBERS], size: usize, n: usize) -> bool
         return false;
     }
     let mut combinations: usize = 1;
-    for i in 2..size {
-        combinations = times(combinations, counts[i]);
+    for &k in &counts[2..size] {
+        combinations = times(combinations, k);
         if n < combinations {
             return false;
         }
@@ -122,15 +122,7 @@ fn look_crossed(counts: &[u8; MEMBERS], size: usize, n: usize) -> bool
 fn few_classes(counts: &[u8; MEMBERS], size: usize, n: usize) -> bool
     requires { (size ≤ most_members) × (n ≤ most_plots) }
 {
-    if size < PARTED {
-        return false;
-    }
-    for i in 2..size {
-        if n <= times(4, counts[i]) {
-            return false;
-        }
-    }
-    true
+    PARTED <= size && counts[2..size].iter().all(|&k| times(4, k) < n)
 }
 
 // Closes the plot family that starts from U, E and columns, on the points of these where there are few.

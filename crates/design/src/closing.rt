@@ -1,5 +1,5 @@
 // Closing a family under supremum, and under infimum too where that is asked: each unordered pair is combined once, and marked.
-ghost use Rattle.std.specs.Prelude.{◌≡◌, true, false, List, ℕ, ◌+◌, ◌*◌, ◌≤◌, ◌<◌, eqb, length};
+ghost use Rattle.std.specs.Prelude.{◌≡◌, IfSome, true, false, List, ℕ, ◌+◌, ◌*◌, ◌≤◌, ◌<◌, eqb, length};
 ghost use Rattle.rules.specs.Limits.{most_plots, most_members, family_bytes};
 ghost use Rattle.rules.specs.Factor.{Column, classes, infimum, supremum, finer, orthogonal};
 ghost use Rattle.factor.specs.Lent.{overlay};
@@ -22,13 +22,7 @@ fn told_finer(n: usize, a: u8, b: u8, word: u32, j: usize) -> bool
     requires { j < most_members }
     ensures { result ≡ told_finer n a b word j }
 {
-    if b == 1 {
-        return true;
-    }
-    if a as usize == n {
-        return true;
-    }
-    (word >> j) & 1 == 1
+    b == 1 || a as usize == n || (word >> j) & 1 == 1
 }
 
 // Notes that member `a` is finer than member `b`, and so than all that `b` is known to be finer than.
@@ -89,13 +83,7 @@ fn found_finer(
     if told_finer(n, a, b, word, j) {
         return true;
     }
-    if infima {
-        return false;
-    }
-    if a <= b {
-        return false;
-    }
-    if member_finer(store, n, i, j) {
+    if !infima && b < a && member_finer(store, n, i, j) {
         note_finer(above, i, j);
         return true;
     }
@@ -144,10 +132,7 @@ fn entry(mark: bool, q: usize) -> u8
     requires { q < most_members }
     ensures { result ≡ entry_of mark q }
 {
-    if mark {
-        return q as u8 + 1;
-    }
-    0
+    if mark { q as u8 + 1 } else { 0 }
 }
 
 // Combines two members under both operations, with a mark where numbers of classes are as for two that are orthogonal.
@@ -213,18 +198,14 @@ fn names_coarser(
     requires { (length counts.now ≡ most_members) × (length above.now ≡ most_members) × (size ≤ most_members) × (j < size) }
     ensures { result ≡ true → NamesCoarser n counts.now above.now size j entry }
 {
-    if entry == 0 {
+    let Some(q) = (entry as usize).checked_sub(1) else {
         return false;
-    }
-    let q = entry as usize - 1;
-    if size <= q {
-        return false;
-    }
-    told_finer(n, counts[j], counts[q], above[j], q)
+    };
+    q < size && told_finer(n, counts[j], counts[q], above[j], q)
 }
 
 // The entry of members `i` and `j`, where it follows from that of `i` and a member finer than `j`: a factor between one of two orthogonal
-// factors and their supremum is orthogonal to the other, with the same supremum. 0 where none is known.
+// factors and their supremum is orthogonal to the other, with the same supremum.
 fn known_entry(
     counts: &[u8; MEMBERS],
     marks: &[u8; PAIRS],
@@ -233,20 +214,17 @@ fn known_entry(
     n: usize,
     i: usize,
     j: usize,
-) -> u8
+) -> Option<u8>
     requires { (length counts.now ≡ most_members) × (length above.now ≡ most_members) × (size ≤ most_members) × (i < size) × (j < i) }
-    ensures { (store : List ℕ) → Held n store counts.now size → Known n store above.now size → Follows n store marks.now size i j result }
+    ensures { (store : List ℕ) → Held n store counts.now size → Known n store above.now size → IfSome result (Follows n store marks.now size i j) }
 {
-    for y in 0..j {
-        let word = above[y];
-        if (word >> j) & 1 == 1 {
-            let entry = marks[MEMBERS * i + y];
-            if names_coarser(counts, above, size, n, j, entry) {
-                return entry;
-            }
+    for (y, &word) in above[..j].iter().enumerate() {
+        let entry = marks[MEMBERS * i + y];
+        if (word >> j) & 1 == 1 && names_coarser(counts, above, size, n, j, entry) {
+            return Some(entry);
         }
     }
-    0
+    None
 }
 
 // Combines two members under supremum, by a walk where it does not follow from what is known.
@@ -264,8 +242,7 @@ fn combine_join(
     ensures kept { Advanced n store.new counts.new above.new size result }
     ensures step { (Gs : List Column) → Work n false Gs store.old counts.old marks.old size i j → Stepped n false Gs store.new counts.new marks.new result i (j + 1) }
 {
-    let known = known_entry(counts, marks, above, size, n, i, j);
-    if known != 0 {
+    if let Some(known) = known_entry(counts, marks, above, size, n, i, j) {
         marks[MEMBERS * i + j] = known;
         return Some(size);
     }

@@ -40,8 +40,8 @@ pub fn meet_members(
     ensures coarser { (i : ℕ) → i < size → (get_or counts.now i 0 ≡ n → ⊥) → Finer n (take n points.new) (column_at n store.now i) }
 {
     let mut m = 1;
-    for i in 0..size {
-        if counts[i] as usize != n {
+    for (i, &k) in counts[..size].iter().enumerate() {
+        if k as usize != n {
             m = meet_member(store, i, n, points);
         }
     }
@@ -53,11 +53,10 @@ fn gathered(store: &[u8], i: usize, n: usize, points: &[u8; PLOTS]) -> [u8; PLOT
     requires { (n ≤ most_plots) × (length store.now ≡ family_bytes) × (i < most_members) × Ranged n (take n points.now) × Finer n (take n points.now) (column_at n store.now i) }
     ensures { (length result ≡ most_plots) × (points_on_plots (take n points.now) result ≡ column_at n store.now i) }
 {
-    let at = PLOTS * i;
     let mut column = [0u8; PLOTS];
-    for u in 0..n {
+    for (u, &label) in member(store, i, n).iter().enumerate() {
         let x = points[u] as usize - 1;
-        column[x] = store[at + u];
+        column[x] = label;
     }
     column
 }
@@ -69,8 +68,8 @@ fn spread(own: &[u8], i: usize, n: usize, points: &[u8; PLOTS]) -> [u8; PLOTS]
 {
     let at = PLOTS * i;
     let mut column = [0u8; PLOTS];
-    for u in 0..n {
-        let x = points[u] as usize - 1;
+    for (u, &point) in points[..n].iter().enumerate() {
+        let x = point as usize - 1;
         column[u] = own[at + x];
     }
     column
@@ -103,10 +102,10 @@ pub fn gather_all(
     ensures { Gathered n m (take n points.now) (members_of n store.now size) own.new own_counts.new result }
 {
     let mut some = 0;
-    for i in 0..size {
-        if counts[i] as usize != n {
+    for (i, &k) in counts[..size].iter().enumerate() {
+        if k as usize != n {
             let column = gathered(store, i, n, points);
-            let p = place(own, own_counts, some, &column[..m], counts[i]);
+            let p = place(own, own_counts, some, &column[..m], k);
             some = grown(some, p);
         }
     }

@@ -5,7 +5,7 @@ ghost use Rattle.rules.specs.Factor.{number, uniform};
 ghost use Rattle.rules.specs.Family.{members_of};
 ghost use Rattle.rules.specs.Design.{within_limits, full_within_limits, first_failing};
 ghost use Rattle.design.specs.State.{column_at, marked};
-ghost use Rattle.design.specs.Search.{first_pair_of};
+ghost use Rattle.design.specs.Search.{first_pair_of, place_told};
 ghost use Rattle.design.specs.Treatments.{Numbered};
 
 use crate::closing::PAIRS;
@@ -24,19 +24,7 @@ pub struct Places {
 pub fn within(plots: usize, columns: usize, levels: usize, family: usize) -> bool
     ensures { result ≡ within_limits plots columns levels family }
 {
-    if plots < 1 {
-        return false;
-    }
-    if PLOTS < plots {
-        return false;
-    }
-    if COLUMNS < columns {
-        return false;
-    }
-    if levels < LEVELS {
-        return false;
-    }
-    FAMILY <= family
+    (1..=PLOTS).contains(&plots) && columns <= COLUMNS && LEVELS <= levels && FAMILY <= family
 }
 
 // 6 for the full design.
@@ -51,19 +39,10 @@ pub fn full_within(
 ) -> bool
     ensures { result ≡ full_within_limits plots plot_columns treatment_columns k levels plot_family treatment_family }
 {
-    if !within(plots, plot_columns, levels, plot_family) {
-        return false;
-    }
-    if COLUMNS < treatment_columns {
-        return false;
-    }
-    if k < 1 {
-        return false;
-    }
-    if INTERACTION < k {
-        return false;
-    }
-    FAMILY <= treatment_family
+    within(plots, plot_columns, levels, plot_family)
+        && treatment_columns <= COLUMNS
+        && (1..=INTERACTION).contains(&k)
+        && FAMILY <= treatment_family
 }
 
 // Whether the classes of member `i` have one size. They are not counted where the largest number tells it: one class, or a class for
@@ -74,26 +53,20 @@ fn member_uniform(family: &[u8], n: usize, i: usize) -> bool
 {
     let column = member(family, i, n);
     let k = largest(column);
-    if k == 1 {
-        return true;
-    }
-    if k as usize == n {
-        return true;
-    }
-    factor::uniform(column)
+    k == 1 || k as usize == n || factor::uniform(column)
 }
 
-// 9: the place of the first member whose classes have not one size; 0 where there is none.
-pub fn first_unequal(family: &[u8], n: usize, size: usize) -> usize
+// 9: the place, from 1, of the first member whose classes have not one size.
+pub fn first_unequal(family: &[u8], n: usize, size: usize) -> Option<usize>
     requires { (1 ≤ n) × (n ≤ most_plots) × Numbered n family.now size }
-    ensures { result ≡ first_failing (uniform n) 1 (members_of n family.now size) }
+    ensures { result ≡ place_told (first_failing (uniform n) 1 (members_of n family.now size)) }
 {
     for i in 0..size {
         if !member_uniform(family, n, i) {
-            return i + 1;
+            return Some(i + 1);
         }
     }
-    0
+    None
 }
 
 // Whether members `i` and `j`, in whichever order they were found, have the mark.
@@ -101,10 +74,7 @@ fn marked(marks: &[u8], i: usize, j: usize) -> bool
     requires { (length marks.now ≡ 1024) × (i < most_members) × (j < most_members) }
     ensures { result ≡ marked marks.now i j }
 {
-    if i < j {
-        return marks[MEMBERS * j + i] != 0;
-    }
-    marks[MEMBERS * i + j] != 0
+    marks[MEMBERS * i.max(j) + i.min(j)] != 0
 }
 
 // 10 and 12: the first pair of places whose members do not have the mark.

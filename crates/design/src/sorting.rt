@@ -6,8 +6,9 @@ ghost use Rattle.rules.specs.Factor.{classes};
 ghost use Rattle.rules.specs.Family.{Distinct, before, members_of, written};
 ghost use Rattle.design.specs.State.{column_at, Held, RankOf, Sorted};
 
+use crate::store::put;
 use families::member;
-use limits::{MEMBERS, PLOTS};
+use limits::MEMBERS;
 
 // Whether member `i` stands before member `j`.
 fn member_before(store: &[u8], counts: &[u8; MEMBERS], n: usize, i: usize, j: usize) -> bool
@@ -25,8 +26,8 @@ fn rank(store: &[u8], counts: &[u8; MEMBERS], order: &[u8; MEMBERS], n: usize, i
     requires { (i < most_members) × Held n store.now counts.now (i + 1) × ((p : ℕ) → p < i → get_or order.now p 0 < i) }
     ensures { RankOf n store.now order.now (column_at n store.now i) i result }
 {
-    for p in 0..i {
-        if member_before(store, counts, n, i, order[p] as usize) {
+    for (p, &other) in order[..i].iter().enumerate() {
+        if member_before(store, counts, n, i, other as usize) {
             return p;
         }
     }
@@ -38,11 +39,7 @@ fn insert(order: &mut [u8; MEMBERS], i: usize, p: usize)
     requires { (length order.old ≡ most_members) × (p ≤ i) × (i < most_members) }
     ensures { order.new ≡ take p order.old ++ i ∷ take (i - p) (drop p order.old) ++ drop (i + 1) order.old }
 {
-    let mut k = i;
-    while p < k {
-        order[k] = order[k - 1];
-        k -= 1;
-    }
+    order.copy_within(p..i, p + 1);
     order[p] = i as u8;
 }
 
@@ -64,11 +61,7 @@ fn copy_member(store: &[u8], n: usize, i: usize, p: usize, family: &mut [u8])
     requires { (n ≤ most_plots) × (length store.now ≡ family_bytes) × (i < most_members) × (p < most_members) × (family_bytes ≤ length family.old) }
     ensures { family.new ≡ paste family.old (most_plots * p) (column_at n store.now i) n }
 {
-    let from = PLOTS * i;
-    let to = PLOTS * p;
-    for u in 0..n {
-        family[to + u] = store[from + u];
-    }
+    put(family, p, member(store, i, n));
 }
 
 // Writes the members in their order to a family buffer.
@@ -76,7 +69,7 @@ pub fn write(store: &[u8], order: &[u8; MEMBERS], n: usize, size: usize, family:
     requires { (n ≤ most_plots) × (length store.now ≡ family_bytes) × (size ≤ most_members) × (family_bytes ≤ length family.old) × (length order.now ≡ most_members) × ((p : ℕ) → p < size → get_or order.now p 0 < most_members) }
     ensures { family.new ≡ written family.old 0 (map (λ (i : ℕ). column_at n store.now i) (take size order.now)) }
 {
-    for p in 0..size {
-        copy_member(store, n, order[p] as usize, p, family);
+    for (p, &i) in order[..size].iter().enumerate() {
+        copy_member(store, n, i as usize, p, family);
     }
 }

@@ -71,8 +71,7 @@ fn from_9(
     requires { Judging n size family.now order.now marks.now }
     ensures { plot_numbers result ≡ plot_numbers_of (question9 n (members_of n family.now size) (first_failing (uniform n) 1 (members_of n family.now size))) }
 {
-    let unequal = first_unequal(family, n, size);
-    if unequal != 0 {
+    if let Some(unequal) = first_unequal(family, n, size) {
         return Err(PlotRefusal {
             question: Refusal::ClassSizes,
             first: unequal,

@@ -3,12 +3,12 @@ use native.Mathlib.Nat.{le_refl}
 use Rattle.design.proofs.Work.{work_follows}
 use Rattle.design.proofs.closing.combine_join.Goals as goal
 
-pub known_entry-known-requires : goal.known_entry-known-requires
-known_entry-known-requires c = (c.requires.0.places, c.requires.3.words, c.requires.0.few, c.requires.1, c.requires.2)
+pub known_entry-requires : goal.known_entry-requires
+known_entry-requires c = (c.requires.0.places, c.requires.3.words, c.requires.0.few, c.requires.1, c.requires.2)
 
-pub returns-then-known-ne0 : goal.returns-then-known-ne0
-returns-then-known-ne0 c =
+pub returns-in-Some : goal.returns-in-Some
+returns-in-Some c =
     record {
       kept = (c.requires.0, le_refl _, c.requires.3);
-      step = λ Gs w. (work_follows w c.requires.1 c.requires.2 c.known_entry-known.result c.if-known-ne0.true (c.known_entry-known.ensures c.args.store.now c.requires.0 c.requires.3));
+      step = λ Gs w. work_follows w c.requires.1 c.requires.2 c.in-Some.known (c.in-Some.ensures c.args.store.now c.requires.0 c.requires.3);
     }

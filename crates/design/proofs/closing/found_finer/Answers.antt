@@ -1,31 +1,14 @@
 -- `found_finer` meets its contract: what is known is true, and so is what a walk shows.
-use mathlib.Core.Path.{refl, sym, ◌∙◌, subst}
+use mathlib.Core.Path.{sym, ◌∙◌, subst}
 use mathlib.Core.List.{List}
 use Prim.Native.Nat.{ℕ}
-use Rattle.rules.proofs.Members.{clash}
 use Rattle.rules.proofs.Classes.{finer_test}
 use Rattle.design.specs.State.{column_at, Known}
 use Rattle.design.proofs.KnownOrder.{told_order, known_noted}
 use Rattle.design.proofs.closing.found_finer.Goals as goal
 
-pub returns-then-told_finer : goal.returns-then-told_finer
-returns-then-told_finer c =
-    record {
-      finer = λ e. told_order c.requires.0 c.requires.1 c.requires.2 c.requires.3 (sym c.told_finer.ensures ∙ c.if-told_finer.true);
-      known = c.requires.3;
-    }
-
-pub returns-then-infima : goal.returns-then-infima
-returns-then-infima c = record {
-  finer = λ e. clash e refl;
-  known = c.requires.3;
-}
-
-pub returns-then-a-b : goal.returns-then-a-b
-returns-then-a-b c = record {
-  finer = λ e. clash e refl;
-  known = c.requires.3;
-}
+pub returns-then-told_finer-clause-finer : goal.returns-then-told_finer-clause-finer
+returns-then-told_finer-clause-finer c = λ e. told_order c.requires.0 c.requires.1 c.requires.2 c.requires.3 (sym c.told_finer.ensures ∙ c.if-told_finer.true)
 
 pub returns-then-member_finer : goal.returns-then-member_finer
 returns-then-member_finer c =
@@ -37,9 +20,3 @@ returns-then-member_finer c =
       finer = λ _. e;
       known = subst (λ (above : List ℕ). Known n store above c.args.size) (sym c.note_finer.ensures) k;
     }
-
-pub returns : goal.returns
-returns c = record {
-  finer = λ e. clash e refl;
-  known = c.requires.3;
-}

@@ -1,5 +1,5 @@
 -- `gather_all` meets its contract: after each turn the members looked at, but E, are gathered.
-use Prim.Native.Nat.{◌-◌, ◌≤◌}
+use Prim.Native.Nat.{◌≤◌}
 use lib.ListN.{take}
 use Rattle.rules.specs.Family.{members_of}
 use Rattle.design.specs.Points.{Gathered}
@@ -7,7 +7,4 @@ use Rattle.design.proofs.points.gather_all.Given as goal
 
 abbrev pub invariant-loop-i : goal.invariant-loop-i
 invariant-loop-i l =
-    (l.i ≤ l.size) × (l.some ≤ l.i) × Gathered l.n l.m (take l.n l.points) (take l.i (members_of l.n l.store l.size)) l.own l.own_counts l.some
-
-abbrev pub decreases-loop-i : goal.decreases-loop-i
-decreases-loop-i l = l.size - l.i
+    (l.some ≤ l.i) × Gathered l.n l.m (take l.n l.points) (take l.i (members_of l.n l.store l.size)) l.own l.own_counts l.some

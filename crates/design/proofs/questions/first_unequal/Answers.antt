@@ -1,4 +1,7 @@
-use mathlib.Core.Path.{◌≡◌, sym, ◌∙◌}
+use Rattle.std.specs.Prelude.{Some}
+use native.Mathlib.Numerals.{add-one}
+use Rattle.design.specs.Search.{place_told}
+use mathlib.Core.Path.{◌≡◌, sym, ap, ◌∙◌}
 use mathlib.Core.Bool.{Bool, true, false}
 use Prim.Native.Nat.{ℕ}
 use native.Mathlib.Omega.{arith}
@@ -22,7 +25,7 @@ returns-then-not-member_uniform c =
     let s = c.args in
     let t : ℕ → Bool = λ k. uniform s.n (column_at s.n s.family.now k) in
     let e : t c.loop-i.i ≡ false = sym c.member_uniform.ensures ∙ c.if-not-member_uniform.true in
-    sym (c.loop-i.invariant.1 ∙ from_here t c.loop-i.i s.size (omega arith) e)
+    ap Some (add-one c.loop-i.i) ∙ sym (ap place_told (c.loop-i.invariant.1 ∙ from_here t c.loop-i.i s.size (omega arith) e ∙ add-one c.loop-i.i))
 
 pub loop-i-preserved : goal.loop-i-preserved
 loop-i-preserved c =
@@ -35,4 +38,4 @@ pub returns : goal.returns
 returns c =
     let s = c.args in
     let t : ℕ → Bool = λ k. uniform s.n (column_at s.n s.family.now k) in
-    sym (c.loop-i.invariant.1 ∙ from_end t c.loop-i.i s.size (omega arith))
+    sym (ap place_told (c.loop-i.invariant.1 ∙ from_end t c.loop-i.i s.size (omega arith)))

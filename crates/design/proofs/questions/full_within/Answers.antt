@@ -1,40 +1,21 @@
 -- `full_within` meets its contract.
-use mathlib.Core.Path.{sym, ◌∙◌}
-use native.Mathlib.Omega.{arith}
-use borrow.Author.Tests.{lt-ltb, le-ltb, le-leb, lt-leb}
+use Rattle.std.proofs.Common.{arith}
+use Rattle.std.proofs.lemmas.Bool.Decides.{nat_tests}
 use Rattle.rules.specs.Design.{full_within_limits}
+use Rattle.design.proofs.Ranges.{in_range}
 use Rattle.design.proofs.questions.full_within.Goals as goal
+use Rattle.design.proofs.questions.full_within.Goals.{then-within, else-within, then-treatment_columns-le-COLUMNS, else-treatment_columns-le-COLUMNS}
 
-pub returns-then-not-within : goal.returns-then-not-within
+pub returns-then-contains : goal.returns-then-contains
 unfolding full_within_limits
-returns-then-not-within c =
-    let e = sym c.within.ensures ∙ c.if-not-within.true in
-    rw e
+returns-then-contains c = elim c.if-treatment_columns-le-COLUMNS.branch [
+  | then-treatment_columns-le-COLUMNS w ↦ let r = in_range w.contains.result 6 c.args.k (rw (w.new.ensures.exhausted, w.new.ensures.start, w.new.ensures.end) at w.contains.ensures.value) in grind (arith, nat_tests)
+  | else-treatment_columns-le-COLUMNS w ↦ elim c.if-within.branch [ then-within v ↦ grind (arith, nat_tests) | else-within v ↦ grind (arith, nat_tests) ]
+]
 
-pub returns-then-treatment_columns-gt-COLUMNS : goal.returns-then-treatment_columns-gt-COLUMNS
+pub returns-else-contains : goal.returns-else-contains
 unfolding full_within_limits
-returns-then-treatment_columns-gt-COLUMNS c =
-    let a = c.args in
-    let e = sym c.within.ensures ∙ c.if-not-within.false in
-    simp (e, lt-leb a.treatment_columns 6 (omega arith))
-
-pub returns-then-k-lt1 : goal.returns-then-k-lt1
-unfolding full_within_limits
-returns-then-k-lt1 c =
-    let a = c.args in
-    let e = sym c.within.ensures ∙ c.if-not-within.false in
-    simp (e, le-leb a.treatment_columns 6 (omega arith), le-ltb 0 a.k (omega arith))
-
-pub returns-then-k-gt-INTERACTION : goal.returns-then-k-gt-INTERACTION
-unfolding full_within_limits
-returns-then-k-gt-INTERACTION c =
-    let a = c.args in
-    let e = sym c.within.ensures ∙ c.if-not-within.false in
-    simp (e, le-leb a.treatment_columns 6 (omega arith), lt-ltb 0 a.k (omega arith), lt-leb a.k 6 (omega arith))
-
-pub returns : goal.returns
-unfolding full_within_limits
-returns c =
-    let a = c.args in
-    let e = sym c.within.ensures ∙ c.if-not-within.false in
-    simp (e, le-leb a.treatment_columns 6 (omega arith), lt-ltb 0 a.k (omega arith), le-leb a.k 6 (omega arith))
+returns-else-contains c = elim c.if-treatment_columns-le-COLUMNS.branch [
+  | then-treatment_columns-le-COLUMNS w ↦ let r = in_range w.contains.result 6 c.args.k (rw (w.new.ensures.exhausted, w.new.ensures.start, w.new.ensures.end) at w.contains.ensures.value) in grind (arith, nat_tests)
+  | else-treatment_columns-le-COLUMNS w ↦ elim c.if-within.branch [ then-within v ↦ grind (arith, nat_tests) | else-within v ↦ grind (arith, nat_tests) ]
+]

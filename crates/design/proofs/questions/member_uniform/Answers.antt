@@ -2,6 +2,7 @@
 use mathlib.Core.Path.{◌≡◌, sym, ap, ◌∙◌}
 use Prim.Native.Nat.{ℕ}
 use native.Mathlib.Omega.{arith}
+use borrow.Author.Tests.{eqb-true}
 use lib.ListN.{length}
 use Rattle.rules.specs.Factor.{Column, classes, uniform}
 use Rattle.rules.proofs.Uniform.{uniform_one, uniform_each}
@@ -12,7 +13,7 @@ use Rattle.factor.proofs.Lent.{length_part}
 use Rattle.factor.proofs.LargestLabel.{largest_classes}
 use Rattle.design.proofs.Asked.{uniform_part}
 use Rattle.design.proofs.questions.member_uniform.Goals as goal
-use Rattle.design.proofs.questions.member_uniform.Goals.{After-largest-k}
+use Rattle.design.proofs.questions.member_uniform.Goals.{After-largest-k, then-k-eq1, else-k-eq1}
 
 -- what is known of the member
 module _ (c : After-largest-k) where
@@ -28,17 +29,15 @@ module _ (c : After-largest-k) where
   counted : c.largest-k.result ≡ classes F
   counted = c.largest-k.ensures ∙ ap largest c.member-column.ensures ∙ largest_classes F c.requires.4
 
-pub returns-then-k-eq1 : goal.returns-then-k-eq1
-returns-then-k-eq1 c =
-    let l = (goal.at.returns-then-k-eq1 c).After-largest-k in
-    sym (uniform_one (n l) (F l) (long l) l.requires.0 (sym (counted l) ∙ c.if-k-eq1.true))
-
 pub returns-then-k-n : goal.returns-then-k-n
 returns-then-k-n c =
     let l = (goal.at.returns-then-k-n c).After-largest-k in
-    sym (uniform_each (n l) (F l) (long l) (sym (counted l) ∙ c.if-k-n.true))
+    elim c.if-k-eq1.branch [
+      | then-k-eq1 w ↦ c.if-k-n.true ∙ sym (uniform_one (n l) (F l) (long l) l.requires.0 (sym (counted l) ∙ w.if-k-eq1.true))
+      | else-k-eq1 w ↦ c.if-k-n.true ∙ sym (uniform_each (n l) (F l) (long l) (sym (counted l) ∙ eqb-true _ _ (sym w.value-is ∙ c.if-k-n.true)))
+    ]
 
-pub returns : goal.returns
-returns c =
-    let l = (goal.at.returns c).After-largest-k in
+pub returns-else-k-n : goal.returns-else-k-n
+returns-else-k-n c =
+    let l = (goal.at.returns-else-k-n c).After-largest-k in
     c.uniform.ensures ∙ ap (λ (X : Column). uniform (length (plots_of X)) (plots_of X)) l.member-column.ensures ∙ uniform_part (n l) (F l) c.requires.1 (long l)

@@ -1,33 +1,24 @@
 -- `within` meets its contract.
-use native.Mathlib.Omega.{arith}
-use borrow.Author.Tests.{lt-ltb, le-ltb, le-leb, lt-leb}
+use Rattle.std.proofs.Common.{arith}
+use Rattle.std.proofs.lemmas.Bool.Decides.{nat_tests}
 use Rattle.rules.specs.Design.{within_limits, plots_within}
+use Rattle.design.proofs.Ranges.{in_range}
 use Rattle.design.proofs.questions.within.Goals as goal
+use Rattle.design.proofs.questions.within.Goals.{then-contains, else-contains, then-columns-le-COLUMNS, else-columns-le-COLUMNS}
 
-pub returns-then-plots-lt1 : goal.returns-then-plots-lt1
+pub returns-then-levels-ge-LEVELS : goal.returns-then-levels-ge-LEVELS
 unfolding within_limits plots_within
-returns-then-plots-lt1 c = simp (le-ltb 0 c.args.plots (omega arith))
+returns-then-levels-ge-LEVELS c =
+    let r = in_range c.contains.result 240 c.args.plots (rw (c.new.ensures.exhausted, c.new.ensures.start, c.new.ensures.end) at c.contains.ensures.value) in
+    let t = c.if-levels-ge-LEVELS.true in
+    grind (arith, nat_tests)
 
-pub returns-then-plots-gt-PLOTS : goal.returns-then-plots-gt-PLOTS
+pub returns-else-levels-ge-LEVELS : goal.returns-else-levels-ge-LEVELS
 unfolding within_limits plots_within
-returns-then-plots-gt-PLOTS c =
-    let a = c.args in
-    simp (lt-ltb 0 a.plots (omega arith), lt-leb a.plots 240 (omega arith))
-
-pub returns-then-columns-gt-COLUMNS : goal.returns-then-columns-gt-COLUMNS
-unfolding within_limits plots_within
-returns-then-columns-gt-COLUMNS c =
-    let a = c.args in
-    simp (lt-ltb 0 a.plots (omega arith), le-leb a.plots 240 (omega arith), lt-leb a.columns 6 (omega arith))
-
-pub returns-then-levels-lt-LEVELS : goal.returns-then-levels-lt-LEVELS
-unfolding within_limits plots_within
-returns-then-levels-lt-LEVELS c =
-    let a = c.args in
-    simp (lt-ltb 0 a.plots (omega arith), le-leb a.plots 240 (omega arith), le-leb a.columns 6 (omega arith), lt-leb 2880 a.levels (omega arith))
-
-pub returns : goal.returns
-unfolding within_limits plots_within
-returns c =
-    let a = c.args in
-    simp (lt-ltb 0 a.plots (omega arith), le-leb a.plots 240 (omega arith), le-leb a.columns 6 (omega arith), le-leb 2880 a.levels (omega arith))
+returns-else-levels-ge-LEVELS c =
+    let r = in_range c.contains.result 240 c.args.plots (rw (c.new.ensures.exhausted, c.new.ensures.start, c.new.ensures.end) at c.contains.ensures.value) in
+    let t = c.if-levels-ge-LEVELS.either in
+    elim c.if-columns-le-COLUMNS.branch [
+      | then-columns-le-COLUMNS w ↦ grind (arith, nat_tests)
+      | else-columns-le-COLUMNS w ↦ elim c.if-contains.branch [ then-contains v ↦ grind (arith, nat_tests) | else-contains v ↦ grind (arith, nat_tests) ]
+    ]
