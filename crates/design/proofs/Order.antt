@@ -16,8 +16,8 @@ use Prim.Native.Nat.{ℕ, zero, suc, ◌+◌, ◌*◌, ◌-◌, ◌≤◌, ◌<�
 use native.Mathlib.Nat.{not-suc-le-zero, le_of_suc-le-suc, le_of_lt, le_of_eq, lt_of_lt_of_le, sub-zero, zero-add, add-zero}
 use native.Mathlib.Numerals.{add-one}
 use native.Mathlib.Omega.{arith}
-use lib.ListN.{length, get_or, take, drop, set, length-drop, length-append, get_or-append, take-append-drop}
-use lib.Seq.{take-suc, drop-cons, append_snoc, set_at, length-take-le, get_or-take, take_at, take-take, take_all, paste}
+use lib.ListN.{length, get_or, take, drop, set, length-drop, length-append}
+use lib.Seq.{take-suc, append_snoc, set_at, length-take-le, get_or-take, take_at, take-take, take_all, paste}
 use Rattle.design.specs.State.{column_at, Held, RankOf, Sorted}
 
 -- ---- entries shifted to make room

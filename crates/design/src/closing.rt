@@ -10,9 +10,6 @@ use families::member;
 use limits::{MEMBERS, PLOTS};
 use standing::{Bounds, Crossing};
 
-// The size of a final treatment family that would have more members than it may.
-pub const TOO_MANY: usize = 33;
-
 // The cells of a table with a row of 32 places for each member.
 pub const PAIRS: usize = 1024;
 

@@ -11,7 +11,7 @@ ghost use Rattle.design.specs.Treatments.{Numbered};
 ghost use Rattle.design.specs.Answers.{plot_numbers, plot_numbers_of, full_numbers, full_numbers_of, full_refusing};
 
 use crate::closed::ClosedFamily;
-use crate::closing::{PAIRS, TOO_MANY};
+use crate::closing::PAIRS;
 use crate::crossing::{Crossed, cross};
 use crate::questions::{Places, first_apart, first_unequal};
 use crate::sorting::{sort, write};

@@ -5,7 +5,7 @@ use lib.ListN.{length, get_or, take}
 use lib.Seq.{take_all, length-take-le, get_or-take}
 use Rattle.rules.specs.Factor.{Column, classes, equality}
 use Rattle.rules.specs.Family.{members_of}
-use Rattle.rules.proofs.ClassCount.{classes_most, each_class_is}
+use Rattle.rules.proofs.ClassCount.{each_class_is}
 use Rattle.design.specs.State.{column_at}
 use Rattle.design.specs.Points.{points_on_plots}
 use Rattle.design.proofs.Start.{held_on, placed_on, after_placed}

@@ -5,7 +5,6 @@ use Prim.Native.Nat.{ℕ, ◌*◌}
 use native.Mathlib.Omega.{arith}
 use lib.ListN.{length}
 use lib.Seq.{paste}
-use Rattle.design.specs.State.{column_at}
 use Rattle.factor.proofs.Lent.{length_part}
 use Rattle.design.proofs.sorting.copy_member.Goals as goal
 use Rattle.design.proofs.sorting.copy_member.Goals.{After-member}
