@@ -293,6 +293,7 @@ fn combine_row(
     ensures step { (Gs : List Column) → Work n infima Gs store.old counts.old marks.old size i 0 → Stepped n infima Gs store.new counts.new marks.new result i i }
 {
     let mut now = size;
+    // `j` is a member's place: what is combined is read from the store, which grows meanwhile, so that no slice of it can be lent to the loop.
     for j in 0..i {
         now = combine(store, counts, marks, above, now, n, infima, i, j)?;
     }
@@ -316,6 +317,7 @@ pub fn close(
     let mut above = [0u32; MEMBERS];
     let mut now = size;
     let mut i = from;
+    // Members that are added on the way have their turn too: no range that is fixed before the walk has them all.
     while i < now {
         now = combine_row(store, counts, marks, &mut above, now, n, infima, i)?;
         i += 1;
@@ -337,6 +339,7 @@ pub fn close_or_grow(
     ensures grows { (Gs : List Column) → Work n false Gs store.old counts.old marks.old size 0 0 → Grows n Gs store.new counts.new marks.new size result }
 {
     let mut above = [0u32; MEMBERS];
+    // As above, `i` is a place in a store that may grow.
     for i in 0..size {
         let now = combine_row(store, counts, marks, &mut above, size, n, false, i)?;
         if now != size {

@@ -60,6 +60,7 @@ pub fn place_plot_columns(
     ensures { Begun n (plot_generators n (columns_from n levels.now 0 c)) store.new counts.new result }
 {
     let mut size = place_extremes(store, counts, n);
+    // `j` is the number of a column of the level table, which is lent whole.
     for j in 0..c {
         size = place_column(levels, j, store, counts, size, n);
     }

@@ -81,6 +81,7 @@ pub fn spread_all(own: &[u8], size: usize, n: usize, points: &[u8; PLOTS], store
     ensures room { length store.new ≡ family_bytes }
     ensures members { (i : ℕ) → i < size → column_at n store.new i ≡ points_on_plots (take n points.now) (column_at most_plots own.now i) }
 {
+    // `i` is a member's place in both stores.
     for i in 0..size {
         let column = spread(own, i, n, points);
         put(store, i, &column[..n]);

@@ -61,6 +61,7 @@ pub fn first_unequal(family: &[u8], n: usize, size: usize) -> Option<usize>
     requires { (1 ≤ n) × (n ≤ most_plots) × Numbered n family.now size }
     ensures { result ≡ place_told (first_failing (uniform n) 1 (members_of n family.now size)) }
 {
+    // `i` is a member's place: the family buffer has more bytes than those of its members' plots.
     for i in 0..size {
         if !member_uniform(family, n, i) {
             return Some(i + 1);

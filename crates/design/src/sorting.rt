@@ -49,6 +49,7 @@ pub fn sort(store: &[u8], counts: &[u8; MEMBERS], n: usize, size: usize) -> [u8;
     ensures { Sorted (members_of n store.now size) result }
 {
     let mut order = [0u8; MEMBERS];
+    // `i` is the member that is put among those before it, which `order` has so far.
     for i in 0..size {
         let p = rank(store, counts, &order, n, i);
         insert(&mut order, i, p);
