@@ -8,9 +8,9 @@ use Rattle.rules.specs.Limits.{most_plots}
 use Rattle.rules.specs.Factor.{at, number, classes}
 use Rattle.rules.proofs.Numbering.{length_number}
 use Rattle.factor.proofs.Fill.{filled_step}
-use Rattle.numbering.specs.Seen.{class_numbers, bucket_of, look, look_up, found}
+use Rattle.numbering.specs.Seen.{bucket_of, look, found}
 use Rattle.numbering.proofs.Written.{walked, walked_plots, filled_number}
-use Rattle.numbering.proofs.Chain.{bucket_less, found_is, found_none, Seen, seen_is, seen_none, seen_old, seen_new}
+use Rattle.numbering.proofs.Chain.{found_is, found_none, Seen, seen_is, seen_none, seen_old, seen_new}
 use Rattle.numbering.proofs.number_levels.Goals as goal
 use Rattle.numbering.proofs.number_levels.Goals.{Joined-look_up, in-Some, in-None}
 
@@ -18,49 +18,45 @@ use Rattle.numbering.proofs.number_levels.Goals.{Joined-look_up, in-Some, in-Non
 stepped : (c : Joined-look_up)
     → let b = c.before in
     let levels = b.args.levels.now in
-    Seen levels (b.loop-u.u + 1) c.match-look_up.labels c.match-look_up.chain c.match-look_up.last c.match-look_up.k
-    × (c.match-look_up.c ≡ at (number levels) b.loop-u.u) × (c.match-look_up.c ≤ b.loop-u.k + 1) × (c.match-look_up.k ≤ b.loop-u.k + 1)
+    let new = c.match-look_up.classes in
+    Seen levels (b.loop-u.u + 1) new.labels new.chain new.last new.count
+    × (c.match-look_up.c ≡ at (number levels) b.loop-u.u) × (c.match-look_up.c ≤ b.loop-u.classes.count + 1) × (new.count ≤ b.loop-u.classes.count + 1)
 stepped c =
     let b = c.before in
     let levels = b.args.levels.now in
     let u = b.loop-u.u in
-    let labels = b.loop-u.labels in
-    let chain = b.loop-u.chain in
-    let last = b.loop-u.last in
-    let k = b.loop-u.k in
+    let labels = b.loop-u.classes.labels in
+    let chain = b.loop-u.classes.chain in
+    let last = b.loop-u.classes.last in
+    let k = b.loop-u.classes.count in
     let n = b.common_plots-n.result in
     let part : length (take n levels) ≡ n = length-take-le n levels (omega arith) in
     let h : u < length levels = omega (arith, part) in
     let few : k < most_plots = omega (arith, part) in
     let item : get_or (take n levels) u 0 ≡ at levels u = get_or-take n levels u 0 (omega (arith, part)) in
-    let e : c.bucket-b.result ≡ bucket_of (at levels u) = c.bucket-b.ensures ∙ ap bucket_of item in
-    let told : c.look_up.result ≡ found (look labels chain last (at levels u)) =
-    c.look_up.ensures ∙ ap (λ (y : ℕ). found (look_up labels chain y class_numbers (get_or last c.bucket-b.result 0))) item
-    ∙ ap (λ (i : ℕ). found (look_up labels chain (at levels u) class_numbers (get_or last i 0))) e in
+    let told : c.look_up.result ≡ found (look labels chain last (at levels u)) = c.look_up.ensures ∙ ap (λ (y : ℕ). found (look labels chain last y)) item in
     elim c.match-look_up.branch [
-      | in-None w ↦ let t = seen_new levels u labels chain last k b.loop-u.invariant.3 h few (found_none _ (sym w.in-None.is ∙ told)) in (
-        seen_is levels (u + 1) (w.labels-is ∙ ap (set labels (k + 1)) item) (w.chain-is ∙ ap (λ (i : ℕ). set chain (k + 1) (get_or last i 0)) e) (w.last-is ∙ ap (λ (i : ℕ). set last i (k + 1)) e) w.k-is t.0,
-        w.c-is ∙ t.1,
-        omega (arith, w.c-is),
-        omega (arith, w.k-is),
-      )
-      | in-Some w ↦ let f = found_is w.in-Some.c _ (sym w.in-Some.is ∙ told) in
-          let t = seen_old levels u labels chain last k b.loop-u.invariant.3 h f.1 in (
-            seen_is levels (u + 1) w.labels-is w.chain-is w.last-is w.k-is t.0,
-            w.c-is ∙ sym f.0 ∙ t.1,
-            omega (arith, w.c-is, f.0, t.2),
-            omega (arith, w.k-is),
+      | in-None w ↦ let t = seen_new levels u labels chain last k b.loop-u.invariant.3 h few (found_none _ (sym w.in-None.is ∙ told)) in
+          let e = w.add-c.ensures in
+          rw (w.classes-is, w.c-is) (
+            seen_is levels (u + 1)
+                (e.labels ∙ ap (λ (y : ℕ). set labels (k + 1) y) item)
+                (e.chain ∙ ap (λ (y : ℕ). set chain (k + 1) (get_or last (bucket_of y) 0)) item)
+                (e.last ∙ ap (λ (y : ℕ). set last (bucket_of y) (k + 1)) item) e.count t.0,
+            e.number ∙ t.1,
+            omega (arith, e.number),
+            omega (arith, e.count),
           )
+      | in-Some w ↦ let f = found_is w.in-Some.c _ (sym w.in-Some.is ∙ told) in
+          let t = seen_old levels u labels chain last k b.loop-u.invariant.3 h f.1 in
+          rw (w.classes-is, w.c-is) (t.0, sym f.0 ∙ t.1, omega (arith, f.0, t.2), omega arith)
     ]
+
+pub invariant_of-classes : goal.invariant_of-classes
+invariant_of-classes c = let none = seen_none c.args.levels.now in record { few = omega arith; chained = none.chained }
 
 pub loop-u-init : goal.loop-u-init
 loop-u-init c = (omega arith, refl, search rules, seen_none c.args.levels.now)
-
-pub bounds-last-b : goal.bounds-last-b
-bounds-last-b c = rw c.bucket-b.ensures (bucket_less _)
-
-pub bounds-last-b-in-None : goal.bounds-last-b-in-None
-bounds-last-b-in-None c = rw c.bucket-b.ensures (bucket_less _)
 
 pub overflow_cast-room : goal.overflow_cast-room
 overflow_cast-room c =

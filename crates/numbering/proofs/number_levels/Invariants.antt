@@ -10,4 +10,5 @@ use Rattle.numbering.proofs.number_levels.Given as goal
 
 abbrev pub invariant-loop-u : goal.invariant-loop-u
 invariant-loop-u l =
-    (l.k ≤ l.u) × (l.room ≡ filled l.initial.room (number l.levels) l.u) × (length l.room ≡ most_plots) × Seen l.levels l.u l.labels l.chain l.last l.k
+    (l.classes.count ≤ l.u) × (l.room ≡ filled l.initial.room (number l.levels) l.u) × (length l.room ≡ most_plots)
+    × Seen l.levels l.u l.classes.labels l.classes.chain l.classes.last l.classes.count
