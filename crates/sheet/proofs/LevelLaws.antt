@@ -1,157 +1,140 @@
--- Laws of a walk over one level.
+-- Laws of a level, digit by digit, and of a level at hand in a text.
 -- Assumes nothing.
-use mathlib.Core.Path.{◌≡◌, sym, ap, ◌∙◌}
-use mathlib.Core.Bool.{true, false, ◌||◌}
+use mathlib.Core.Path.{◌≡◌, refl, sym, ap, ◌∙◌}
+use mathlib.Core.Bool.{true, false}
 use mathlib.Core.List.{List, [], ◌∷◌}
-use Prim.Native.Nat.{ℕ, suc, ◌+◌, ◌-◌, ◌*◌, ◌≤◌, ◌<◌}
+use Prim.Native.Nat.{ℕ, zero, suc, ◌+◌, ◌-◌, ◌*◌, ◌≤◌, ◌<◌}
 use native.Mathlib.Omega.{arith}
-use lib.Dec.{eqb, leb}
-use lib.ListN.{length, get_or, drop}
-use borrow.Author.Tests.{ne_eqb, eqb-true, eqb-false, lt-leb, le-leb}
+use native.Mathlib.Nat.{not-suc-le-zero}
+use native.Mathlib.Numerals.{add-one}
+use lib.Dec.{eqb}
+use lib.ListN.{length, get_or, drop, drop_of_length-le}
+use lib.Seq.{drop-cons}
+use borrow.Author.Tests.{ne_eqb, eq-eqb, eqb-true, eqb-false}
+use Rattle.std.specs.Prelude.{Some, None}
 use Rattle.rules.specs.Sheet.{all, digit, decimal, decimal_from, no_leading_zero, is_level}
 use Rattle.rules.specs.Limits.{most_level}
 use Rattle.rules.proofs.Numbering.{by_cases}
-use Rattle.rules.proofs.Sheet.{and_false, decimal_grows, level_leading, level_digit, level_large, level_none, level_is}
-use Rattle.sheet.specs.Walk.{field_of, no_level, level_there, level_end, level_then}
+use Rattle.rules.proofs.Sheet.{decimal_grows, level_leading, level_digit, level_large, level_none, level_is}
+use Rattle.sheet.specs.Walk.{field_of, level_of, level_there, level_then}
 use Rattle.sheet.specs.declared.field.FieldLevel.{FieldLevel}
-use Rattle.sheet.proofs.Walk.{field_none, field_tab, field_newline, field_stop, field_on}
-use Rattle.sheet.proofs.RowLaws.{level_end_at, level_end_off, level_bad, level_far, level_other, level_good}
 
 -- ---- what is answered
 
+pub level_of_no : (f : List ℕ) → is_level most_level f ≡ false → level_of f ≡ None
+unfolding level_of
+level_of_no f e = rw (e, level_of)
+
+pub level_of_yes : (f : List ℕ) → is_level most_level f ≡ true → level_of f ≡ Some (decimal f)
+unfolding level_of
+level_of_yes f e = rw (e, level_of)
+
+pub level_of_none : (f : List ℕ) → None ≡ level_of f → is_level most_level f ≡ false
+level_of_none f n = by_cases (is_level most_level f) (λ c. let y = level_of_yes f c in cc) (λ c. c)
+
+pub level_of_some : (f : List ℕ) (v : ℕ) → Some v ≡ level_of f → (is_level most_level f ≡ true) × (v ≡ decimal f)
+level_of_some f v e = by_cases (is_level most_level f) (λ c. (c, (let y = level_of_yes f c in cc))) (λ c. let n = level_of_no f c in cc)
+
 module _ (s at : ℕ) (xs : List ℕ) where
-  then_off : level_there s xs ≡ false → level_then s at xs ≡ no_level
+  pub then_off : level_there s xs ≡ false → level_then s at xs ≡ None
   unfolding level_then
   then_off e = rw (e, level_then)
 
-  then_bad : is_level most_level (field_of xs) ≡ false → level_then s at xs ≡ no_level
-  then_bad e = then_off (level_bad s at xs e)
-
-  then_on : level_there s xs ≡ true → level_then s at xs ≡ record { end = at + suc (length (field_of xs)); level = decimal (field_of xs) }
+  pub then_on : level_there s xs ≡ true → level_then s at xs ≡ Some (record { end = at + suc (length (field_of xs)); level = decimal (field_of xs) })
   unfolding level_then
   then_on e = rw (e, level_then)
 
-  module _ (r : FieldLevel) (e : r ≡ level_then s at xs) where
-    pub then_end : r.end ≡ level_end s at xs
-    then_end =
-        by_cases (level_there s xs)
-        (λ l. ap (λ (r : FieldLevel). r.end) (e ∙ then_on l) ∙ sym (level_end_at s at xs l))
-        (λ l. ap (λ (r : FieldLevel). r.end) (e ∙ then_off l) ∙ sym (level_end_off s at xs l))
+  pub then_none : None ≡ level_then s at xs → level_there s xs ≡ false
+  then_none n = by_cases (level_there s xs) (λ c. let y = then_on c in cc) (λ c. c)
 
-    pub then_number : level_there s xs ≡ true → r.level ≡ decimal (field_of xs)
-    then_number l = ap (λ (r : FieldLevel). r.level) (e ∙ then_on l)
+  -- what a level at hand tells
+  pub record There (r : FieldLevel) : Type 0 where
+    pub is : level_there s xs ≡ true
+    pub next : r.end ≡ at + suc (length (field_of xs))
+    pub number : r.level ≡ decimal (field_of xs)
 
--- ---- the first byte of a level is a digit from 1 on
+  pub then_some : (r : FieldLevel) → Some r ≡ level_then s at xs → There r
+  then_some r e = by_cases (level_there s xs) (λ c. let y = then_on c in record { is = c; next = cc; number = cc }) (λ c. let n = then_off c in cc)
 
-pub none_left : (s : ℕ) (text : List ℕ) (start : ℕ) → length text ≤ start → level_then s start (drop start text) ≡ no_level
-none_left s text start h = then_off s start (drop start text) (level_far text start start s (let e = ap length (field_none text start h) in omega arith) h)
+-- ---- the first byte
 
-module _ (s : ℕ) (text : List ℕ) (start : ℕ) (h : start < length text) where
-  pub first_low : get_or text start 0 < 49 → level_then s start (drop start text) ≡ no_level
-  unfolding all no_leading_zero decimal_from
-  first_low l =
-      then_bad s start (drop start text)
-      (by_cases (eqb (get_or text start 0) 9)
-      (λ e. level_none most_level (field_of (drop start text)) (rw (field_tab text start h (eqb-true _ _ e))))
-      (λ e. by_cases (eqb (get_or text start 0) 10)
-      (λ k. level_none most_level (field_of (drop start text)) (rw (field_newline text start h (eqb-true _ _ k))))
-      (λ k. by_cases (eqb (get_or text start 0) 48)
-      (λ z. level_leading most_level (field_of (drop start text)) (rw (field_on text start h (eqb-false _ _ e) (eqb-false _ _ k), z)))
-      (λ z. let y = eqb-false (get_or text start 0) 48 z in
-      level_digit most_level (field_of (drop start text)) (rw (field_on text start h (eqb-false _ _ e) (eqb-false _ _ k), lt-leb 48 (get_or text start 0) (omega arith)))))))
+never : (k : ℕ) → suc k ≡ 0 → ⊥
+never k e = omega arith
 
-  pub first_high : 57 < get_or text start 0 → level_then s start (drop start text) ≡ no_level
-  unfolding all
-  first_high l =
-      then_bad s start (drop start text)
-      (level_digit most_level (field_of (drop start text)) (rw (field_on text start h (λ e. omega arith) (λ e. omega arith), lt-leb (get_or text start 0) 57 l, and_false (leb 48 (get_or text start 0)))))
+first_zero : (f : List ℕ) (i : ℕ) → i ≡ 0 → i < length f → get_or f i 0 ≡ 48 → no_leading_zero f ≡ false
+unfolding no_leading_zero
+first_zero [] i z h e = absurd (not-suc-le-zero h)
+first_zero (x ∷ xs) zero z h e = rw (eq-eqb x 48 e)
+first_zero (x ∷ xs) (suc i) z h e = absurd (never i z)
 
--- ---- a walk over the field from `start` on, which starts as a level does: v is read, and the field from `at` on is left
+first_other : (f : List ℕ) (i : ℕ) → i ≡ 0 → i < length f → (get_or f i 0 ≡ 48 → ⊥) → no_leading_zero f ≡ true
+unfolding no_leading_zero
+first_other [] i z h n = absurd (not-suc-le-zero h)
+first_other (x ∷ xs) zero z h n = rw (ne_eqb x 48 n)
+first_other (x ∷ xs) (suc i) z h n = absurd (never i z)
 
-pub record Digits (text : List ℕ) (start at v : ℕ) : Type 0 where
-  pub leading : no_leading_zero (field_of (drop start text)) ≡ true
-  pub some : 1 ≤ v
-  pub size : at + length (field_of (drop at text)) ≡ start + length (field_of (drop start text))
-  pub digits : all digit (field_of (drop at text)) ≡ all digit (field_of (drop start text))
-  pub number : decimal_from v (field_of (drop at text)) ≡ decimal (field_of (drop start text))
+-- ---- a walk over a field: v is read before place i
 
-pub digits_start : (text : List ℕ) (start : ℕ) → start < length text → 49 ≤ get_or text start 0 → get_or text start 0 ≤ 57 → Digits text start (start + 1) (get_or text start 0 - 48)
-unfolding all no_leading_zero decimal_from
-digits_start text start h low high =
-    let x = get_or text start 0 in
-    let f = field_on text start h (λ e. omega arith) (λ e. omega arith) in
-    let n : decimal (field_of (drop start text)) ≡ decimal_from (10 * 0 + (x - 48)) (field_of (drop (start + 1) text)) = rw f in
-    let z : 10 * 0 + (x - 48) ≡ x - 48 = omega arith in
-    record {
-      leading = rw (f, ne_eqb x 48 (λ e. omega arith));
-      some = omega arith;
-      size = omega (arith, ap length f);
-      digits = sym (rw (f, le-leb 48 x (omega arith), le-leb x 57 high));
-      number = sym (rw z at n);
-    }
+pub record Digits (f : List ℕ) (i v : ℕ) : Type 0 where
+  pub few : v ≤ most_level
+  pub none : i ≡ 0 → v ≡ 0
+  pub some : v ≡ 0 → i ≡ 0
+  pub leading : (i ≡ 0 → ⊥) → no_leading_zero f ≡ true
+  pub digits : all digit (drop i f) ≡ all digit f
+  pub number : decimal_from v (drop i f) ≡ decimal f
 
-module _ (text : List ℕ) (start at v s : ℕ) (d : Digits text start at v) where
-  -- the field ends here
-  ended : field_of (drop at text) ≡ [] → at ≡ start + length (field_of (drop start text))
-  ended e = omega (arith, d.size, ap length e)
+pub digits_start : (f : List ℕ) → Digits f 0 0
+digits_start f = record { few = omega arith; none = λ e. refl; some = λ e. refl; leading = λ n. absurd (n refl); digits = refl; number = refl }
 
-  read : field_of (drop at text) ≡ [] → v ≡ decimal (field_of (drop start text))
-  unfolding decimal_from
-  read e = rw e at d.number
+module _ (f : List ℕ) (i v : ℕ) (d : Digits f i v) where
+  -- the field ends
+  module _ (h : length f ≤ i) where
+    read : v ≡ decimal f
+    unfolding decimal_from
+    read = rw (drop_of_length-le f h) at d.number
 
-  -- the text ends too
-  pub digits_out : length text ≤ at → level_then s start (drop start text) ≡ no_level
-  digits_out h = then_off s start (drop start text) (level_far text start at s (ended (field_none text at h)) h)
+    pub digits_none : v < 1 → level_of f ≡ None
+    digits_none l = level_of_no f (level_none most_level f (let e = read in omega arith))
 
-  -- the number is too large already
-  pub digits_large : most_level < v → level_then s start (drop start text) ≡ no_level
-  digits_large l =
-      then_bad s start (drop start text) (level_large most_level (field_of (drop start text)) (omega (arith, d.number, decimal_grows v (field_of (drop at text)))))
-
-  module _ (h : at < length text) where
-    -- it goes on with a byte that is no digit
-    stray : (get_or text at 0 ≡ 9 → ⊥) → (get_or text at 0 ≡ 10 → ⊥) → digit (get_or text at 0) ≡ false → level_then s start (drop start text) ≡ no_level
+    pub digits_end : 1 ≤ v → level_of f ≡ Some v
     unfolding all
-    stray p q b = then_bad s start (drop start text) (level_digit most_level (field_of (drop start text)) (sym d.digits ∙ rw (field_on text at h p q, b)))
+    digits_end l =
+        let a : all digit f ≡ true = sym d.digits ∙ rw (drop_of_length-le f h) in
+        let e = read in
+        let n : i ≡ 0 → ⊥ = λ z. (let k = d.none z in omega arith) in
+        level_of_yes f (level_is most_level f (d.leading n) a (omega arith) (omega (arith, d.few))) ∙ ap (λ (k : ℕ). Some k) (sym e)
 
-    pub digits_low : get_or text at 0 < 48 → (get_or text at 0 ≡ s → ⊥) → level_then s start (drop start text) ≡ no_level
-    digits_low l n =
-        by_cases (eqb (get_or text at 0) 9)
-        (λ e. then_off s start (drop start text) (level_other text start at s (ended (field_tab text at h (eqb-true _ _ e))) n))
-        (λ e. by_cases (eqb (get_or text at 0) 10)
-        (λ k. then_off s start (drop start text) (level_other text start at s (ended (field_newline text at h (eqb-true _ _ k))) n))
-        (λ k. stray (eqb-false _ _ e) (eqb-false _ _ k) (rw (lt-leb 48 (get_or text at 0) l))))
+  -- another byte
+  module _ (h : i < length f) where
+    on : drop i f ≡ get_or f i 0 ∷ drop (i + 1) f
+    on = rw (add-one, drop-cons f i 0 h)
 
-    pub digits_high : 57 < get_or text at 0 → level_then s start (drop start text) ≡ no_level
-    digits_high l = stray (λ e. omega arith) (λ e. omega arith) (rw (lt-leb (get_or text at 0) 57 l) (and_false (leb 48 (get_or text at 0))))
+    pub digits_stray : digit (get_or f i 0) ≡ false → level_of f ≡ None
+    unfolding all
+    digits_stray e = level_of_no f (level_digit most_level f (sym d.digits ∙ rw (on, e)))
 
-    -- it ends with the byte asked for
-    module _ (b : (eqb (get_or text at 0) 9 || eqb (get_or text at 0) 10) ≡ true) where
-      pub digits_end : get_or text at 0 ≡ s → v ≤ most_level → record { end = at + 1; level = v } ≡ level_then s start (drop start text)
-      unfolding all
-      digits_end e l =
-          let f = field_stop text at h b in
-          let n = read f in
-          let a : all digit (field_of (drop start text)) ≡ true = sym d.digits ∙ rw f in
-          let good = level_is most_level (field_of (drop start text)) d.leading a (omega (arith, d.some)) (omega arith) in
-          let z : at + 1 ≡ start + suc (length (field_of (drop start text))) = omega (arith, ended f) in
-          rw (n, z) (sym (then_on s start (drop start text) (level_good text start at s (ended f) h e good)))
+    more : decimal_from (10 * v + (get_or f i 0 - 48)) (drop (i + 1) f) ≡ decimal f
+    unfolding decimal_from
+    more = rw on at d.number
 
-    -- it goes on with a digit
-    module _ (low : 48 ≤ get_or text at 0) (high : get_or text at 0 ≤ 57) where
-      on : field_of (drop at text) ≡ get_or text at 0 ∷ field_of (drop (at + 1) text)
-      on = field_on text at h (λ e. omega arith) (λ e. omega arith)
+    pub digits_large : most_level < 10 * v + (get_or f i 0 - 48) → level_of f ≡ None
+    digits_large l = level_of_no f (level_large most_level f (omega (arith, more, decimal_grows (10 * v + (get_or f i 0 - 48)) (drop (i + 1) f))))
 
-      more : decimal_from (10 * v + (get_or text at 0 - 48)) (field_of (drop (at + 1) text)) ≡ decimal (field_of (drop start text))
-      unfolding decimal_from
-      more = rw on at d.number
+    pub digits_zero : 48 ≤ get_or f i 0 → 10 * v + (get_or f i 0 - 48) < 1 → level_of f ≡ None
+    digits_zero low l =
+        let z : v ≡ 0 = omega arith in
+        level_of_no f (level_leading most_level f (first_zero f i (d.some z) h (omega arith)))
 
-      pub digits_on : Digits text start (at + 1) (10 * v + (get_or text at 0 - 48))
-      unfolding all
-      digits_on = record {
-        leading = d.leading;
-        some = omega (arith, d.some);
-        size = omega (arith, d.size, ap length on);
-        digits = sym (rw (on, le-leb 48 (get_or text at 0) low, le-leb (get_or text at 0) 57 high)) ∙ d.digits;
-        number = more;
-      }
+    pub digits_on : digit (get_or f i 0) ≡ true → 1 ≤ 10 * v + (get_or f i 0 - 48) → 10 * v + (get_or f i 0 - 48) ≤ most_level → Digits f (i + 1) (10 * v + (get_or f i 0 - 48))
+    unfolding all
+    digits_on e l k = record {
+      few = k;
+      none = λ z. omega arith;
+      some = λ z. omega arith;
+      leading = λ n. by_cases (eqb i 0) (λ z. let k = d.none (eqb-true i 0 z) in first_other f i (eqb-true i 0 z) h (λ w. absurd (no k w))) (λ z. d.leading (eqb-false i 0 z));
+      digits = sym (rw (on, e)) ∙ d.digits;
+      number = more;
+    }
+      where
+        no : v ≡ 0 → get_or f i 0 ≡ 48 → ⊥
+        no k w = omega arith

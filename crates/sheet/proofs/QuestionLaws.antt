@@ -78,11 +78,13 @@ module _ (text : List ℕ) (q : question3 text ≡ true) (h : Header) (is : h �
   unfolding first_line later_lines
   later = rw is (ap lines (sym (past_drop 10 text)))
 
+  pub columns_size : length (take fields_in h.columns) ≡ fields_in
+  columns_size = ap length columns_all ∙ length_columns 0 0 (header text) ∙ sym fields_all
+
   -- each field has a column of the level table
-  pub columns_placed : (cells : ℕ) → 2880 ≤ cells → Store (take fields_in h.columns) fields_in cells
+  pub columns_placed : (cells : ℕ) → 2880 ≤ cells → Store (take fields_in h.columns) cells
   columns_placed cells room = record {
-    some = fields_some;
-    size = ap length columns_all ∙ length_columns 0 0 (header text) ∙ sym fields_all;
+    some = omega (arith, columns_size, fields_some);
     places = rw columns_all (columns_fit 0 0 (header text) form.columns (omega (arith, form.plots)) (omega (arith, form.treatments)));
     room = room;
   }

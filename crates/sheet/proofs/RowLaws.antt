@@ -1,9 +1,9 @@
 -- Laws of a walk over the later lines.
 -- Assumes nothing.
 use mathlib.Core.Path.{◌≡◌, refl, sym, ap, ◌∙◌}
-use mathlib.Core.Bool.{Bool, true, false, ◌&&◌, ◌||◌}
+use mathlib.Core.Bool.{Bool, true, false, ◌&&◌}
 use mathlib.Core.List.{List, [], ◌∷◌}
-use Prim.Native.Nat.{ℕ, zero, suc, ◌+◌, ◌≤◌, ◌<◌}
+use Prim.Native.Nat.{ℕ, suc, ◌+◌, ◌≤◌, ◌<◌}
 use native.Mathlib.Omega.{arith}
 use native.Mathlib.Nat.{add-zero}
 use lib.Dec.{eqb, ltb}
@@ -16,9 +16,9 @@ use Rattle.rules.specs.Sheet.{Field, Line, up_to, past, has, fields, lines, all,
 use Rattle.rules.proofs.Numbering.{by_cases}
 use Rattle.rules.proofs.Members.{clash}
 use Rattle.rules.proofs.Sheet.{and_false, fields_some}
-use Rattle.sheet.specs.Walk.{field_of, level_there, level_end, stop_before, row_there, row_end}
+use Rattle.sheet.specs.Walk.{field_of, level_there, row_there, row_end}
 use Rattle.sheet.specs.Answers.{judged}
-use Rattle.sheet.proofs.Stops.{AtTab, AtNewline, Stop, at_tab, at_newline, at_end, stop, field_byte, past_drop, lines_cons}
+use Rattle.sheet.proofs.Stops.{AtTab, Stop, at_tab, at_newline, at_end, stop, field_byte, past_drop, lines_cons}
 
 eqb_suc : (a b : ℕ) → eqb (suc a) (suc b) ≡ eqb a b
 eqb_suc a b =
@@ -29,25 +29,6 @@ eqb_suc a b =
 -- ---- a level
 
 module _ (s at : ℕ) (xs : List ℕ) where
-  pub level_end_none : level_end s at xs ≡ 0 → level_there s xs ≡ false
-  unfolding level_end
-  level_end_none z = by_cases (level_there s xs) (λ e. absurd (no (sym (rw (e, level_end)) ∙ z))) (λ e. e)
-    where
-      no : at + suc (length (field_of xs)) ≡ 0 → ⊥
-      no e = omega arith
-
-  pub level_end_some : (level_end s at xs ≡ 0 → ⊥) → level_there s xs ≡ true
-  unfolding level_end
-  level_end_some n = by_cases (level_there s xs) (λ e. e) (λ e. absurd (n (rw (e, level_end))))
-
-  pub level_end_at : level_there s xs ≡ true → level_end s at xs ≡ at + suc (length (field_of xs))
-  unfolding level_end
-  level_end_at e = rw (e, level_end)
-
-  pub level_end_off : level_there s xs ≡ false → level_end s at xs ≡ 0
-  unfolding level_end
-  level_end_off e = rw (e, level_end)
-
   -- no such byte after the field
   pub not_there : (length (field_of xs) < length xs → get_or xs (length (field_of xs)) 0 ≡ s → ⊥) → level_there s xs ≡ false
   unfolding level_there
@@ -117,55 +98,43 @@ row_last xs = go (stop xs)
     go (at_end r) = rw (r.ends, le-ltb _ _ r.all_of_it)
 
 -- where it ends
-pub row_end_is : (n at : ℕ) (xs : List ℕ) → row_there n xs ≡ true → row_end n at xs ≡ at + suc (length (up_to 10 xs))
+pub row_end_is : (n at : ℕ) (xs : List ℕ) → row_there n xs ≡ true → row_end n at xs ≡ Some (at + suc (length (up_to 10 xs)))
 unfolding row_end
 row_end_is n at xs e = rw (e, row_end)
 
-row_end_no : (n at : ℕ) (xs : List ℕ) → row_there n xs ≡ false → row_end n at xs ≡ 0
+row_end_no : (n at : ℕ) (xs : List ℕ) → row_there n xs ≡ false → row_end n at xs ≡ None
 unfolding row_end
 row_end_no n at xs e = rw (e, row_end)
 
-pub row_end_none : (n at : ℕ) (xs : List ℕ) → row_end n at xs ≡ 0 → row_there n xs ≡ false
-row_end_none n at xs z = by_cases (row_there n xs) (λ e. absurd (no (sym (row_end_is n at xs e) ∙ z))) (λ e. e)
-  where
-    no : at + suc (length (up_to 10 xs)) ≡ 0 → ⊥
-    no e = omega arith
+row_end_none : (n at : ℕ) (xs : List ℕ) → None ≡ row_end n at xs → row_there n xs ≡ false
+row_end_none n at xs e = by_cases (row_there n xs) (λ c. let y = row_end_is n at xs c in cc) (λ c. c)
 
-pub row_end_some : (n at : ℕ) (xs : List ℕ) → (row_end n at xs ≡ 0 → ⊥) → row_there n xs ≡ true
-row_end_some n at xs k = by_cases (row_there n xs) (λ e. e) (λ e. absurd (k (row_end_no n at xs e)))
+row_end_some : (n at r : ℕ) (xs : List ℕ) → Some r ≡ row_end n at xs → (row_there n xs ≡ true) × (r ≡ at + suc (length (up_to 10 xs)))
+row_end_some n at r xs e = by_cases (row_there n xs) (λ c. (c, (let y = row_end_is n at xs c in cc))) (λ c. let y = row_end_no n at xs c in cc)
 
 -- a line of one level ends where the level does
-pub row_end_last : (at : ℕ) (xs : List ℕ) → row_end 1 at xs ≡ level_end 10 at xs
-row_end_last at xs = go (stop xs)
+pub last_off : (at : ℕ) (xs : List ℕ) → level_there 10 xs ≡ false → row_end 1 at xs ≡ None
+last_off at xs e = row_end_no 1 at xs (row_last xs ∙ e)
+
+pub last_on : (at : ℕ) (xs : List ℕ) → level_there 10 xs ≡ true → row_end 1 at xs ≡ Some (at + suc (length (field_of xs)))
+last_on at xs e = go (stop xs)
   where
-    none : level_there 10 xs ≡ false → row_end 1 at xs ≡ level_end 10 at xs
-    none e = row_end_no 1 at xs (row_last xs ∙ e) ∙ sym (level_end_off 10 at xs e)
-
-    some : AtNewline xs → level_there 10 xs ≡ true → row_end 1 at xs ≡ level_end 10 at xs
-    some r e = row_end_is 1 at xs (row_last xs ∙ e) ∙ ap (λ (k : ℕ). at + suc k) r.size ∙ sym (level_end_at 10 at xs e)
-
-    go : Stop xs → row_end 1 at xs ≡ level_end 10 at xs
-    go (at_tab r) = none (not_there 10 at xs (λ h e. omega (arith, r.byte)))
-    go (at_newline r) = by_cases (level_there 10 xs) (some r) none
-    go (at_end r) = none (not_there 10 at xs (λ h e. omega (arith, r.all_of_it)))
+    go : Stop xs → row_end 1 at xs ≡ Some (at + suc (length (field_of xs)))
+    go (at_tab r) = clash e (not_there 10 at xs (λ h b. omega (arith, r.byte)))
+    go (at_newline r) = row_end_is 1 at xs (row_last xs ∙ e) ∙ ap (λ (k : ℕ). Some (at + suc k)) r.size
+    go (at_end r) = clash e (not_there 10 at xs (λ h b. omega (arith, r.all_of_it)))
 
 module _ (m at : ℕ) (text : List ℕ) where
   -- no level and tab at the start of a longer line
-  pub row_off : level_end 9 at (drop at text) ≡ 0 → row_end (suc (suc m)) at (drop at text) ≡ 0
-  row_off z = row_end_no (suc (suc m)) at (drop at text) (row_turn m (drop at text) ∙ rw (level_end_none 9 at (drop at text) z))
+  pub row_off : level_there 9 (drop at text) ≡ false → row_end (suc (suc m)) at (drop at text) ≡ None
+  row_off z = row_end_no (suc (suc m)) at (drop at text) (row_turn m (drop at text) ∙ rw z)
 
   -- a turn: the line ends where the rest of it does
-  pub row_on : (r : ℕ) → r ≡ level_end 9 at (drop at text) → (r ≡ 0 → ⊥) → row_end (suc (suc m)) at (drop at text) ≡ row_end (suc m) r (drop r text)
-  row_on r e n = go (stop xs)
+  pub row_on : (r : ℕ) → level_there 9 (drop at text) ≡ true → r ≡ at + suc (length (field_of (drop at text))) → row_end (suc (suc m)) at (drop at text) ≡ row_end (suc m) r (drop r text)
+  row_on r there next = go (stop xs)
     where
       xs : List ℕ
       xs = drop at text
-
-      there : level_there 9 xs ≡ true
-      there = level_end_some 9 at xs (λ z. n (e ∙ z))
-
-      next : r ≡ at + suc (length (field_of xs))
-      next = e ∙ level_end_at 9 at xs there
 
       ys : drop (suc (length (field_of xs))) xs ≡ drop r text
       ys = drop-drop (suc (length (field_of xs))) at text ∙ ap (λ (k : ℕ). drop k text) (sym next)
@@ -178,19 +147,13 @@ module _ (m at : ℕ) (text : List ℕ) where
           row_end_is (suc (suc m)) at xs (turn ∙ d)
           ∙ (let z : length (up_to 10 xs) ≡ suc (length (field_of xs)) + length (up_to 10 (drop r text)) = rw ys at s.size in
           let w : at + suc (length (up_to 10 xs)) ≡ r + suc (length (up_to 10 (drop r text))) = omega (arith, next) in
-          w)
+          ap (λ (k : ℕ). Some k) w)
           ∙ sym (row_end_is (suc m) r (drop r text) d)
 
       go : Stop xs → row_end (suc (suc m)) at xs ≡ row_end (suc m) r (drop r text)
       go (at_tab s) = by_cases (row_there (suc m) (drop r text)) (same s) (λ d. row_end_no (suc (suc m)) at xs (turn ∙ d) ∙ sym (row_end_no (suc m) r (drop r text) d))
       go (at_newline s) = clash there (not_there 9 at xs (λ h e. omega (arith, s.byte)))
       go (at_end s) = clash there (not_there 9 at xs (λ h e. omega (arith, s.all_of_it)))
-
--- ---- the byte after a level
-
-pub stop_known : (m : ℕ) → (eqb (stop_before m) 9 || eqb (stop_before m) 10) ≡ true
-stop_known zero = refl
-stop_known (suc m) = refl
 
 -- ---- all lines
 
@@ -222,14 +185,13 @@ module _ (count n : ℕ) (text : List ℕ) (at : ℕ) where
   pub judge_end : length text ≤ at → judged count n (lines (drop at text)) ≡ Some count
   judge_end h = rw (lines_none text at h) judged_end
 
-  pub judge_off : at < length text → row_end n at (drop at text) ≡ 0 → judged count n (lines (drop at text)) ≡ None
+  pub judge_off : at < length text → None ≡ row_end n at (drop at text) → judged count n (lines (drop at text)) ≡ None
   unfolding is_plot_line row_there
   judge_off h z = rw (lines_turn text at h) (judged_no _ _ (row_end_none n at (drop at text) z))
 
-  pub judge_on : (r : ℕ) → at < length text → r ≡ row_end n at (drop at text) → (r ≡ 0 → ⊥)
+  pub judge_on : (r : ℕ) → at < length text → Some r ≡ row_end n at (drop at text)
       → (at < r) × (judged count n (lines (drop at text)) ≡ judged (count + 1) n (lines (drop r text)))
   unfolding is_plot_line row_there
-  judge_on r h e k =
-      let there = row_end_some n at (drop at text) (λ z. k (e ∙ z)) in
-      let next : r ≡ at + suc (length (up_to 10 (drop at text))) = e ∙ row_end_is n at (drop at text) there in
-      (omega arith, rw (lines_turn text at h, ← next) (judged_yes _ _ there))
+  judge_on r h e =
+      let s = row_end_some n at r (drop at text) e in
+      (omega (arith, s.1), rw (lines_turn text at h, ← s.1) (judged_yes _ _ s.0))

@@ -1,16 +1,21 @@
 -- Laws of the steps of a walk over a text.
 -- Assumes nothing.
-use mathlib.Core.Path.{◌≡◌}
-use mathlib.Core.Bool.{true, ◌&&◌, ◌||◌}
+use mathlib.Core.Path.{◌≡◌, refl, sym, ◌∙◌}
+use mathlib.Core.Bool.{Bool, true, false, ◌||◌}
 use mathlib.Core.List.{List, [], ◌∷◌}
-use Prim.Native.Nat.{ℕ, ◌+◌, ◌≤◌, ◌<◌}
+use Prim.Native.Nat.{ℕ, zero, suc, ◌+◌, ◌≤◌, ◌<◌}
 use native.Mathlib.Omega.{arith}
 use native.Mathlib.Numerals.{add-one}
 use lib.Dec.{eqb}
 use lib.ListN.{length, get_or, take, drop, drop_of_length-le, length-take}
 use lib.Seq.{slice, slice-cons, drop-cons}
-use borrow.Author.Tests.{ne_eqb}
-use Rattle.rules.specs.Sheet.{same_bytes}
+use native.Mathlib.Nat.{not-suc-le-zero}
+use Rattle.std.specs.Prelude.{◌↔◌, IsTrue, All}
+use Rattle.std.specs.List.{AllPass}
+use lib.Pointwise.{pointwise}
+use Rattle.rules.specs.Sheet.{all, same_bytes}
+use Rattle.rules.proofs.Numbering.{by_cases}
+use Rattle.rules.proofs.Sheet.{and_left, and_right}
 use Rattle.sheet.specs.Walk.{field_of}
 
 -- ---- a byte more of a field
@@ -20,21 +25,13 @@ module _ (xs : List ℕ) (at : ℕ) where
   unfolding field_of
   field_none h = rw (drop_of_length-le xs h)
 
-  pub field_tab : at < length xs → get_or xs at 0 ≡ 9 → field_of (drop at xs) ≡ []
-  unfolding field_of
-  field_tab h e = rw (drop-cons xs at 0 h, e)
-
-  pub field_newline : at < length xs → get_or xs at 0 ≡ 10 → field_of (drop at xs) ≡ []
-  unfolding field_of
-  field_newline h e = rw (drop-cons xs at 0 h, e)
-
   pub field_stop : at < length xs → (eqb (get_or xs at 0) 9 || eqb (get_or xs at 0) 10) ≡ true → field_of (drop at xs) ≡ []
   unfolding field_of
   field_stop h e = rw (drop-cons xs at 0 h, e, field_of)
 
-  pub field_on : at < length xs → (get_or xs at 0 ≡ 9 → ⊥) → (get_or xs at 0 ≡ 10 → ⊥) → field_of (drop at xs) ≡ get_or xs at 0 ∷ field_of (drop (at + 1) xs)
+  pub field_goes : at < length xs → (eqb (get_or xs at 0) 9 || eqb (get_or xs at 0) 10) ≡ false → field_of (drop at xs) ≡ get_or xs at 0 ∷ field_of (drop (at + 1) xs)
   unfolding field_of
-  field_on h n m = rw (add-one, drop-cons xs at 0 h, ne_eqb (get_or xs at 0) 9 n, ne_eqb (get_or xs at 0) 10 m, field_of)
+  field_goes h e = rw (add-one, drop-cons xs at 0 h, e, field_of)
 
 -- ---- a part, byte by byte
 
@@ -47,11 +44,27 @@ module _ (xs : List ℕ) (from to : ℕ) where
 
 -- ---- two texts, byte by byte
 
-module _ (xs ys : List ℕ) (i : ℕ) where
-  pub same_next : i < length xs → i < length ys → same_bytes (drop i xs) (drop i ys) ≡ eqb (get_or xs i 0) (get_or ys i 0) && same_bytes (drop (i + 1) xs) (drop (i + 1) ys)
-  unfolding same_bytes
-  same_next h k = rw (add-one, drop-cons xs i 0 h, drop-cons ys i 0 k)
+pub pairs_same : (xs ys : List ℕ) → pointwise eqb xs ys ≡ same_bytes xs ys
+unfolding same_bytes
+pairs_same [] [] = refl
+pairs_same [] (y ∷ ys) = refl
+pairs_same (x ∷ xs) [] = refl
+pairs_same (x ∷ xs) (y ∷ ys) = rw (pairs_same xs ys)
 
-  pub same_end : length xs ≤ i → length ys ≤ i → same_bytes (drop i xs) (drop i ys) ≡ true
-  unfolding same_bytes
-  same_end h k = rw (drop_of_length-le xs h, drop_of_length-le ys k)
+-- ---- a test that each byte passes
+
+module _ (p : ℕ → Bool) where
+  all_pass : (xs : List ℕ) → AllPass p xs → all p xs ≡ true
+  unfolding all
+  all_pass [] h = refl
+  all_pass (x ∷ xs) h = rw (h 0 0 (omega arith)) (all_pass xs (λ k d l. h (suc k) d (omega arith)))
+
+  pass_all : (xs : List ℕ) → all p xs ≡ true → AllPass p xs
+  unfolding all
+  pass_all [] e k d l = absurd (not-suc-le-zero l)
+  pass_all (x ∷ xs) e zero d l = and_left (p x) (all p xs) e
+  pass_all (x ∷ xs) e (suc k) d l = pass_all xs (and_right (p x) (all p xs) e) k d (omega arith)
+
+  pub all_told : (xs : List ℕ) (b : Bool) → IsTrue b ↔ All (λ x. IsTrue (p x)) xs → b ≡ all p xs
+  all_told xs true h = sym (all_pass xs (h.0 refl))
+  all_told xs false h = by_cases (all p xs) (λ e. h.1 (pass_all xs e) ∙ sym e) (λ e. sym e)

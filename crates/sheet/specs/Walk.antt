@@ -1,6 +1,6 @@
 -- What the steps of a walk over a text answer, by the rules' definitions. `xs` is the text from the walk's place on.
 -- Assumes nothing.
-use Rattle.std.specs.Prelude.{Bool, true, false, ◌&&◌, ◌||◌, List, [], ◌∷◌, ◌≡◌, ℕ, zero, suc, ◌+◌, ◌≤◌, eqb, ltb, length, get_or, drop}
+use Rattle.std.specs.Prelude.{Bool, true, false, Option, Some, None, ◌&&◌, ◌||◌, List, [], ◌∷◌, ◌≡◌, ℕ, zero, suc, ◌+◌, ◌≤◌, eqb, ltb, length, get_or, drop}
 use Rattle.rules.specs.Sheet.{Field, tab, newline, all, up_to, has, fields, lines, header, is_column, is_level, is_row, is_plot_line, decimal, decimal_from, plot_mark, treatment_mark}
 use Rattle.rules.specs.Limits.{table_cells, most_fields, most_plots, most_level}
 use Rattle.sheet.specs.declared.field.FieldLevel.{FieldLevel}
@@ -9,9 +9,6 @@ use Rattle.sheet.specs.declared.field.FieldLevel.{FieldLevel}
 unfoldable pub field_of : List ℕ → Field
 field_of [] = []
 field_of (x ∷ xs) = elim (eqb x tab || eqb x newline) [ true ↦ [] | false ↦ x ∷ field_of xs ]
-
-abbrev pub no_level : FieldLevel
-no_level = record { end = 0; level = 0 }
 
 -- p or t
 abbrev pub is_mark : ℕ → Bool
@@ -22,10 +19,10 @@ unfoldable pub column_there : List ℕ → Bool
 unfolding field_of is_column
 column_there xs = ltb (length (field_of xs)) (length xs) && is_column (field_of xs)
 
--- the place of that byte, when xs stands at `at`; 0 where they are not there
-unfoldable pub column_end : ℕ → List ℕ → ℕ
+-- the place of that byte, when xs stands at `at`
+unfoldable pub column_end : ℕ → List ℕ → Option ℕ
 unfolding column_there field_of
-column_end at xs = elim (column_there xs) [ true ↦ at + length (field_of xs) | false ↦ 0 ]
+column_end at xs = elim (column_there xs) [ true ↦ Some (at + length (field_of xs)) | false ↦ None ]
 
 -- a line that byte 10 ends, of columns only
 abbrev pub OfColumns : List ℕ → Type 0
@@ -38,15 +35,15 @@ unfoldable pub level_there : ℕ → List ℕ → Bool
 unfolding field_of is_level
 level_there stop xs = ltb (length (field_of xs)) (length xs) && eqb (get_or xs (length (field_of xs)) 0) stop && is_level most_level (field_of xs)
 
--- the place after them, when xs stands at `at`; 0 where they are not there
-unfoldable pub level_end : ℕ → ℕ → List ℕ → ℕ
-unfolding level_there field_of
-level_end stop at xs = elim (level_there stop xs) [ true ↦ at + suc (length (field_of xs)) | false ↦ 0 ]
+-- the level that a field writes
+unfoldable pub level_of : Field → Option ℕ
+unfolding is_level decimal_from
+level_of f = elim (is_level most_level f) [ true ↦ Some (decimal f) | false ↦ None ]
 
--- the level, and the place after them
-unfoldable pub level_then : ℕ → ℕ → List ℕ → FieldLevel
+-- the level, and the place after that byte, when xs stands at `at`
+unfoldable pub level_then : ℕ → ℕ → List ℕ → Option FieldLevel
 unfolding level_there field_of decimal_from
-level_then stop at xs = elim (level_there stop xs) [ true ↦ record { end = at + suc (length (field_of xs)); level = decimal (field_of xs) } | false ↦ no_level ]
+level_then stop at xs = elim (level_there stop xs) [ true ↦ Some (record { end = at + suc (length (field_of xs)); level = decimal (field_of xs) }) | false ↦ None ]
 
 -- the byte after a field that m others follow in its line
 abbrev pub stop_before : ℕ → ℕ
@@ -59,9 +56,9 @@ unfolding has is_row fields up_to
 row_there n xs = has newline xs && is_row most_level n (fields (up_to newline xs))
 
 -- the place after it
-unfoldable pub row_end : ℕ → ℕ → List ℕ → ℕ
+unfoldable pub row_end : ℕ → ℕ → List ℕ → Option ℕ
 unfolding row_there up_to
-row_end n at xs = elim (row_there n xs) [ true ↦ at + suc (length (up_to newline xs)) | false ↦ 0 ]
+row_end n at xs = elim (row_there n xs) [ true ↦ Some (at + suc (length (up_to newline xs))) | false ↦ None ]
 
 -- ---- storing
 
@@ -70,9 +67,8 @@ abbrev pub is_place : ℕ → Bool
 is_place c = ltb c most_fields
 
 -- what storing asks: a column of the level table for each field
-pub record Store (columns : List ℕ) (n cells : ℕ) : Type 0 where
-  pub some : 1 ≤ n
-  pub size : length columns ≡ n
+pub record Store (columns : List ℕ) (cells : ℕ) : Type 0 where
+  pub some : 1 ≤ length columns
   pub places : all is_place columns ≡ true
   pub room : table_cells ≤ cells
 

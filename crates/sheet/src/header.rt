@@ -1,19 +1,13 @@
 // The first line.
 ghost use Rattle.std.specs.Prelude.{◌≡◌, [], ◌+◌, ◌<◌, ◌≤◌, length, drop};
 ghost use Rattle.std.proofs.Math.Seq.{slice};
-ghost use Rattle.rules.specs.Sheet.{is_kind, new_name, names_differ, header};
+ghost use Rattle.rules.specs.Sheet.{is_column, is_kind, new_name, names_differ, header};
 ghost use Rattle.sheet.specs.Walk.{column_end, OfColumns};
 ghost use Rattle.sheet.specs.Answers.{past_mark, marked, headed, column_span};
 
 use crate::field;
 use limits::{COLUMNS, FIELDS};
 use std::ops::Range;
-
-// A column has at least its mark, a colon and two bytes of a name.
-const LEAST_COLUMN: usize = 4;
-
-// A column has at most 14 bytes, and a byte follows.
-const PAST_COLUMN: usize = 15;
 
 // The first line of a sheet: where the next one starts, the columns of each kind, and the column of the level table that each field
 // takes, 0 past the fields.
@@ -36,43 +30,25 @@ pub fn read_header(text: &[u8]) -> Option<Header>
     Some(header)
 }
 
-// The end of the field that starts at `start`, where it is a column and a tab or newline ends it; 0 where it is not.
-fn column_end(text: &[u8], start: usize) -> usize
+// Whether a field is a column: the mark of its kind, a colon and a name.
+fn is_column(field: &[u8]) -> bool
+    ensures { result ≡ is_column field.now }
+{
+    match field {
+        [mark, colon, name @ ..] => {
+            field::is_mark(*mark) && *colon == b':' && field::is_name(name)
+        }
+        _ => false,
+    }
+}
+
+// The end of the field that starts at `start`, where it is a column and a tab or newline ends it.
+fn column_end(text: &[u8], start: usize) -> Option<usize>
     requires { start ≤ length text.now }
     ensures { result ≡ column_end start (drop start text.now) }
 {
-    let rest = text.len() - start;
-    if rest < LEAST_COLUMN {
-        return 0;
-    }
-    if !field::is_mark(text[start]) {
-        return 0;
-    }
-    if text[start + 1] != b':' {
-        return 0;
-    }
-    if !field::letter(text[start + 2]) {
-        return 0;
-    }
-    if !field::letter_or_digit(text[start + 3]) {
-        return 0;
-    }
-    for i in LEAST_COLUMN..PAST_COLUMN {
-        if rest <= i {
-            return 0;
-        }
-        let x = text[start + i];
-        if !field::letter_or_digit(x) {
-            if x == b'\t' {
-                return start + i;
-            }
-            if x == b'\n' {
-                return start + i;
-            }
-            return 0;
-        }
-    }
-    0
+    let end = field::end_of(text, start);
+    (end < text.len() && is_column(&text[start..end])).then_some(end)
 }
 
 // The first line but for its names: the fields one by one, each counted and given its column of the level table.
@@ -84,10 +60,7 @@ fn marks(text: &[u8]) -> Option<Header>
     let mut t = 0;
     let mut columns = [0u8; FIELDS];
     loop {
-        let e = column_end(text, at);
-        if e == 0 {
-            return None;
-        }
+        let e = column_end(text, at)?;
         if text[at] == b'p' {
             if COLUMNS <= p {
                 return None;

@@ -20,7 +20,7 @@ pub fn from_3(text: &[u8], levels: &mut [Level]) -> Result<Counts, Refusal>
     if !(1..=PLOTS).contains(&plots) {
         return Err(Refusal::PlotCount);
     }
-    rows::store(text, header.end, &header.columns, n, plots, levels);
+    rows::store(text, header.end, &header.columns[..n], plots, levels);
     Ok(Counts {
         plots,
         plot_columns: header.plot_columns,

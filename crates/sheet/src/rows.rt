@@ -1,5 +1,5 @@
 // The later lines.
-ghost use Rattle.std.specs.Prelude.{◌≡◌, true, suc, ◌+◌, ◌-◌, ◌≤◌, ◌<◌, length, take, drop};
+ghost use Rattle.std.specs.Prelude.{◌≡◌, true, suc, ◌+◌, ◌-◌, ◌≤◌, ◌<◌, length, drop};
 ghost use Rattle.rules.specs.Limits.{most_plots};
 ghost use Rattle.rules.specs.Sheet.{newline, up_to, fields, lines, with_plot, with_plots};
 ghost use Rattle.sheet.specs.Walk.{stop_before, row_there, row_end, Store, PlotLines};
@@ -16,10 +16,7 @@ pub fn judge(text: &[u8], start: usize, n: usize) -> Option<usize>
     let mut at = start;
     let mut count = 0;
     while at < text.len() {
-        at = row_end(text, at, n);
-        if at == 0 {
-            return None;
-        }
+        at = row_end(text, at, n)?;
         count += 1;
     }
     Some(count)
@@ -36,60 +33,43 @@ fn stop_after(i: usize, n: usize) -> u8
     b'\n'
 }
 
-// The place after the line of `n` levels that starts at `start`; 0 where it has not the form.
-fn row_end(text: &[u8], start: usize, n: usize) -> usize
+// The place after the line of `n` levels that starts at `start`.
+fn row_end(text: &[u8], start: usize, n: usize) -> Option<usize>
     requires { 1 ≤ n }
     ensures { result ≡ row_end n start (drop start text.now) }
 {
     let mut at = start;
-    for i in 1..n {
-        let found = field::level_then(text, at, b'\t');
+    for _ in 1..n {
+        let found = field::level_then(text, at, b'\t')?;
         at = found.end;
-        if at == 0 {
-            return 0;
-        }
     }
-    let last = field::level_then(text, at, b'\n');
-    last.end
+    let last = field::level_then(text, at, b'\n')?;
+    Some(last.end)
 }
 
-// Writes the levels of the line that starts at `start`, which has the form, as those of plot `u`; answers where the next line starts.
-fn store_row(
-    text: &[u8],
-    start: usize,
-    columns: &[u8],
-    n: usize,
-    u: usize,
-    levels: &mut [Level],
-) -> usize
-    requires { Store (take n columns.now) n (length levels.old) × (u < most_plots) × (row_there n (drop start text.now) ≡ true) }
+// Writes the levels of the line that starts at `start`, which has the form, as those of plot `u`, each in the column of the level
+// table that is listed for its field; answers where the next line starts.
+fn store_row(text: &[u8], start: usize, columns: &[u8], u: usize, levels: &mut [Level]) -> usize
+    requires { Store columns.now (length levels.old) × (u < most_plots) × (row_there (length columns.now) (drop start text.now) ≡ true) }
     ensures next { result ≡ start + suc (length (up_to newline (drop start text.now))) }
-    ensures table { levels.new ≡ with_plot (take n columns.now) u (fields (up_to newline (drop start text.now))) levels.old }
+    ensures table { levels.new ≡ with_plot columns.now u (fields (up_to newline (drop start text.now))) levels.old }
 {
     let mut at = start;
-    for i in 0..n {
-        let found = field::level_then(text, at, stop_after(i, n));
+    for (i, &column) in columns.iter().enumerate() {
+        let found = field::level_then(text, at, stop_after(i, columns.len())).unwrap();
         at = found.end;
-        let column = columns[i] as usize;
-        levels[PLOTS * column + u] = found.level;
+        levels[PLOTS * column as usize + u] = found.level;
     }
     at
 }
 
-// Writes the levels of the lines from `start` on, which have the form: `plots` lines of `n` levels.
-pub fn store(
-    text: &[u8],
-    start: usize,
-    columns: &[u8],
-    n: usize,
-    plots: usize,
-    levels: &mut [Level],
-)
-    requires { Store (take n columns.now) n (length levels.old) × PlotLines text.now start n plots }
-    ensures { levels.new ≡ with_plots (take n columns.now) 0 (lines (drop start text.now)) levels.old }
+// Writes the levels of the lines from `start` on, which have the form: a line for each of so many plots.
+pub fn store(text: &[u8], start: usize, columns: &[u8], plots: usize, levels: &mut [Level])
+    requires { Store columns.now (length levels.old) × PlotLines text.now start (length columns.now) plots }
+    ensures { levels.new ≡ with_plots columns.now 0 (lines (drop start text.now)) levels.old }
 {
     let mut at = start;
     for u in 0..plots {
-        at = store_row(text, at, columns, n, u, levels);
+        at = store_row(text, at, columns, u, levels);
     }
 }

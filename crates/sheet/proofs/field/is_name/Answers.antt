@@ -1,40 +1,41 @@
+-- `sheet::field::is_name` meets its contract.
 use mathlib.Core.Path.{◌≡◌, sym, ◌∙◌}
-use mathlib.Core.Bool.{true, false}
+use mathlib.Core.Bool.{◌&&◌}
 use native.Mathlib.Omega.{arith}
-use lib.ListN.{get_or}
-use Rattle.rules.specs.Sheet.{letter_or_digit}
-use Rattle.sheet.proofs.NameForm.{short_name, long_name, no_letter, letter_first, all_next, all_done}
+use lib.ListN.{length, get_or, take, drop}
+use Prim.Native.Nat.{◌-◌}
+use Rattle.std.specs.Prelude.{◌↔◌, IsTrue, All}
+use Rattle.std.proofs.Common.{rules}
+use Rattle.std.proofs.iter.runs.Made.{chains}
+use Rattle.std.proofs.lemmas.Grind.{common_steps}
+use Rattle.std.proofs.lemmas.Bool.Decides.{nat_tests}
+use Rattle.rules.specs.Sheet.{within, letter, letter_or_digit}
+use Rattle.sheet.proofs.NameForm.{name_none, name_bytes}
+use Rattle.sheet.proofs.Walk.{all_told}
 use Rattle.sheet.proofs.field.is_name.Goals as goal
+use Rattle.sheet.proofs.field.is_name.Goals.{Joined-is_ascii_alphabetic, then-is_ascii_alphabetic, else-is_ascii_alphabetic}
 
-pub returns-then-n-lt2 : goal.returns-then-n-lt2
-returns-then-n-lt2 c = sym (short_name c.args.name.now (omega arith))
+-- the first byte and the length
+front : (c : Joined-is_ascii_alphabetic) → c.if-is_ascii_alphabetic.value ≡ letter (get_or c.args.name.now 0 0) && within 1 11 (length (take (length c.args.name.now - 1) (drop 1 c.args.name.now)))
+front c =
+    elim c.if-is_ascii_alphabetic.branch [
+      | then-is_ascii_alphabetic w ↦ grind (arith, common_steps, nat_tests)
+      | else-is_ascii_alphabetic w ↦ grind (arith, common_steps, nat_tests)
+    ]
 
-pub returns-then-n : goal.returns-then-n
-returns-then-n c = sym (long_name c.args.name.now (omega arith))
+pub returns-in-empty : goal.returns-in-empty
+returns-in-empty c = sym (name_none c.args.name.now c.in-empty.len_below)
 
-pub returns-then-not-letter : goal.returns-then-not-letter
-returns-then-not-letter c =
-    let l = c.letter in
-    sym (no_letter c.args.name.now (sym l.ensures ∙ c.if-not-letter.true))
+pub returns-then-contains : goal.returns-then-contains
+returns-then-contains c =
+    let name = c.args.name.now in
+    let f = front (goal.at.returns-then-contains c).Joined-is_ascii_alphabetic in
+    let m : IsTrue c.all.result ↔ All (λ x. IsTrue (letter_or_digit x)) (take (length name - 1) (drop 1 name)) = search (rules, chains) in
+    let e = all_told letter_or_digit (take (length name - 1) (drop 1 name)) c.all.result m in
+    e ∙ sym (name_bytes name c.in-len1-up.len_at_least ∙ rw (← f, c.if-contains.true))
 
-pub loop-i-init : goal.loop-i-init
-loop-i-init c =
-    let l = c.letter in
-    (omega arith, omega arith, letter_first c.args.name.now (omega arith) (omega arith) (sym l.ensures ∙ c.if-not-letter.false))
-
-pub returns-then-not-letter_or_digit : goal.returns-then-not-letter_or_digit
-returns-then-not-letter_or_digit c =
-    let t = c.args.name.now in
-    let n : letter_or_digit (get_or t c.loop-i.i 0) ≡ false = sym c.letter_or_digit.ensures ∙ c.if-not-letter_or_digit.true in
-    sym (c.loop-i.invariant.2 ∙ all_next letter_or_digit t c.loop-i.i (omega arith) ∙ rw n)
-
-pub loop-i-preserved : goal.loop-i-preserved
-loop-i-preserved c =
-    let t = c.args.name.now in
-    let y : letter_or_digit (get_or t c.loop-i.i 0) ≡ true = sym c.letter_or_digit.ensures ∙ c.if-not-letter_or_digit.false in
-    (omega arith, omega arith, c.loop-i.invariant.2 ∙ rw y at (all_next letter_or_digit t c.loop-i.i (omega arith)))
-
-pub returns : goal.returns
-returns c =
-    let t = c.args.name.now in
-    sym (c.loop-i.invariant.2 ∙ all_done letter_or_digit t c.loop-i.i (omega arith))
+pub returns-else-contains : goal.returns-else-contains
+returns-else-contains c =
+    let name = c.args.name.now in
+    let f = front (goal.at.returns-else-contains c).Joined-is_ascii_alphabetic in
+    rw (c.if-contains.false) (sym (name_bytes name c.in-len1-up.len_at_least ∙ rw (← f, c.if-contains.false)))

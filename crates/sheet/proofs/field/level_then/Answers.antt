@@ -1,70 +1,43 @@
-use Prim.Native.Nat.{ℕ, ◌+◌}
-use mathlib.Core.Path.{◌≡◌, sym, ◌∙◌}
-use mathlib.Core.Bool.{true, ◌||◌}
+-- `sheet::field::level_then` meets its contract.
+use Prim.Native.Nat.{ℕ, suc, ◌+◌}
+use mathlib.Core.Path.{◌≡◌, sym, ap₂, ◌∙◌}
 use native.Mathlib.Omega.{arith}
-use lib.Dec.{eqb}
-use lib.ListN.{get_or}
-use Rattle.sheet.proofs.LevelLaws.{digits_start, digits_out, digits_low, digits_high, digits_end, digits_large, digits_on, none_left, first_low, first_high}
+use lib.ListN.{length, drop}
+use Rattle.std.specs.Prelude.{Some, None}
+use Rattle.sheet.specs.Walk.{field_of, level_of}
+use Rattle.sheet.proofs.Stops.{field_cut}
+use Rattle.sheet.proofs.RowLaws.{level_bad, level_far, level_other, level_good}
+use Rattle.sheet.proofs.LevelLaws.{level_of_none, level_of_some, then_off, then_on}
 use Rattle.sheet.proofs.field.level_then.Goals as goal
 
--- the byte that ends the digits is the one asked for
-ends : (x stop : ℕ) → x ≡ stop → (eqb stop 9 || eqb stop 10) ≡ true → (eqb x 9 || eqb x 10) ≡ true
-ends x stop e h = rw e h
-
-pub returns-then-text-start : goal.returns-then-text-start
-returns-then-text-start c =
+pub returns-then-text-end : goal.returns-then-text-end
+returns-then-text-end c =
     let s = c.args in
-    c.no_level.ensures ∙ sym (none_left s.stop s.text.now s.start (omega arith))
+    let e = c.end_of-end in
+    sym (then_off s.stop s.start (drop s.start s.text.now) (level_far s.text.now s.start e.result s.stop e.ensures c.if-text-end.true))
 
-pub returns-then-first-lt49 : goal.returns-then-first-lt49
-returns-then-first-lt49 c =
+pub returns-then-text-end-2 : goal.returns-then-text-end-2
+returns-then-text-end-2 c =
     let s = c.args in
-    c.no_level-then-first-lt49.ensures ∙ sym (first_low s.stop s.text.now s.start (omega arith) (omega arith))
+    let e = c.end_of-end in
+    sym (then_off s.stop s.start (drop s.start s.text.now) (level_other s.text.now s.start e.result s.stop e.ensures c.if-text-end-2.true))
 
-pub returns-then-first-gt57 : goal.returns-then-first-gt57
-returns-then-first-gt57 c =
+pub returns-in_err-level : goal.returns-in_err-level
+returns-in_err-level c =
     let s = c.args in
-    c.no_level-then-first-gt57.ensures ∙ sym (first_high s.stop s.text.now s.start (omega arith) (omega arith))
-
-pub loop-at-init : goal.loop-at-init
-loop-at-init c =
-    let s = c.args in
-    digits_start s.text.now s.start (omega arith) (omega arith) (omega arith)
-
-pub returns-then-v-gt-LEVEL : goal.returns-then-v-gt-LEVEL
-returns-then-v-gt-LEVEL c =
-    let s = c.args in
-    c.no_level-then-v-gt-LEVEL.ensures ∙ sym (digits_large s.text.now s.start c.loop-at.at c.loop-at.v s.stop c.loop-at.invariant (omega arith))
-
-pub returns-then-x-stop : goal.returns-then-x-stop
-returns-then-x-stop c =
-    let a = c.args in
-    let x = get_or a.text.now c.loop-at.at 0 in
-    let e = c.if-x-stop.true in
-    digits_end a.text.now a.start c.loop-at.at c.loop-at.v a.stop c.loop-at.invariant (omega arith) (ends x a.stop e c.requires) e (omega arith)
-
-pub returns-then-x-lt48 : goal.returns-then-x-lt48
-returns-then-x-lt48 c =
-    let s = c.args in
-    c.no_level-then-x-lt48.ensures ∙ sym (digits_low s.text.now s.start c.loop-at.at c.loop-at.v s.stop c.loop-at.invariant (omega arith) (omega arith) c.if-x-stop.false)
-
-pub returns-then-digit-gt9 : goal.returns-then-digit-gt9
-returns-then-digit-gt9 c =
-    let s = c.args in
-    c.no_level-then-digit-gt9.ensures ∙ sym (digits_high s.text.now s.start c.loop-at.at c.loop-at.v s.stop c.loop-at.invariant (omega arith) (omega arith))
-
-pub returns-then-v : goal.returns-then-v
-returns-then-v c =
-    let s = c.args in
-    let d = digits_on s.text.now s.start c.loop-at.at c.loop-at.v s.stop c.loop-at.invariant (omega arith) (omega arith) (omega arith) in
-    c.no_level-then-v.ensures ∙ sym (digits_large s.text.now s.start (c.loop-at.at + 1) _ s.stop d (omega arith))
-
-pub loop-at-preserved : goal.loop-at-preserved
-loop-at-preserved c =
-    let s = c.args in
-    digits_on s.text.now s.start c.loop-at.at c.loop-at.v s.stop c.loop-at.invariant (omega arith) (omega arith) (omega arith)
+    let e = c.end_of-end in
+    let f = field_of (drop s.start s.text.now) in
+    let none : None ≡ level_of f = rw (field_cut s.text.now s.start e.result e.ensures) at c.in_err-level.ensures in
+    c.from_residual.ensures ∙ sym (then_off s.stop s.start (drop s.start s.text.now) (level_bad s.stop s.start (drop s.start s.text.now) (level_of_none f none)))
 
 pub returns : goal.returns
 returns c =
     let s = c.args in
-    c.no_level-2.ensures ∙ sym (digits_out s.text.now s.start c.loop-at.at c.loop-at.v s.stop c.loop-at.invariant (omega arith))
+    let e = c.end_of-end in
+    let f = field_of (drop s.start s.text.now) in
+    let some : Some c.in_ok-level.level ≡ level_of f = rw (field_cut s.text.now s.start e.result e.ensures) at c.in_ok-level.ensures in
+    let v = level_of_some f c.in_ok-level.level some in
+    let byte = c.if-text-end-2.false in
+    let n : e.result + 1 ≡ s.start + suc (length f) = omega (arith, e.ensures) in
+    ap₂ (λ (x y : ℕ). Some (record { end = x; level = y })) n v.1
+    ∙ sym (then_on s.stop s.start (drop s.start s.text.now) (level_good s.text.now s.start e.result s.stop e.ensures c.if-text-end.false byte v.0))

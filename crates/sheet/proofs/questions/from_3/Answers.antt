@@ -12,7 +12,7 @@ use Rattle.refusal.specs.declared.Refusal.{Refusal}
 use Rattle.refusal.specs.declared.Refusal.TheVariants.{FirstLine, LaterLine}
 use Rattle.refusal.specs.Numbers.{number_of}
 use Rattle.sheet.specs.Answers.{first_line}
-use Rattle.sheet.proofs.QuestionLaws.{headed_none, headed_some, refused_3, fields_some, fields_few, columns_placed, later_bad, later_other, later_lines_lem, later_read, later_stored}
+use Rattle.sheet.proofs.QuestionLaws.{headed_none, headed_some, refused_3, fields_some, fields_few, columns_size, columns_placed, later_bad, later_other, later_lines_lem, later_read, later_stored}
 use Rattle.sheet.proofs.questions.from_3.Goals as goal
 use Rattle.sheet.proofs.questions.from_3.Goals.{In_ok-header, In_ok-plots}
 
@@ -67,13 +67,16 @@ returns-then-not-contains c =
       table = rw e;
     }
 
+pub shared_ref_as_front-store : goal.shared_ref_as_front-store
+shared_ref_as_front-store c = let t = told (goal.at.shared_ref_as_front-store c).In_ok-header in fields_few c.args.text.now t.0 c.in_ok-header.header t.1
+
 pub store-requires : goal.store-requires
 store-requires c =
     let d = (goal.at.store-requires c).In_ok-header in
     let t = told d in
     let some : c.judge.result ≡ Some c.in_ok-plots.plots = grind arith in
     let good : within 1 most_plots c.in_ok-plots.plots ≡ true = grind (arith, common_steps, nat_tests) in
-    (columns_placed d.args.text.now t.0 d.in_ok-header.header t.1 _ (omega arith), later_lines_lem d.args.text.now t.0 d.in_ok-header.header t.1 c.in_ok-plots.plots (sym some ∙ c.judge.ensures) good)
+    (columns_placed d.args.text.now t.0 d.in_ok-header.header t.1 _ (omega arith), rw (columns_size d.args.text.now t.0 d.in_ok-header.header t.1) (later_lines_lem d.args.text.now t.0 d.in_ok-header.header t.1 c.in_ok-plots.plots (sym some ∙ c.judge.ensures) good))
 
 pub returns : goal.returns
 returns c =

@@ -6,21 +6,21 @@ use Rattle.sheet.proofs.rows.judge.Goals as goal
 pub loop-at-init : goal.loop-at-init
 loop-at-init c = (omega arith, refl)
 
-pub returns-then-at-eq0 : goal.returns-then-at-eq0
-returns-then-at-eq0 c =
+pub returns-in_err-at : goal.returns-in_err-at
+returns-in_err-at c =
     let s = c.args in
-    sym (judge_off c.loop-at.count s.n s.text.now c.loop-at.at (omega arith) (sym c.row_end-at.ensures ∙ c.if-at-eq0.true)) ∙ c.loop-at.invariant.1
+    c.from_residual.ensures ∙ sym (judge_off c.loop-at.count s.n s.text.now c.loop-at.at (omega arith) c.in_err-at.ensures) ∙ c.loop-at.invariant.1
 
 pub loop-at-smaller : goal.loop-at-smaller
 loop-at-smaller c =
     let s = c.args in
-    let r = judge_on c.loop-at.count s.n s.text.now c.loop-at.at c.row_end-at.result (omega arith) c.row_end-at.ensures c.if-at-eq0.false in
+    let r = judge_on c.loop-at.count s.n s.text.now c.loop-at.at c.in_ok-at.at (omega arith) c.in_ok-at.ensures in
     omega arith
 
 pub loop-at-preserved : goal.loop-at-preserved
 loop-at-preserved c =
     let s = c.args in
-    let r = judge_on c.loop-at.count s.n s.text.now c.loop-at.at c.row_end-at.result (omega arith) c.row_end-at.ensures c.if-at-eq0.false in
+    let r = judge_on c.loop-at.count s.n s.text.now c.loop-at.at c.in_ok-at.at (omega arith) c.in_ok-at.ensures in
     (omega arith, sym r.1 ∙ c.loop-at.invariant.1)
 
 pub returns : goal.returns

@@ -1,7 +1,7 @@
 use mathlib.Core.Path.{refl, sym, ap, ◌∙◌}
 use native.Mathlib.Omega.{arith}
 use native.Mathlib.Nat.{zero-add}
-use lib.ListN.{length, take, drop}
+use lib.ListN.{length, drop}
 use Rattle.rules.specs.Sheet.{up_to, fields}
 use Rattle.rules.proofs.Sheet.{length_with_plot}
 use Rattle.sheet.proofs.StoreLaws.{more_none, more_form, more_turn}
@@ -15,9 +15,9 @@ pub store_row-at-requires : goal.store_row-at-requires
 store_row-at-requires c =
     let a = c.args in
     let m = c.loop-u.invariant.2 in (
-      record { some = c.requires.0.some; size = c.requires.0.size; places = c.requires.0.places; room = omega (arith, c.requires.0.room) },
+      record { some = c.requires.0.some; places = c.requires.0.places; room = omega (arith, c.requires.0.room) },
       omega (arith, c.requires.1.few),
-      more_form (take a.n a.columns.now) a.n c.loop-u.u a.plots a.text.now c.loop-u.at c.loop-u.levels _ m (omega arith),
+      more_form a.columns.now (length a.columns.now) c.loop-u.u a.plots a.text.now c.loop-u.at c.loop-u.levels _ m (omega arith),
     )
 
 pub loop-u-preserved : goal.loop-u-preserved
@@ -26,8 +26,8 @@ loop-u-preserved c =
     let m = c.loop-u.invariant.2 in
     let w = c.store_row-at.ensures in (
       omega arith,
-      ap length w.table ∙ length_with_plot (take a.n a.columns.now) c.loop-u.u (fields (up_to 10 (drop c.loop-u.at a.text.now))) c.loop-u.levels ∙ c.loop-u.invariant.1,
-      more_turn (take a.n a.columns.now) a.n c.loop-u.u a.plots a.text.now c.loop-u.at c.loop-u.levels _ m (omega arith) _ _ w.next w.table,
+      ap length w.table ∙ length_with_plot a.columns.now c.loop-u.u (fields (up_to 10 (drop c.loop-u.at a.text.now))) c.loop-u.levels ∙ c.loop-u.invariant.1,
+      more_turn a.columns.now (length a.columns.now) c.loop-u.u a.plots a.text.now c.loop-u.at c.loop-u.levels _ m (omega arith) _ _ w.next w.table,
     )
 
 pub shape_of-levels : goal.shape_of-levels
@@ -36,4 +36,4 @@ shape_of-levels c = c.loop-u.invariant.1
 pub returns : goal.returns
 returns c =
     let a = c.args in
-    more_none (take a.n a.columns.now) a.n c.loop-u.u a.plots a.text.now c.loop-u.at c.loop-u.levels _ c.loop-u.invariant.2 (omega arith)
+    more_none a.columns.now (length a.columns.now) c.loop-u.u a.plots a.text.now c.loop-u.at c.loop-u.levels _ c.loop-u.invariant.2 (omega arith)
