@@ -1,4 +1,4 @@
-// Standard input, read whole.
+// A reader, read whole into lent memory.
 #![tactic(auto)]
 
 ghost use Rattle.std.specs.Prelude.{ℕ, ◌<◌, ◌≤◌, length, take, IfOk, OnErr};
@@ -16,6 +16,7 @@ pub fn read_input<R: Read>(reader: &mut R, input: &mut [u8]) -> io::Result<usize
     ensures failed { OnErr result ((n : ℕ) × (n ≤ length input.old) × Consumes (R.remaining reader.old) (R.remaining reader.new) (take n input.new)) }
 {
     let mut done = 0;
+    // The library's `read_to_end` allocates, and its `read_exact` fails where the input ends early.
     while done < input.len() {
         let more = reader.read(&mut input[done..])?;
         if more == 0 {

@@ -100,6 +100,7 @@ pub fn is_mark(x: u8) -> bool
 }
 
 // Whether two texts have the same bytes.
+#[tactic(auto, using(crate::proofs::Walk::pairs_same))]
 pub fn same_bytes(a: &[u8], b: &[u8]) -> bool
     ensures { result ≡ same_bytes a.now b.now }
 {

@@ -69,6 +69,7 @@ pub fn store(text: &[u8], start: usize, columns: &[u8], plots: usize, levels: &m
     ensures { levels.new ≡ with_plots columns.now 0 (lines (drop start text.now)) levels.old }
 {
     let mut at = start;
+    // The number of the plot is no place in the text: a line's end tells where the next one starts.
     for u in 0..plots {
         at = store_row(text, at, columns, u, levels);
     }
