@@ -15,14 +15,14 @@ use crate::store::{grown, place, put, try_place};
 use families::member;
 use limits::{FAMILY, MEMBERS, PLOTS};
 
-// Meets member `i` with what was met before it, in the first `n` bytes; answers how many classes there are.
-fn meet_member(store: &[u8], i: usize, n: usize, points: &mut [u8; PLOTS]) -> usize
-    requires { (n ≤ most_plots) × (length store.now ≡ family_bytes) × (i < most_members) }
-    ensures answer { result ≡ classes (infimum (column_at n store.now i) (take n points.old)) }
-    ensures met { take n points.new ≡ infimum (column_at n store.now i) (take n points.old) }
+// Meets a column with what was met before it, in as many first bytes; answers how many classes there are.
+pub fn meet(column: &[u8], points: &mut [u8; PLOTS]) -> usize
+    requires { length column.now ≤ most_plots }
+    ensures answer { result ≡ classes (infimum column.now (take (length column.now) points.old)) }
+    ensures met { take (length column.now) points.new ≡ infimum column.now (take (length column.now) points.old) }
 {
     let mut next = [0u8; PLOTS];
-    let m = standing::infimum(member(store, i, n), points, &mut next);
+    let m = standing::infimum(column, points, &mut next);
     *points = next;
     m
 }
@@ -42,7 +42,7 @@ pub fn meet_members(
     let mut m = 1;
     for (i, &k) in counts[..size].iter().enumerate() {
         if k as usize != n {
-            m = meet_member(store, i, n, points);
+            m = meet(member(store, i, n), points);
         }
     }
     m

@@ -10,9 +10,9 @@ ghost use Rattle.design.specs.State.{column_at};
 ghost use Rattle.design.specs.Judging.{Listing};
 ghost use Rattle.design.specs.Points.{Points, Ranged, points_on_plots};
 
-use crate::closed::{ClosedFamily, close_family, times};
+use crate::closed::{ClosedFamily, close_family};
 use crate::closing::{PAIRS, close};
-use crate::points::spread_all;
+use crate::points::{meet, spread_all};
 use crate::treatments::place_choices;
 use limits::{COLUMNS, FAMILY, LEVELS, Level, MEMBERS, PLOTS};
 
@@ -20,32 +20,20 @@ use limits::{COLUMNS, FAMILY, LEVELS, Level, MEMBERS, PLOTS};
 const SOME_COLUMNS: usize = 4;
 
 // How many classes column `c` of the level table has.
-fn column_classes(levels: &[Level], c: usize, n: usize) -> u8
-    requires { (n ≤ most_plots) × (most_plots * c + most_plots ≤ length levels.now) }
-{
-    let mut column = [0u8; PLOTS];
-    levels::column_numbers(levels, c, n, &mut column) as u8
+fn column_classes(levels: &[Level], c: usize, n: usize) -> usize {
+    levels::column_numbers(levels, c, n, &mut [0u8; PLOTS])
 }
 
 // Whether four treatment columns or more have few combinations of classes, half as many as there are plots, at most: then there are few
 // points. Columns of two classes or more have two to the power of their number, at least. Any answer is right; this one is quick.
 pub fn few_combinations(levels: &[Level], n: usize, d: usize) -> bool
-    requires { (n ≤ most_plots) × (d ≤ 6) × (table_cells ≤ length levels.now) }
+    requires { d ≤ 6 }
 {
-    if d < SOME_COLUMNS {
-        return false;
-    }
-    if n >> d < 2 {
-        return false;
-    }
-    let mut combinations: usize = 2;
-    for c in 0..d {
-        combinations = times(combinations, column_classes(levels, COLUMNS + c, n));
-        if n < combinations {
-            return false;
-        }
-    }
-    true
+    SOME_COLUMNS <= d
+        && 2 <= n >> d
+        && (COLUMNS..COLUMNS + d).fold(2, |product: usize, c| {
+            product.saturating_mul(column_classes(levels, c, n))
+        }) <= n
 }
 
 // Meets column `c` of the level table with what was met before it, in the first `n` bytes; answers how many classes there are.
@@ -56,10 +44,7 @@ fn meet_level(levels: &[Level], c: usize, n: usize, points: &mut [u8; PLOTS]) ->
 {
     let mut column = [0u8; PLOTS];
     levels::column_numbers(levels, c, n, &mut column);
-    let mut next = [0u8; PLOTS];
-    let m = standing::infimum(&column[..n], points, &mut next);
-    *points = next;
-    m
+    meet(&column[..n], points)
 }
 
 // Numbers the points of the treatment columns, in the first `n` bytes of `points`, which are 1 before; answers how many there are.
@@ -80,11 +65,10 @@ fn gathered_level(levels: &[Level], c: usize, n: usize, points: &[u8; PLOTS]) ->
     requires { (n ≤ most_plots) × (most_plots * c + most_plots ≤ length levels.now) × (c < 12) × Ranged n (take n points.now) × Finer n (take n points.now) (column_at n levels.now c) }
     ensures { (length result ≡ most_plots) × (points_on_plots (take n points.now) result ≡ column_at n levels.now c) }
 {
-    let at = PLOTS * c;
+    let start = PLOTS * c;
     let mut column: [Level; PLOTS] = [0; PLOTS];
-    for u in 0..n {
-        let x = points[u] as usize - 1;
-        column[x] = levels[at + u];
+    for (u, &level) in levels[start..start + n].iter().enumerate() {
+        column[points[u] as usize - 1] = level;
     }
     column
 }
@@ -94,10 +78,8 @@ fn put_level(own: &mut [Level], c: usize, column: &[Level; PLOTS])
     requires { (length column.now ≡ most_plots) × (c < 12) × (most_plots * c + most_plots ≤ length own.old) }
     ensures { own.new ≡ paste own.old (most_plots * c) column.now most_plots }
 {
-    let at = PLOTS * c;
-    for u in 0..PLOTS {
-        own[at + u] = column[u];
-    }
+    let start = PLOTS * c;
+    own[start..start + PLOTS].copy_from_slice(column);
 }
 
 // Gathers the treatment columns in a level table of their own, from its first column on.

@@ -114,9 +114,7 @@ fn fill_infima(
     put(infima, 0, &ones[..n]);
     let mut lengths = [0u8; CHOICES];
     let mut total = 1;
-    let mut c = d;
-    while 0 < c {
-        c -= 1;
+    for c in (0..d).rev() {
         total = extend_by(levels, first + c, infima, &mut lengths, total, n, k);
     }
     total

@@ -3,8 +3,8 @@
 ghost use Rattle.std.specs.Prelude.{◌≤◌, ◌<◌};
 
 use crate::plots::put;
-use crate::show::{print, print_classes, print_next};
-use design::FullDesign;
+use crate::show::print_classes;
+use design::Sizes;
 use limits::{FAMILY, LEVELS, Level, PLOTS};
 use std::io;
 
@@ -31,26 +31,21 @@ fn show(
         &mut plot_family,
         &mut treatment_family,
     );
-    let mut plot = 0;
-    let mut treatment = 0;
-    match answer {
-        FullDesign::Accepted(s) => {
-            print(rt, 0)?;
-            print_next(rt, 0)?;
-            print_next(rt, 0)?;
-            plot = s.plot;
-            treatment = s.treatment;
+    let Sizes { plot, treatment } = match answer {
+        Ok(sizes) => {
+            print!(rt; "0 0 0")?;
+            sizes
         }
-        FullDesign::Refused(r) => {
-            print(rt, r.number as usize)?;
-            print_next(rt, r.first)?;
-            print_next(rt, r.second)?;
-            plot = r.plot;
-            treatment = r.treatment;
+        Err(refusal) => {
+            let question = refusal.question.number();
+            print!(rt; "{question} {} {}", refusal.first, refusal.second)?;
+            Sizes {
+                plot: refusal.plot,
+                treatment: refusal.treatment,
+            }
         }
-    }
-    print_next(rt, plot)?;
-    print_next(rt, treatment)?;
+    };
+    print!(rt; " {plot} {treatment}")?;
     rt.write_all(b" |")?;
     print_classes(rt, &plot_family, plots, plot)?;
     rt.write_all(b" |")?;
@@ -62,9 +57,10 @@ fn show(
 fn fill(levels: &mut [Level; LEVELS], c: usize, plots: usize, run: usize, classes: usize)
     requires { (c < 12) × (plots ≤ 240) × (0 < run) × (0 < classes) }
 {
-    for u in 0..plots {
+    let start = PLOTS * c;
+    for (u, level) in levels[start..start + plots].iter_mut().enumerate() {
         let x = u / run % classes;
-        levels[PLOTS * c + u] = (x % NEW + 1) as Level;
+        *level = (x % NEW + 1) as Level;
     }
 }
 

@@ -1,31 +1,29 @@
 // The plot designs among the small trials with known outcome, and bad input.
 // Each line: the number of the refusal or 0, its two places, the size, and the number of classes of each member written.
 
-use crate::show::{print, print_classes, print_next};
-use design::PlotDesign;
+ghost use Rattle.std.specs.Prelude.{◌<◌};
+
+use crate::show::print_classes;
 use limits::{FAMILY, LEVELS, Level, PLOTS};
 use std::io;
 
 // Prints what a plot design answers, and what it leaves in a buffer of the right length.
 fn show_slice(rt: &impl Print, levels: &[Level], plots: usize, columns: usize) -> io::Result<()> {
     let mut family = [0u8; FAMILY];
-    let answer = design::plot_design(levels, plots, columns, &mut family);
-    let mut size = 0;
-    match answer {
-        PlotDesign::Accepted(s) => {
-            print(rt, 0)?;
-            print_next(rt, 0)?;
-            print_next(rt, 0)?;
-            size = s;
+    let size = match design::plot_design(levels, plots, columns, &mut family) {
+        Ok(size) => {
+            print!(rt; "0 0 0 {size}")?;
+            size
         }
-        PlotDesign::Refused(r) => {
-            print(rt, r.number as usize)?;
-            print_next(rt, r.first)?;
-            print_next(rt, r.second)?;
-            size = r.size;
+        Err(refusal) => {
+            let question = refusal.question.number();
+            print!(rt;
+                "{question} {} {} {}",
+                refusal.first, refusal.second, refusal.size
+            )?;
+            refusal.size
         }
-    }
-    print_next(rt, size)?;
+    };
     print_classes(rt, &family, plots, size)?;
     rt.write_all(b"\n")
 }
@@ -41,30 +39,22 @@ fn show_short(rt: &impl Print) -> io::Result<()> {
     show_slice(rt, &levels, 64, 1)
 }
 
-fn level(x: u8) -> Level {
-    if x < 48 {
-        return 0;
-    }
-    (x - 48) as Level
-}
-
 // Writes a column of one-digit levels.
-pub(crate) fn put(levels: &mut [Level; LEVELS], c: usize, digits: &[u8]) {
-    for u in 0..digits.len() {
-        if u < PLOTS {
-            if c < 12 {
-                levels[PLOTS * c + u] = level(digits[u]);
-            }
-        }
+pub(crate) fn put(levels: &mut [Level; LEVELS], c: usize, digits: &[u8])
+    requires { c < 12 }
+{
+    for (level, &digit) in levels[PLOTS * c..].iter_mut().zip(digits) {
+        *level = Level::from(digit.saturating_sub(b'0'));
     }
 }
 
 // Six two-level columns fully crossed on 64 plots.
 fn cross(levels: &mut [Level; LEVELS]) {
-    for k in 0..384 {
-        let c = k / 64;
-        let u = k % 64;
-        levels[PLOTS * c + u] = (((u >> c) % 2) + 1) as Level;
+    for c in 0..6 {
+        let start = PLOTS * c;
+        for (u, level) in levels[start..start + 64].iter_mut().enumerate() {
+            *level = ((u >> c) % 2 + 1) as Level;
+        }
     }
 }
 

@@ -8,6 +8,3 @@ use Rattle.design.proofs.treatments.fill_infima.Given as goal
 
 abbrev pub invariant-loop-c : goal.invariant-loop-c
 invariant-loop-c l = (l.c ≤ l.d) × (doubled l.c l.total ≤ 64) × (doubled l.c l.total ≤ length l.infima / 240) × (length l.infima ≡ length l.initial.infima) × Infima l.n l.infima l.lengths l.total (last_of l.n l.k l.first l.d l.levels l.c)
-
-abbrev pub decreases-loop-c : goal.decreases-loop-c
-decreases-loop-c l = l.c
