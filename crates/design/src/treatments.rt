@@ -151,36 +151,34 @@ fn place_all(
     ensures { AllPlaced n (members_of n infima.now total ++ members_of n store.old size) store.new counts.new result }
 {
     let mut now = size;
-    let mut e = total;
-    while 0 < e {
-        e -= 1;
+    for e in (0..total).rev() {
         let p = place_one(infima, e, n, store, counts, now)?;
         now = grown(now, p);
     }
     Some(now)
 }
 
-// Places U and all infima of 1 to `k` different columns of the `d` from `first` on beside the members of a store, with memory for the
-// infima; answers how many members there are then, unless too many.
-fn place_infima(
+// Places U and all infima of 1 to `k` different columns of the `d` from `first` on beside the members of a store, with so many bytes for
+// the infima; answers how many members there are then, unless they are too many.
+fn place_infima<const BYTES: usize>(
     levels: &[Level],
     n: usize,
     first: usize,
     d: usize,
     k: usize,
-    infima: &mut [u8],
     store: &mut [u8],
     counts: &mut [u8; MEMBERS],
     size: usize,
 ) -> Option<usize>
-    requires { (d ≤ 6) × (1 ≤ k) × (k ≤ 6) × (first ≤ 6) × (table_cells ≤ length levels.now) × (((d ≤ 3) × (1920 ≤ length infima.old)) ⊎ (15360 ≤ length infima.old)) × Begun n (members_of n store.old size) store.old counts.old size }
+    requires { (d ≤ 6) × (1 ≤ k) × (k ≤ 6) × (first ≤ 6) × (table_cells ≤ length levels.now) × (((d ≤ 3) × (1920 ≤ BYTES)) ⊎ (15360 ≤ BYTES)) × (BYTES ≤ 15360) × Begun n (members_of n store.old size) store.old counts.old size }
     ensures { AllPlaced n (treatment_generators n k (columns_from n levels.now first d) ++ members_of n store.old size) store.new counts.new result }
 {
-    let total = fill_infima(levels, n, first, d, k, infima);
-    place_all(infima, total, n, store, counts, size)
+    let mut infima = [0u8; BYTES];
+    let total = fill_infima(levels, n, first, d, k, &mut infima);
+    place_all(&infima, total, n, store, counts, size)
 }
 
-// The same, with memory of its own for the infima.
+// The same, with bytes as they are needed.
 pub fn place_choices(
     levels: &[Level],
     n: usize,
@@ -195,11 +193,9 @@ pub fn place_choices(
     ensures { AllPlaced n (treatment_generators n k (columns_from n levels.now first d) ++ members_of n store.old size) store.new counts.new result }
 {
     if d < FEW_COLUMNS {
-        let mut infima = [0u8; FEW_INFIMA];
-        return place_infima(levels, n, first, d, k, &mut infima, store, counts, size);
+        return place_infima::<FEW_INFIMA>(levels, n, first, d, k, store, counts, size);
     }
-    let mut infima = [0u8; INFIMA];
-    place_infima(levels, n, first, d, k, &mut infima, store, counts, size)
+    place_infima::<INFIMA>(levels, n, first, d, k, store, counts, size)
 }
 
 // Closes the first treatment family on all plots.

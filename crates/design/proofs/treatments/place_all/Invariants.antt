@@ -7,6 +7,3 @@ use Rattle.design.proofs.treatments.place_all.Given as goal
 
 abbrev pub invariant-loop-e : goal.invariant-loop-e
 invariant-loop-e l = (l.e ≤ l.total) × Begun l.n (columns_from l.n l.infima l.e (l.total - l.e) ++ members_of l.n l.initial.store l.size) l.store l.counts l.now
-
-abbrev pub decreases-loop-e : goal.decreases-loop-e
-decreases-loop-e l = l.e
