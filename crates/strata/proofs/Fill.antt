@@ -7,7 +7,7 @@ use lib.ListN.{length, get_or, set, take, replicate}
 use lib.Seq.{get_or-take, ext_get_or}
 use Rattle.rules.specs.Lists.{tabulate, for_places}
 use Rattle.rules.proofs.Lists.{length_tabulate, get_d_tabulate}
-use Rattle.rules.proofs.Places.{at_places_lem, tabulate_ext, places_start, places_step, places_end}
+use Rattle.rules.proofs.Places.{at_places_lem, places_start, places_step, places_end}
 
 module _ {A : Type 0} (z : A) (f : ℕ → A) where
   -- f 0, .., f (i - 1), then z
@@ -31,10 +31,6 @@ module _ {A : Type 0} (z : A) (f : ℕ → A) where
   pub up_end : (n i : ℕ) → n ≤ i → up_to n i ≡ for_places z (tabulate f n)
   unfolding up_to
   up_end n i h = places_end z (tabulate f n) i (rw (length_tabulate f n) h)
-
-  pub up_all : (i : ℕ) → 32 ≤ i → up_to 32 i ≡ tabulate f 32
-  unfolding for_places
-  up_all i h = up_end 32 i h ∙ tabulate_ext (λ k. get_or (tabulate f 32) k z) f 32 (λ k l. get_d_tabulate f 32 k z l)
 
 -- an array that is known place by place
 pub tabulated : {A : Type 0} (f : ℕ → A) (xs : List A) (n : ℕ) (z : A) → length xs ≡ n → ((k : ℕ) → k < n → get_or xs k z ≡ f k) → xs ≡ tabulate f n

@@ -3,7 +3,7 @@
 use mathlib.Core.Path.{◌≡◌, refl, sym, ap, ap₂, ◌∙◌}
 use mathlib.Core.Bool.{Bool, true, false, not, ◌&&◌, ◌||◌}
 use mathlib.Core.List.{List, [], ◌∷◌, map}
-use Prim.Native.Nat.{ℕ, zero, suc, ◌+◌, ◌-◌, ◌≤◌, ◌<◌}
+use Prim.Native.Nat.{ℕ, zero, suc, ◌+◌, ◌≤◌, ◌<◌}
 use native.Mathlib.Nat.{not-suc-le-zero, le_of_suc-le-suc, zero-add}
 use native.Mathlib.Numerals.{add-one, one-add}
 use native.Mathlib.Omega.{arith}
@@ -18,7 +18,7 @@ use Rattle.rules.specs.Family.{Family, members_of}
 use Rattle.rules.specs.Design.{first_failing}
 use Rattle.rules.specs.Lists.{tabulate, for_places, word_of, bit_at}
 use Rattle.rules.specs.Degrees.{degrees}
-use Rattle.rules.specs.Strata.{all, is_stratum, stratum, sum_at, residuals_from, residuals, all_have_stratum}
+use Rattle.rules.specs.Strata.{all, is_stratum, stratum, sum_at, residuals_from, residuals}
 use Rattle.rules.proofs.Numbering.{by_cases}
 use Rattle.rules.proofs.Members.{clash}
 use Rattle.rules.proofs.Tests.{every_at, every_all}
@@ -143,21 +143,6 @@ module _ (t : ℕ → Bool) (i k : ℕ) where
   unfolding first_passing
   passing_no e = rw (e, first_passing)
 
--- a search that has come to i: one turn, and its end
-module _ (t : ℕ → Bool) (i n : ℕ) (h : i < n) where
-  rest : n - i ≡ suc (n - suc i)
-  rest = omega arith
-
-  pub passing_here : t i ≡ true → first_passing t i (n - i) ≡ i + 1
-  passing_here e = ap (first_passing t i) rest ∙ passing_yes t i (n - suc i) e ∙ sym (add-one i)
-
-  pub passing_on : t i ≡ false → first_passing t i (n - i) ≡ first_passing t (i + 1) (n - (i + 1))
-  passing_on e = ap (first_passing t i) rest ∙ passing_no t i (n - suc i) e ∙ ap (λ (m : ℕ). first_passing t m (n - m)) (sym (add-one i))
-
-pub passing_end : (t : ℕ → Bool) (i n : ℕ) → n ≤ i → first_passing t i (n - i) ≡ 0
-unfolding first_passing
-passing_end t i n h = let e : n - i ≡ 0 = omega arith in rw e
-
 pub passing_ext : (s t : ℕ → Bool) (i k : ℕ) → ((j : ℕ) → j < k → s (i + j) ≡ t (i + j)) → first_passing s i k ≡ first_passing t i k
 unfolding first_passing
 passing_ext s t i zero h = refl
@@ -245,16 +230,6 @@ module _ {n : ℕ} {b : List ℕ} {size : ℕ} (is : Formed n b size) (r : List 
       words =
           word_ext (λ p. finer n (column_at n b p) T) (λ p. finer n (get_or P p []) T) size (λ p l. sym (ap (λ (F : Column). finer n F T) (member_is n is.few_plots b size p l)))
           ∙ ap (word_of (λ p. finer n (get_or P p []) T)) (sym (size_members is))
-
--- 16, by the places
-pub placed_is : (n : ℕ) (P R : Family) (size : ℕ) → length R ≡ size → size ≤ 32 → (places : List ℕ) → places ≡ for_places 0 (map (stratum n P) R)
-    → every size (λ t. not (eqb (get_or places t 0) 0)) ≡ all_have_stratum n P R
-unfolding all_have_stratum
-placed_is n P R size l h places e =
-    every_ext (λ t. not (eqb (get_or places t 0) 0)) (λ t. not (eqb (stratum n P (get_or R t [])) 0)) size
-    (λ t k. ap (λ (x : ℕ). not (eqb x 0)) (ap (λ (ps : List ℕ). get_or ps t 0) e ∙ at_places_lem 0 (map (stratum n P) R) t (omega arith) ∙ get_d_map (stratum n P) R t (omega arith)))
-    ∙ ap (λ (m : ℕ). every m (λ t. not (eqb (stratum n P (get_or R t [])) 0))) (sym l)
-    ∙ sym (all_every (λ T. not (eqb (stratum n P T) 0)) R)
 
 -- ---- residuals
 
