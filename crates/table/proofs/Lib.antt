@@ -1,3 +1,4 @@
 pub mod RowLaws
 pub mod NameTable
 pub mod TableLaws
+pub mod Fault

@@ -8,7 +8,7 @@ use native.Mathlib.Nat.{not-suc-le-zero}
 use native.Mathlib.Omega.{arith}
 use lib.Dec.{eqb}
 use lib.ListN.{length, get_or, take, drop, set, length-append, length-take, length-drop, length-set}
-use lib.Seq.{take_all, take_at, drop_at, take-take, take-add, length-take-le, set_split, get_or-set_same, get_or-set_other}
+use lib.Seq.{take_all, take_at, take-append-le, take-length, drop_at, take-take, take-add, length-take-le, get_or-set_same, get_or-set_other}
 use borrow.Author.Tests.{lt-ltb, le-leb, eq-eqb, eqb-true, eqb-false}
 use Rattle.rules.specs.Family.{Family, members_of}
 use Rattle.rules.specs.Design.{plots_within}
@@ -22,10 +22,13 @@ use Rattle.families.specs.Lent.{column_at}
 use Rattle.families.proofs.Lent.{length_column}
 use Rattle.sheet.specs.declared.Counts.{Counts}
 use Rattle.naming.specs.declared.Kind.{Kind as Stated}
-use Rattle.naming.specs.Answers.{kind_of, look_of, look_fits, member_fits, name_by, naming_by, starting_with}
+use Rattle.std.specs.Prelude.{Result, Ok, Err}
+use Rattle.refusal.specs.declared.Refusal.{Refusal}
+use Rattle.refusal.proofs.Numbers.{numbered}
+use Rattle.naming.specs.Answers.{kind_of, look_of, look_fits, member_fits, name_by, naming_by, starting_with, NameNumbers, name_numbers}
 use Rattle.naming.specs.Members.{names_written, lengths_written, members_fit, member_by, family_held}
 use Rattle.naming.proofs.Entry.{plots_are, few_looked, counted_on, counted_short, named_for}
-use Rattle.table.specs.Names.{NameableBy, NameSlots, name_in, names_in, placed_name}
+use Rattle.table.specs.Names.{NameableBy, name_in, names_in, placed_name}
 
 -- ---- one name
 
@@ -54,14 +57,19 @@ name_placed kind counts text levels buffer (suc i) room w l h r =
     ap (λ (k : ℕ). naming_by (look_of kind counts) text levels (column_at counts.plots buffer k) (suc i) room) e
     ∙ named_for kind counts text levels (column_at counts.plots buffer i) (suc i) room w.0.form w.1 h (fits_place kind counts text levels buffer i room w (omega arith) r)
 
--- no name at place 0
-pub name_none : (kind : Kind) (text levels buffer name : List ℕ) (n : ℕ) → 1 ≤ length name → set name 0 45 ≡ starting_with (placed_name kind text n levels buffer 0) name
-unfolding placed_name
-name_none kind text levels buffer name n h = set_split name 0 45 h
+-- a name that is answered has so many bytes
+pub is_named : (r : Result ℕ Refusal) (m : ℕ) → name_numbers r ≡ record { accepted = true; refusal = 0; size = m } → r ≡ Ok m
+unfolding name_numbers
+is_named (Ok k) m e = ap Ok (ap (λ (x : NameNumbers). x.size) e)
+is_named (Err q) m e = absurd (omega (arith, numbered q, ap (λ (x : NameNumbers). x.refusal) e))
 
-pub length_none : (kind : Kind) (text levels buffer : List ℕ) (n : ℕ) → 1 ≡ length (placed_name kind text n levels buffer 0)
-unfolding placed_name
-length_none kind text levels buffer n = refl
+-- what a writer that answers a text's length left: there is room for as much, and it starts with the text
+module _ (r : ℕ) (name before after : List ℕ) (e : r ≡ length name) (f : after ≡ starting_with name before) where
+  pub starting_room : r ≤ length after
+  starting_room = let l : length after ≡ length name + length (drop (length name) before) = ap length f ∙ length-append name (drop (length name) before) in omega arith
+
+  pub starting_take : take r after ≡ name
+  starting_take = rw (e, f) (take-append-le (length name) name (drop (length name) before) (omega arith) ∙ take-length name)
 
 -- the name at a place is that of the family's member there
 pub placed_member : (kind : Kind) (text levels buffer : List ℕ) (n size i : ℕ) → n ≤ 240 → i < size → placed_name kind text n levels buffer (suc i) ≡ name_at kind text n levels (members_of n buffer size) (suc i)
@@ -181,6 +189,3 @@ filled_names kind text n levels buffer size names lengths h f =
   where
     one_more : (j : ℕ) → suc j ≡ 1 + j
     one_more j = omega arith
-
-pub filled_named : (name : ℕ → List ℕ) (names lengths : List ℕ) (size : ℕ) → 160 * size ≤ length names → size ≤ length lengths → Filled name names lengths size → NameSlots names lengths size
-filled_named name names lengths size h l f = record { room = h; counted = l; short = λ j k. (f j k).0 }

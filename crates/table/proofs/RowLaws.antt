@@ -3,15 +3,15 @@
 use mathlib.Core.Path.{◌≡◌, refl, sym, ap, ap₂, ◌∙◌}
 use mathlib.Core.Bool.{Bool, true, false, ◌||◌}
 use mathlib.Core.List.{List, [], ◌∷◌, ◌++◌, append_assoc, append-nil}
-use Prim.Native.Nat.{ℕ, zero, suc, ◌+◌, ◌*◌, ◌<◌, ◌≤◌}
-use native.Mathlib.Nat.{not-suc-le-zero, le_of_suc-le-suc}
+use Prim.Native.Nat.{ℕ, suc, ◌+◌, ◌<◌, ◌≤◌}
 use native.Mathlib.Numerals.{add-one}
 use native.Mathlib.Omega.{arith}
 use lib.Dec.{eqb, ltb}
 use lib.IntN.{ℤ, pos, negsuc}
 use lib.ListN.{length, get_or, take, drop, drop_of_length-le}
-use lib.Seq.{drop-cons, append_snoc, take-suc, get_or-take, length-take-le}
+use lib.Seq.{drop-cons, append_snoc, get_or-take, length-take-le}
 use borrow.Author.Tests.{lt-ltb, eq-eqb, ne_eqb}
+use Rattle.std.specs.List.{list_any}
 use Rattle.rules.proofs.Lists.{length_tabulate, get_d_tabulate}
 use Rattle.rules.specs.Lists.{decimal_of}
 use Rattle.rules.specs.Table.{Row, refused_row, word_all, row_bytes, rows_bytes, signed, is_zero, source_rows, residual_rows, stratum_rows, strata_rows, word_total, word_residual}
@@ -70,32 +70,10 @@ source_end name i ts ss ds j h = rw (drop_of_length-le ts h)
 
 -- ---- whether a stratum has a treatment member
 
-pub among_yes : (i : ℕ) (ss : List ℕ) (n j : ℕ) → j < n → j < length ss → get_or ss j 0 ≡ i → among i (take n ss) ≡ true
+pub among_any : (i : ℕ) (ss : List ℕ) → among i ss ≡ list_any (λ y. eqb y i) ss
 unfolding among
-among_yes i [] n j h l e = absurd (not-suc-le-zero l)
-among_yes i (s ∷ ss) zero j h l e = absurd (not-suc-le-zero h)
-among_yes i (s ∷ ss) (suc n) zero h l e = rw (eq-eqb s i e)
-among_yes i (s ∷ ss) (suc n) (suc j) h l e = rw (among_yes i ss n j (le_of_suc-le-suc h) (le_of_suc-le-suc l) e) (or_true (eqb s i))
-  where
-    or_true : (b : Bool) → (b || true) ≡ true
-    or_true true = refl
-    or_true false = refl
-
-among_snoc : (i : ℕ) (ss : List ℕ) (s : ℕ) → among i ss ≡ false → eqb s i ≡ false → among i (ss ++ (s ∷ [])) ≡ false
-unfolding among
-among_snoc i [] s m e = rw e
-among_snoc i (z ∷ ss) s m e = go (eqb z i) m (λ n. among_snoc i ss s n e)
-  where
-    go : (t : Bool) → (t || among i ss) ≡ false → (among i ss ≡ false → among i (ss ++ (s ∷ [])) ≡ false) → (t || among i (ss ++ (s ∷ []))) ≡ false
-    go true m f = m
-    go false m f = f m
-
-pub among_more : (i : ℕ) (ss : List ℕ) (j : ℕ) → j < length ss → among i (take j ss) ≡ false → ((get_or ss j 0 ≡ i) → ⊥) → among i (take (j + 1) ss) ≡ false
-among_more i ss j h m e = rw (add-one, take-suc ss j 0) (among_snoc i (take j ss) (get_or ss j 0) m (ne_eqb (get_or ss j 0) i e))
-
-pub among_none : (i : ℕ) (ss : List ℕ) → among i (take 0 ss) ≡ false
-unfolding among
-among_none i ss = refl
+among_any i [] = refl
+among_any i (s ∷ ss) = ap (λ b. eqb s i || b) (among_any i ss)
 
 -- it has one exactly where it has a line
 pub among_rows : (name : List ℕ) (i : ℕ) (ts : List (List ℕ)) (ss : List ℕ) (ds : List ℤ) → length ts ≡ length ss → length ds ≡ length ss → ltb 0 (length (source_rows name i ts ss ds)) ≡ among i ss
@@ -131,8 +109,8 @@ pub length_names : (names lengths : List ℕ) (size : ℕ) → length (names_in 
 unfolding names_in
 length_names names lengths size = length_tabulate (name_in names lengths) size
 
-pub name_at_lem : (names lengths : List ℕ) (size j : ℕ) → j < size → get_or (names_in names lengths size) j [] ≡ take (get_or lengths j 0) (drop (160 * j) names)
-unfolding names_in name_in
+pub name_at_lem : (names lengths : List ℕ) (size j : ℕ) → j < size → get_or (names_in names lengths size) j [] ≡ name_in names lengths j
+unfolding names_in
 name_at_lem names lengths size j h = get_d_tabulate (name_in names lengths) size j [] h
 
 -- a residual that is not 0
@@ -145,7 +123,7 @@ residual_line name false r f e = let z : ◌≡◌ {A = ℕ} 0 1 = cc in absurd 
 -- the members from place j on, by their names, places and numbers
 pub source_step : (name : List ℕ) (i : ℕ) (names lengths : List ℕ) (size : ℕ) (places : List ℕ) (numbers : List ℤ) (j : ℕ) → j < size → size ≤ length places → size ≤ length numbers
     → rows_bytes (source_rows name i (drop j (names_in names lengths size)) (drop j (take size places)) (drop j (take size numbers)))
-    ≡ rows_bytes (source_rows name i (take (get_or lengths j 0) (drop (160 * j) names) ∷ []) (get_or places j 0 ∷ []) (get_or numbers j (pos 0) ∷ []))
+    ≡ rows_bytes (source_rows name i (name_in names lengths j ∷ []) (get_or places j 0 ∷ []) (get_or numbers j (pos 0) ∷ []))
     ++ rows_bytes (source_rows name i (drop (j + 1) (names_in names lengths size)) (drop (j + 1) (take size places)) (drop (j + 1) (take size numbers)))
 source_step name i names lengths size places numbers j h hp hn =
     let ts = names_in names lengths size in
@@ -175,7 +153,7 @@ stratum_bytes name i names lengths size places numbers total r hp hn =
 -- the strata from place i on
 pub strata_step : (strata lens : List ℕ) (count : ℕ) (totals residuals : List ℤ) (ts : List (List ℕ)) (ss : List ℕ) (ds : List ℤ) (i : ℕ) → i < count → count ≤ length totals → count ≤ length residuals
     → rows_bytes (strata_rows (i + 1) (drop i (names_in strata lens count)) (drop i (take count totals)) (drop i (take count residuals)) ts ss ds)
-    ≡ rows_bytes (stratum_rows (take (get_or lens i 0) (drop (160 * i) strata)) (i + 1) ts ss ds (get_or totals i (pos 0)) (get_or residuals i (pos 0)))
+    ≡ rows_bytes (stratum_rows (name_in strata lens i) (i + 1) ts ss ds (get_or totals i (pos 0)) (get_or residuals i (pos 0)))
     ++ rows_bytes (strata_rows (i + 1 + 1) (drop (i + 1) (names_in strata lens count)) (drop (i + 1) (take count totals)) (drop (i + 1) (take count residuals)) ts ss ds)
 unfolding strata_rows
 strata_step strata lens count totals residuals ts ss ds i h ht hr =
@@ -185,7 +163,7 @@ strata_step strata lens count totals residuals ts ss ds i h ht hr =
     let lp : i < length ps = omega (arith, length_names strata lens count) in
     let le : i < length es = omega (arith, length-take-le count totals ht) in
     let lr : i < length rs = omega (arith, length-take-le count residuals hr) in
-    let name : List ℕ = take (get_or lens i 0) (drop (160 * i) strata) in
+    let name : List ℕ = name_in strata lens i in
     let rows = stratum_rows name (i + 1) ts ss ds (get_or totals i (pos 0)) (get_or residuals i (pos 0)) in
     let rest = strata_rows (suc (i + 1)) (drop (suc i) ps) (drop (suc i) es) (drop (suc i) rs) ts ss ds in
     let first : strata_rows (i + 1) (drop i ps) (drop i es) (drop i rs) ts ss ds ≡ rows ++ rest =

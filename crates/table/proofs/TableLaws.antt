@@ -4,12 +4,12 @@ use mathlib.Core.Path.{◌≡◌, refl, sym, ap, ap₂, ◌∙◌, subst}
 use mathlib.Core.Bool.{true, false}
 use mathlib.Core.Logic.{inl}
 use mathlib.Core.List.{List, [], ◌∷◌, map}
-use Prim.Native.Nat.{ℕ, zero, suc, ◌+◌, ◌-◌, ◌≤◌, ◌<◌}
+use Prim.Native.Nat.{ℕ, zero, suc, ◌-◌, ◌≤◌, ◌<◌}
 use native.Mathlib.Omega.{arith}
 use lib.IntN.{pos}
-use lib.ListN.{length, take, drop, length-append, length-map, length-replicate}
-use lib.Seq.{ext_get_or, get_or-take, length-take-le, take-append-le, take-length}
-use borrow.Author.Tests.{le-leb, lt-leb, eqb-true, eqb-false, eq-eqb, ne_eqb}
+use lib.ListN.{length, take, length-map, length-replicate}
+use lib.Seq.{ext_get_or, get_or-take, length-take-le}
+use borrow.Author.Tests.{le-leb, lt-leb, eqb-true, eqb-false}
 use Rattle.rules.specs.Lists.{for_places}
 use Rattle.rules.specs.Family.{Family, members_of}
 use Rattle.rules.specs.Relation.{member_at}
@@ -18,7 +18,7 @@ use Rattle.rules.specs.Sheet.{Outcome, read, refused, question3, reading, levels
 use Rattle.rules.specs.Naming.{Kind, plot, treatment, name_at, name_on}
 use Rattle.rules.specs.Table.{Row, accepted_rows, design_refused_row, design_rows, outcome_rows, table_rows, table_text, skeleton_table, table_buffer, empty_table, rows_bytes, dash, place_name, strata_rows, first_kind, second_kind, family_of, refused_row, names_from}
 use Rattle.rules.specs.Degrees.{degrees}
-use Rattle.rules.specs.Strata.{stratum, residuals, strata}
+use Rattle.rules.specs.Strata.{stratum, residuals, strata, strata_refused}
 use Rattle.rules.proofs.Buffer.{member_is, length_members}
 use Rattle.rules.proofs.Places.{length_places, at_places_lem}
 use Rattle.rules.proofs.Sheet.{length_after}
@@ -27,9 +27,13 @@ use Rattle.rules.proofs.Totals.{length_residuals}
 use Rattle.rules.proofs.Printing.{strata_answered}
 use Rattle.rules.proofs.Made.{Tells, Placed, plot_back, plot_buffer_length, treatment_back, treatment_buffer_length}
 use Rattle.design.specs.Answers.{FullNumbers, full_numbers_of}
-use Rattle.naming.specs.Answers.{starting_with}
-use Rattle.strata.specs.Answers.{Analysis, with_degrees}
-use Rattle.table.specs.declared.Printed.TheVariants.{Refused}
+use Rattle.refusal.specs.declared.Refusal.{Refusal}
+use Rattle.refusal.specs.declared.Refusal.TheVariants.{Limits}
+use Rattle.refusal.specs.Numbers.{number_of}
+use Rattle.refusal.proofs.Numbers.{numbered}
+use Rattle.strata.specs.declared.stratum.Analysis.{Analysis}
+use Rattle.strata.specs.Answers.{AnalysisAnswer, analysis_in, with_degrees}
+use Rattle.std.specs.Prelude.{Result, Ok, Err}
 use Rattle.table.specs.Answers.{print_numbers, print_numbers_of}
 use Rattle.table.specs.Names.{Nameable, placed_name, table_of}
 use Rattle.table.specs.Designs.{Accepted, buffer_for, placed_row, named_rows}
@@ -88,16 +92,24 @@ module _ (n : ℕ) (b : List ℕ) (p : ℕ) (c : List ℕ) (r : ℕ) (h : Accept
   unfolding with_degrees
   analysed = ap (with_degrees n P R) answered
 
+  -- so there is an analysis
+  pub answered_found : (z : Result Analysis Refusal) → analysis_in z ≡ with_degrees n P R (strata n b p c r) → (a : Analysis) × (z ≡ Ok a)
+  unfolding strata_refused
+  answered_found (Ok a) e = (a, refl)
+  answered_found (Err q) e =
+      let z : number_of q ≡ 0 = ap (λ (x : AnalysisAnswer). x.strata.refusal) (e ∙ analysed) in
+      absurd (omega (arith, numbered q, z))
+
   -- 32 numbers each
-  pub answered_lengths : (x : Analysis) → x ≡ with_degrees n P R (strata n b p c r) → (length x.strata.places ≡ 32) × (length x.degrees ≡ 32) × (length x.totals ≡ 32) × (length x.strata.residuals ≡ 32)
+  pub answered_lengths : (x : AnalysisAnswer) → x ≡ with_degrees n P R (strata n b p c r) → (length x.strata.places ≡ 32) × (length x.degrees ≡ 32) × (length x.totals ≡ 32) × (length x.strata.residuals ≡ 32)
   answered_lengths x e = rw (e ∙ analysed) (length_places 0 (map (stratum n P) R), length_places (pos 0) (degrees n R), length_places (pos 0) (degrees n P), length_places (pos 0) (residuals n P R))
 
   -- the lines from what is answered
-  pub answered_rows : (x : Analysis) → x ≡ with_degrees n P R (strata n b p c r) → (ps ts : List (List ℕ))
+  pub answered_rows : (x : AnalysisAnswer) → x ≡ with_degrees n P R (strata n b p c r) → (ps ts : List (List ℕ))
       → table_of n (strata_rows 1 ps (take p x.totals) (take p x.strata.residuals) ts (take r x.strata.places) (take r x.degrees)) ≡ named_rows n P R ps ts
   unfolding named_rows residuals
   answered_rows x e ps ts =
-      ap (λ (y : Analysis). table_of n (strata_rows 1 ps (take p y.totals) (take p y.strata.residuals) ts (take r y.strata.places) (take r y.degrees))) (e ∙ analysed)
+      ap (λ (y : AnalysisAnswer). table_of n (strata_rows 1 ps (take p y.totals) (take p y.strata.residuals) ts (take r y.strata.places) (take r y.degrees))) (e ∙ analysed)
       ∙ rw (
         take_places (pos 0) (degrees n P) p (length_degrees n P ∙ members_p) h.plot_few,
         take_places (pos 0) (residuals n P R) p (length_residuals 1 (degrees n P) (map (stratum n P) R) (degrees n R) ∙ length_degrees n P ∙ members_p) h.plot_few,
@@ -107,33 +119,10 @@ module _ (n : ℕ) (b : List ℕ) (p : ℕ) (c : List ℕ) (r : ℕ) (h : Accept
 
 -- ---- a refused design
 
--- the first place is a treatment member's in 12
-pub first_treatment : (q : ℕ) → q ≡ 12 → first_kind q ≡ treatment
-unfolding first_kind
-first_treatment q e = rw (eq-eqb q 12 e, first_kind)
-
--- and a plot member's in all others
-pub first_plot : (q : ℕ) → (q ≡ 12 → ⊥) → first_kind q ≡ plot
-unfolding first_kind
-first_plot q e = rw (ne_eqb q 12 e, first_kind)
-
--- the second place is a plot member's in 10
-pub second_plot : (q : ℕ) → q ≡ 10 → second_kind q ≡ plot
-unfolding second_kind
-second_plot q e = rw (eq-eqb q 10 e, second_kind)
-
--- and a treatment member's in all others
-pub second_treatment : (q : ℕ) → (q ≡ 10 → ⊥) → second_kind q ≡ treatment
-unfolding second_kind
-second_treatment q e = rw (ne_eqb q 10 e, second_kind)
-
--- what a writer that answers a text's length left: there is room for as much, and it starts with the text
-module _ (r : ℕ) (name before after : List ℕ) (e : r ≡ length name) (f : after ≡ starting_with name before) where
-  pub starting_room : r ≤ length after
-  starting_room = let l : length after ≡ length name + length (drop (length name) before) = ap length f ∙ length-append name (drop (length name) before) in omega arith
-
-  pub starting_take : take r after ≡ name
-  starting_take = rw (e, f) (take-append-le (length name) name (drop (length name) before) (omega arith) ∙ take-length name)
+-- members of the family of either kind can be named
+pub nameable_for : (k : Kind) (text levels plots treatments : List ℕ) (n : ℕ) → Nameable text levels plots n → Nameable text levels treatments n → Nameable text levels (buffer_for k plots treatments) n
+nameable_for plot text levels plots treatments n p t = p
+nameable_for treatment text levels plots treatments n p t = t
 
 module _ (text : List ℕ) (n : ℕ) (few : n ≤ 240) (levels : List ℕ) where
   -- the name at a place of a family, read from its buffer
@@ -262,7 +251,7 @@ module _ (text : List ℕ) where
   table_short m h = rw (lt-leb 32768 m h, skeleton_table)
 
   -- what is answered and left where the buffer is too short
-  pub short_numbers : (m : ℕ) → m < 32768 → print_numbers (Refused 6) ≡ print_numbers_of (skeleton_table text m)
+  pub short_numbers : (m : ℕ) → m < 32768 → print_numbers (Err Limits) ≡ print_numbers_of (skeleton_table text m)
   unfolding print_numbers print_numbers_of
   short_numbers m h = rw (table_short m h)
 

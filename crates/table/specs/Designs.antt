@@ -10,10 +10,11 @@ use Rattle.rules.specs.Strata.{stratum, residuals, all_have_stratum}
 use Rattle.rules.specs.Naming.{Kind, plot, treatment}
 use Rattle.rules.specs.Table.{Row, rows_bytes, design_rows, accepted_rows, refused_row, first_kind, second_kind, strata_rows}
 use Rattle.naming.specs.Answers.{CountedIn}
-use Rattle.sheet.specs.declared.Counts.{Counts}
+use Rattle.naming.specs.declared.Source.{Source}
+use Rattle.refusal.specs.Numbers.{number_of}
 use Rattle.design.specs.declared.Sizes.{Sizes}
 use Rattle.design.specs.declared.FullRefusal.{FullRefusal}
-use Rattle.table.specs.Names.{Nameable, NameSlots, placed_name, table_of}
+use Rattle.table.specs.Names.{Nameable, placed_name, table_of}
 
 -- two families on 1 to 240 plots, which question 15 accepts; every treatment member has a stratum
 pub record Accepted (n : ℕ) (plots : List ℕ) (plot_size : ℕ) (treatments : List ℕ) (treatment_size : ℕ) : Type 0 where
@@ -47,38 +48,29 @@ named_rows n P R ps ts = table_of n (strata_rows 1 ps (degrees n P) (residuals n
 -- ---- what the functions ask and write
 
 -- a sheet that was read
-abbrev pub WasRead : List ℕ → List ℕ → Counts → Type 0
-WasRead text levels counts = (question3 text ≡ true) × (1 ≤ counts.plots) × (counts.plots ≤ most_plots) × (table_cells ≤ length levels) × CountedIn text counts
+abbrev pub WasRead : Source → Type 0
+WasRead s = (question3 s.text.now ≡ true) × (1 ≤ s.counts.plots) × (s.counts.plots ≤ most_plots) × (table_cells ≤ length s.levels.now) × CountedIn s.text.now s.counts
 
 -- members of either family can be named
-abbrev pub BothNameable : List ℕ → List ℕ → Counts → List ℕ → List ℕ → Type 0
-BothNameable text levels counts plots treatments = Nameable text levels plots counts.plots × Nameable text levels treatments counts.plots × CountedIn text counts
+abbrev pub BothNameable : Source → List ℕ → List ℕ → Type 0
+BothNameable s plots treatments =
+    Nameable s.text.now s.levels.now plots s.counts.plots × Nameable s.text.now s.levels.now treatments s.counts.plots × CountedIn s.text.now s.counts
 
 -- an accepted design of a sheet that was read
-abbrev pub AcceptedSheet : List ℕ → List ℕ → Counts → Sizes → List ℕ → List ℕ → Type 0
-AcceptedSheet text levels counts sizes plots treatments =
-    (question3 text ≡ true) × (table_cells ≤ length levels) × Accepted counts.plots plots sizes.plot treatments sizes.treatment × CountedIn text counts
-
--- the names of both families' members are at hand
-abbrev pub BothNamed : Sizes → List ℕ → List ℕ → List ℕ → List ℕ → Type 0
-BothNamed sizes strata strataLengths names lengths = NameSlots strata strataLengths sizes.plot × NameSlots names lengths sizes.treatment
+abbrev pub AcceptedSheet : Source → Sizes → List ℕ → List ℕ → Type 0
+AcceptedSheet s sizes plots treatments =
+    (question3 s.text.now ≡ true) × (table_cells ≤ length s.levels.now) × Accepted s.counts.plots plots sizes.plot treatments sizes.treatment × CountedIn s.text.now s.counts
 
 -- the text of a sheet that was read
-abbrev pub design_text : List ℕ → List ℕ → Counts → List ℕ
-design_text text levels counts =
-    rows_bytes (design_rows text counts.plots levels (full_design counts.plots counts.plot_columns counts.treatment_columns most_interaction levels family_bytes family_bytes))
+abbrev pub design_text : Source → List ℕ
+design_text s =
+    rows_bytes (design_rows s.text.now s.counts.plots s.levels.now (full_design s.counts.plots s.counts.plot_columns s.counts.treatment_columns most_interaction s.levels.now family_bytes family_bytes))
 
--- the name at a place of a refusal, and its line
-abbrev pub refused_name : Kind → Counts → ℕ → List ℕ → List ℕ → List ℕ → List ℕ → List ℕ
-refused_name kind counts place text levels plots treatments = placed_name kind text counts.plots levels (buffer_for kind plots treatments) place
+-- the line of a refusal
+abbrev pub refusal_text : Source → FullRefusal → List ℕ → List ℕ → List ℕ
+refusal_text s r plots treatments = rows_bytes (placed_row s.text.now s.counts.plots s.levels.now plots treatments (number_of r.question) r.first r.second ∷ [])
 
-abbrev pub refusal_text : List ℕ → List ℕ → Counts → FullRefusal → List ℕ → List ℕ → List ℕ
-refusal_text text levels counts r plots treatments = rows_bytes (placed_row text counts.plots levels plots treatments r.number r.first r.second ∷ [])
-
--- the table of an accepted design, by its families, and by the names of their members
-abbrev pub accepted_text : List ℕ → List ℕ → Counts → Sizes → List ℕ → List ℕ → List ℕ
-accepted_text text levels counts sizes plots treatments =
-    rows_bytes (accepted_rows text counts.plots levels (members_of counts.plots plots sizes.plot) (members_of counts.plots treatments sizes.treatment))
-
-abbrev pub named_text : ℕ → Sizes → List ℕ → List ℕ → List (List ℕ) → List (List ℕ) → List ℕ
-named_text n sizes plots treatments ps ts = rows_bytes (named_rows n (members_of n plots sizes.plot) (members_of n treatments sizes.treatment) ps ts)
+-- the table of an accepted design, by its families
+abbrev pub accepted_text : Source → Sizes → List ℕ → List ℕ → List ℕ
+accepted_text s sizes plots treatments =
+    rows_bytes (accepted_rows s.text.now s.counts.plots s.levels.now (members_of s.counts.plots plots sizes.plot) (members_of s.counts.plots treatments sizes.treatment))

@@ -1,6 +1,6 @@
 -- Names of all members of a family, worked out once: 160 bytes a member, and the length of each name.
 -- Assumes nothing.
-use Rattle.std.specs.Prelude.{Bool, true, false, not, ◌||◌, ◌&&◌, List, [], ◌∷◌, ◌++◌, ◌≡◌, ℕ, zero, suc, ◌*◌, ◌≤◌, ◌<◌, eqb, ℤ, length, get_or, take, drop}
+use Rattle.std.specs.Prelude.{Bool, true, false, not, ◌||◌, ◌&&◌, List, [], ◌∷◌, ◌++◌, ◌≡◌, ℕ, zero, suc, ◌*◌, ◌≤◌, eqb, ℤ, length, get_or, take, drop}
 use Rattle.rules.specs.Lists.{tabulate, decimal_of}
 use Rattle.rules.specs.Limits.{most_plots, table_cells, family_bytes, name_bytes}
 use Rattle.rules.specs.Family.{members_of}
@@ -42,12 +42,6 @@ names_in names lengths size = tabulate (name_in names lengths) size
 -- the names of the first members of a lent family
 abbrev pub family_names : Stated → Counts → ℕ → List ℕ → List ℕ → List ℕ → List (List ℕ)
 family_names kind counts size text levels family = names_from (kind_of kind) text counts.plots levels (members_of counts.plots family size) 1 size
-
--- there is room for the names of so many members, and no name is longer than 160 bytes
-pub record NameSlots (names lengths : List ℕ) (size : ℕ) : Type 0 where
-  pub room : name_bytes * size ≤ length names
-  pub counted : size ≤ length lengths
-  pub short : (j : ℕ) → j < size → get_or lengths j 0 ≤ name_bytes
 
 -- a place is among those of the strata
 unfoldable pub among : ℕ → List ℕ → Bool

@@ -1,61 +1,91 @@
 // The names of members, worked out once.
-ghost use Rattle.std.specs.Prelude.{◌≡◌, ◌≤◌, length};
+ghost use Rattle.std.specs.Prelude.{◌≡◌, ℕ, ◌≤◌, ◌<◌, length, get_or};
 ghost use Rattle.rules.specs.Limits.{most_members, name_bytes};
-ghost use Rattle.naming.specs.Answers.{kind_of, starting_with, name_numbers};
-ghost use Rattle.naming.specs.Members.{Slots};
-ghost use Rattle.table.specs.Names.{NameableBy, NameSlots, names_in, family_names, placed_name};
+ghost use Rattle.naming.specs.Answers.{kind_of};
+ghost use Rattle.table.specs.Names.{NameableBy, name_in, family_names, placed_name};
 
-use limits::Level;
-use naming::{Kind, Named};
-use sheet::Counts;
+use limits::{MEMBERS, NAME};
+use naming::{Kind, Source};
 
-// Names each of the first `size` members in its 160 bytes and keeps how many bytes the name has.
-pub fn fill_names(
-    text: &[u8],
-    levels: &[Level],
-    counts: Counts,
-    kind: Kind,
-    family: &[u8],
+// Bytes for the names of a family's members.
+const NAMES: usize = NAME * MEMBERS;
+
+// The names of a family's members, 160 bytes a member, and how many bytes each name has.
+#[derive(Drop)]
+pub struct Names {
+    bytes: [u8; NAMES],
+    lengths: [usize; MEMBERS],
     size: usize,
-    names: &mut [u8],
-    lengths: &mut [usize],
-)
-    requires { NameableBy text.now levels.now counts family.now × Slots family.now size names.old lengths.old }
-    ensures names { names_in names.new lengths.new size ≡ family_names kind counts size text.now levels.now family.now }
-    ensures named { NameSlots names.new lengths.new size }
-{
-    naming::name_members(text, levels, counts, kind, family, size, names, lengths);
+    ghost few: { size ≤ most_members },
+    ghost short: { (j : ℕ) → j < size → get_or lengths j 0 ≤ name_bytes },
 }
 
-// Names the member at a place, from 1, by the columns of the kind; `-` at place 0.
-pub fn name_at(
-    text: &[u8],
-    levels: &[Level],
-    counts: Counts,
-    kind: Kind,
-    family: &[u8],
-    place: usize,
-    name: &mut [u8],
-) -> usize
-    requires { NameableBy text.now levels.now counts family.now × (place ≤ most_members) × (name_bytes ≤ length name.old) }
-    ensures answer { result ≡ length (placed_name (kind_of kind) text.now counts.plots levels.now family.now place) }
-    ensures bytes { name.new ≡ starting_with (placed_name (kind_of kind) text.now counts.plots levels.now family.now place) name.old }
-{
-    if place == 0 {
-        name[0] = b'-';
-        return 1;
+impl Names {
+    ghost use Rattle.table.specs.Skeletons.{names_of};
+
+    // Names each of the first `size` members of a family.
+    pub fn of_family(source: Source<'_>, kind: Kind, family: &[u8], size: usize) -> Names
+        requires { NameableBy source.text.now source.levels.now source.counts family.now × (size ≤ most_members) }
+        ensures names { names_of result ≡ family_names kind source.entry.counts size source.entry.text.now source.entry.levels.now family.now }
+        ensures size { result.size ≡ size }
+    {
+        let mut bytes = [0u8; NAMES];
+        let mut lengths = [0usize; MEMBERS];
+        naming::name_members(source, kind, family, size, &mut bytes, &mut lengths).unwrap();
+        Names {
+            bytes,
+            lengths,
+            size,
+        }
     }
-    let member = families::member(family, place - 1, counts.plots);
-    let named = naming::name_counted(text, levels, counts, kind, member, place, name);
-    length_of(named)
+
+    // How many members are named.
+    pub fn size(&self) -> usize
+        ensures { result ≡ self.now.size }
+    {
+        self.size
+    }
+
+    // The name of member `j`, from 0.
+    pub fn name(&self, j: usize) -> &[u8]
+        requires { j < self.now.size }
+        ensures { result.now ≡ name_in self.now.bytes self.now.lengths j }
+    {
+        let start = NAME * j;
+        &self.bytes[start..start + self.lengths[j]]
+    }
 }
 
-// How many bytes a name has; 0 where there is none.
-fn length_of(named: Named) -> usize
-    ensures { result ≡ (name_numbers named).size }
-{
-    match named {
-        Named::Written(m) => m,
-        Named::Refused(_) => 0,
+// A name: as many of 160 bytes as it has.
+#[derive(Clone, Copy)]
+pub struct Name {
+    bytes: [u8; NAME],
+    size: usize,
+    ghost inside: { size ≤ length bytes },
+}
+
+impl Name {
+    ghost use Rattle.table.specs.Skeletons.{spelled};
+
+    // Its bytes.
+    pub fn bytes(&self) -> &[u8]
+        ensures { result.now ≡ spelled self.now }
+    {
+        &self.bytes[..self.size]
+    }
+
+    // The name of the member at a place of a family, from 1, by the columns of the kind; `-` at place 0.
+    pub fn at_place(source: Source<'_>, kind: Kind, family: &[u8], place: usize) -> Name
+        requires { NameableBy source.text.now source.levels.now source.counts family.now × (place ≤ most_members) }
+        ensures { spelled result ≡ placed_name (kind_of kind) source.entry.text.now source.entry.counts.plots source.entry.levels.now family.now place }
+    {
+        let mut bytes = [0u8; NAME];
+        if place == 0 {
+            bytes[0] = b'-';
+            return Name { bytes, size: 1 };
+        }
+        let member = families::member(family, place - 1, source.counts.plots);
+        let size = naming::name_counted(source, kind, member, place, &mut bytes).unwrap();
+        Name { bytes, size }
     }
 }

@@ -1,15 +1,15 @@
 // The lines of the printed table, each written from a place on.
-ghost use Rattle.std.specs.Prelude.{◌≡◌, false, true, [], ◌∷◌, ◌++◌, ◌*◌, ◌≤◌, length, take};
-ghost use Rattle.rules.specs.Limits.{most_members};
-ghost use Rattle.rules.specs.Table.{row_bytes, rows_bytes, signed, source_rows, stratum_rows, strata_rows, refused_row, word_all, word_total};
+ghost use Rattle.std.specs.Prelude.{[], ◌∷◌, ◌++◌, ◌<◌};
+ghost use Rattle.rules.specs.Table.{row_bytes, rows_bytes, signed, refused_row, word_all, word_total};
 ghost use Rattle.rules.specs.Lists.{decimal_of};
 ghost use Rattle.decimal.specs.Writing.{Wrote};
 ghost use Rattle.writer.specs.Answers.{Printed};
-ghost use Rattle.table.specs.Names.{names_in, among, residual_of, table_of, NameSlots};
+ghost use Rattle.table.specs.Names.{among, residual_of, table_of};
+ghost use Rattle.table.specs.Skeletons.{places_of, source_at, sources_in, stratum_at, strata_in};
 
+use crate::skeletons::Skeleton;
 use decimal::{write_byte, write_bytes, write_decimal, write_signed};
-use limits::{MEMBERS, NAME};
-use writer::Writing;
+use refusal::Refusal;
 
 // Writes a field and the tab after it.
 fn put_field(field: &[u8], out: &mut [u8], at: usize) -> usize
@@ -36,174 +36,85 @@ pub fn put_row(stratum: &[u8], source: &[u8], d: i64, out: &mut [u8], at: usize)
     put_last(d, out, third)
 }
 
-// Writes the line of a treatment member, if its stratum, at place `place`, is the one at place `i`.
-fn put_source(
-    stratum: &[u8],
-    i: usize,
-    name: &[u8],
-    place: usize,
-    d: i64,
-    out: &mut [u8],
-    at: usize,
-) -> usize
-    ensures { Wrote out.old at (rows_bytes (source_rows stratum.now i (name.now ∷ []) (place ∷ []) (d ∷ []))) out.new result }
-{
-    if place != i {
-        return at;
-    }
-    put_row(stratum, name, d, out, at)
-}
-
-// Writes the lines of the treatment members in the stratum at place `i`, in their order. Nine parameters: no struct can hold the lent slices
-// of names, lengths, places and degrees of freedom.
-fn put_sources(
-    stratum: &[u8],
-    i: usize,
-    names: &[u8],
-    lengths: &[usize],
-    size: usize,
-    places: &[usize; MEMBERS],
-    degrees: &[i64; MEMBERS],
-    out: &mut [u8],
-    at: usize,
-) -> usize
-    requires { (size ≤ most_members) × NameSlots names.now lengths.now size × (length places.now ≡ most_members) × (length degrees.now ≡ most_members) }
-    ensures { Wrote out.old at (rows_bytes (source_rows stratum.now i (names_in names.now lengths.now size) (take size places.now) (take size degrees.now))) out.new result }
+// Writes the lines of the treatment members in the stratum at place `place`, in their order.
+fn put_sources(table: &Skeleton, stratum: &[u8], place: usize, out: &mut [u8], at: usize) -> usize
+    ensures { Wrote out.old at (rows_bytes (sources_in stratum.now place table.now)) out.new result }
 {
     let mut next = at;
-    for j in 0..size {
-        let a = NAME * j;
-        let e = a + lengths[j];
-        let d = degrees[j];
-        next = put_source(stratum, i, &names[a..e], places[j], d, out, next);
+    for j in 0..table.sources.size() {
+        next = put_source(table, stratum, place, j, out, next);
     }
     next
 }
 
-// Whether a treatment member has the stratum at place `i`.
-fn has_source(i: usize, size: usize, places: &[usize; MEMBERS]) -> bool
-    requires { (size ≤ most_members) × (length places.now ≡ most_members) }
-    ensures { result ≡ among i (take size places.now) }
-{
-    for j in 0..size {
-        if places[j] == i {
-            return true;
-        }
-    }
-    false
-}
-
-// Writes the residual's line, if the stratum has a treatment member and the residual is not 0.
-fn put_residual(stratum: &[u8], found: bool, residual: i64, out: &mut [u8], at: usize) -> usize
-    ensures { Wrote out.old at (rows_bytes (residual_of stratum.now found residual)) out.new result }
-{
-    if !found {
-        return at;
-    }
-    if residual == 0 {
-        return at;
-    }
-    put_row(stratum, b"=residual", residual, out, at)
-}
-
-// Writes the lines of one stratum: its treatment members, its residual, its total. Eleven parameters: the same, and the stratum's own numbers.
-fn put_stratum(
+// Writes the line of treatment member `j`, from 0, if its stratum is the one at place `place`.
+fn put_source(
+    table: &Skeleton,
     stratum: &[u8],
-    i: usize,
-    total: i64,
-    residual: i64,
-    names: &[u8],
-    lengths: &[usize],
-    size: usize,
-    places: &[usize; MEMBERS],
-    degrees: &[i64; MEMBERS],
+    place: usize,
+    j: usize,
     out: &mut [u8],
     at: usize,
 ) -> usize
-    requires { (size ≤ most_members) × NameSlots names.now lengths.now size × (length places.now ≡ most_members) × (length degrees.now ≡ most_members) }
-    ensures { Wrote out.old at (rows_bytes (stratum_rows stratum.now i (names_in names.now lengths.now size) (take size places.now) (take size degrees.now) total residual)) out.new result }
+    requires { j < table.now.sources.now.size }
+    ensures { Wrote out.old at (rows_bytes (source_at stratum.now place table.now j)) out.new result }
 {
-    let second = put_sources(stratum, i, names, lengths, size, places, degrees, out, at);
-    let found = has_source(i, size, places);
-    let third = put_residual(stratum, found, residual, out, second);
+    if table.found.strata.places[j] != place {
+        return at;
+    }
+    let degrees = table.found.degrees[j];
+    put_row(stratum, table.sources.name(j), degrees, out, at)
+}
+
+// Writes the residual's line, if the stratum at place `place` has a treatment member and the residual is not 0.
+fn put_residual(
+    table: &Skeleton,
+    stratum: &[u8],
+    place: usize,
+    residual: i64,
+    out: &mut [u8],
+    at: usize,
+) -> usize
+    ensures { Wrote out.old at (rows_bytes (residual_of stratum.now (among place (places_of table.now)) residual)) out.new result }
+{
+    let sources = table.sources.size();
+    if residual != 0 && table.found.strata.places[..sources].contains(&place) {
+        return put_row(stratum, b"=residual", residual, out, at);
+    }
+    at
+}
+
+// Writes the lines of the stratum of plot member `i`, from 0: its treatment members, its residual, its total.
+fn put_stratum(table: &Skeleton, i: usize, out: &mut [u8], at: usize) -> usize
+    requires { i < table.now.strata.now.size }
+    ensures { Wrote out.old at (rows_bytes (stratum_at table.now i)) out.new result }
+{
+    let stratum = table.strata.name(i);
+    let second = put_sources(table, stratum, i + 1, out, at);
+    let residual = table.found.strata.residuals[i];
+    let third = put_residual(table, stratum, i + 1, residual, out, second);
+    let total = table.found.totals[i];
     put_row(stratum, b"=total", total, out, third)
 }
 
-// Writes the lines of all strata, in their order. Twelve parameters: the names and the numbers of both families, each list a slice of its own.
-pub fn put_strata(
-    strata: &[u8],
-    strata_lengths: &[usize],
-    count: usize,
-    totals: &[i64; MEMBERS],
-    residuals: &[i64; MEMBERS],
-    names: &[u8],
-    lengths: &[usize],
-    size: usize,
-    places: &[usize; MEMBERS],
-    degrees: &[i64; MEMBERS],
-    out: &mut [u8],
-    at: usize,
-) -> usize
-    requires { (size ≤ most_members) × NameSlots names.now lengths.now size × (count ≤ most_members) × NameSlots strata.now strata_lengths.now count × (length places.now ≡ most_members) × (length degrees.now ≡ most_members) × (length totals.now ≡ most_members) × (length residuals.now ≡ most_members) }
-    ensures { Wrote out.old at (rows_bytes (strata_rows 1 (names_in strata.now strata_lengths.now count) (take count totals.now) (take count residuals.now) (names_in names.now lengths.now size) (take size places.now) (take size degrees.now))) out.new result }
+// Writes the lines of all strata, in their order.
+fn put_strata(table: &Skeleton, out: &mut [u8], at: usize) -> usize
+    ensures { Wrote out.old at (rows_bytes (strata_in table.now)) out.new result }
 {
     let mut next = at;
-    for i in 0..count {
-        let a = NAME * i;
-        let e = a + strata_lengths[i];
-        let total = totals[i];
-        let residual = residuals[i];
-        next = put_stratum(
-            &strata[a..e],
-            i + 1,
-            total,
-            residual,
-            names,
-            lengths,
-            size,
-            places,
-            degrees,
-            out,
-            next,
-        );
+    for i in 0..table.strata.size() {
+        next = put_stratum(table, i, out, next);
     }
     next
 }
 
-// Writes the whole table of an accepted sheet: the first line, the lines of the strata, the last line. The parameters as above.
-pub fn put_table(
-    plots: usize,
-    strata: &[u8],
-    strata_lengths: &[usize],
-    count: usize,
-    totals: &[i64; MEMBERS],
-    residuals: &[i64; MEMBERS],
-    names: &[u8],
-    lengths: &[usize],
-    size: usize,
-    places: &[usize; MEMBERS],
-    degrees: &[i64; MEMBERS],
-    out: &mut [u8],
-) -> usize
-    requires { (size ≤ most_members) × NameSlots names.now lengths.now size × (count ≤ most_members) × NameSlots strata.now strata_lengths.now count × (length places.now ≡ most_members) × (length degrees.now ≡ most_members) × (length totals.now ≡ most_members) × (length residuals.now ≡ most_members) }
-    ensures { Wrote out.old 0 (rows_bytes (table_of plots (strata_rows 1 (names_in strata.now strata_lengths.now count) (take count totals.now) (take count residuals.now) (names_in names.now lengths.now size) (take size places.now) (take size degrees.now)))) out.new result }
+// Writes the whole table of an accepted sheet: the first line, the lines of the strata, the last line.
+pub fn put_table(table: &Skeleton, out: &mut [u8]) -> usize
+    ensures { Wrote out.old 0 (rows_bytes (table_of table.now.plots (strata_in table.now))) out.new result }
 {
     let second = write_bytes(b"stratum\tsource\tdf\n", out, 0);
-    let last = put_strata(
-        strata,
-        strata_lengths,
-        count,
-        totals,
-        residuals,
-        names,
-        lengths,
-        size,
-        places,
-        degrees,
-        out,
-        second,
-    );
-    put_plots(plots, out, last)
+    let last = put_strata(table, out, second);
+    put_plots(table.plots, out, last)
 }
 
 // Writes the last line: the number of plots.
@@ -228,11 +139,11 @@ pub fn put_refused(number: usize, first: &[u8], second: &[u8], out: &mut [u8]) -
 }
 
 // Prints what an entry that writes a sheet answered: the sheet stands in the output already; a refusal left that as it was, and its line is written.
-pub fn put_answer(answer: Writing, out: &mut [u8]) -> usize
+pub fn put_answer(answer: Result<usize, Refusal>, out: &mut [u8]) -> usize
     ensures { Printed answer out.old out.new result }
 {
     match answer {
-        Writing::Written(size) => size,
-        Writing::Refused(number) => put_refused(number as usize, b"-", b"-", out),
+        Ok(size) => size,
+        Err(refusal) => put_refused(refusal.number() as usize, b"-", b"-", out),
     }
 }

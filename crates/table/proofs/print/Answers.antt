@@ -2,34 +2,34 @@
 use mathlib.Core.Path.{◌≡◌, sym, ap, ◌∙◌}
 use mathlib.Core.List.{[], ◌∷◌}
 use Prim.Native.Nat.{ℕ}
-use Rattle.rules.specs.Sheet.{read, reading}
+use Rattle.rules.specs.Sheet.{read, refused, reading}
 use Rattle.rules.specs.Table.{rows_bytes, refused_row, dash, empty_table}
 use Rattle.rules.proofs.ReadSheets.{read_questions}
 use Rattle.rules.proofs.Sheet.{read_accepts}
 use Rattle.decimal.proofs.Writing.{wrote_as}
+use Rattle.refusal.specs.Numbers.{number_of}
 use Rattle.sheet.specs.Answers.{outcome_of}
-use Rattle.sheet.specs.declared.Reading.{Reading}
-use Rattle.table.specs.Answers.{number_of}
 use Rattle.table.proofs.TableLaws.{refused_text, read_text, levels_long}
 use Rattle.table.proofs.print.Goals as goal
 
-pub returns-in_default : goal.returns-in_default
+pub returns-in-Err : goal.returns-in-Err
 unfolding empty_table
-returns-in_default c =
+returns-in-Err c =
     let a = c.args in
-    let sheet = c.read_sheet-reading in
-    let told = c.in_default in
-    let is = c.reading_refusal.ensures ∙ ap (λ (x : Reading). number_of (outcome_of x)) told.is in
+    let sheet = c.read_sheet in
+    let told = c.in-Err in
+    let q = number_of told.refusal in
+    let e : refused q ≡ reading a.text.now empty_table = sym (ap outcome_of told.is) ∙ sheet.ensures.answer in
     wrote_as a.out.now 0
-    (ap (λ (m : ℕ). rows_bytes (refused_row m dash dash ∷ [])) is ∙ refused_text a.text.now told.field-0 (sym (ap outcome_of told.is) ∙ sheet.ensures.answer))
+    (ap (λ (m : ℕ). rows_bytes (refused_row m dash dash ∷ [])) c.number.ensures ∙ refused_text a.text.now q e)
     c.put_refused.ensures
 
 pub print_design-requires : goal.print_design-requires
 unfolding empty_table
 print_design-requires c =
     let text = c.args.text.now in
-    let sheet = c.read_sheet-reading in
-    let given = c.in-Read in
+    let sheet = c.read_sheet in
+    let given = c.in-Ok in
     let k = given.counts in
     let e : reading text empty_table ≡ read k.plots k.plot_columns k.treatment_columns = sym sheet.ensures.answer ∙ ap outcome_of given.is in
     let w = read_accepts text empty_table k.plots k.plot_columns k.treatment_columns e in (
@@ -40,12 +40,12 @@ print_design-requires c =
       record { plot_columns_holds = w.plot_columns_holds; treatment_columns_holds = w.treatment_columns_holds },
     )
 
-pub returns : goal.returns
+pub returns-in-Ok : goal.returns-in-Ok
 unfolding empty_table
-returns c =
+returns-in-Ok c =
     let a = c.args in
-    let sheet = c.read_sheet-reading in
-    let given = c.in-Read in
+    let sheet = c.read_sheet in
+    let given = c.in-Ok in
     let k = given.counts in
     let e : read k.plots k.plot_columns k.treatment_columns ≡ reading a.text.now empty_table = sym (ap outcome_of given.is) ∙ sheet.ensures.answer in
     wrote_as a.out.now 0

@@ -18,7 +18,7 @@ returns c =
     let out = a.out.now in
     let text = table_text a.text.now in
     let long : 32768 ≤ length out = omega arith in
-    let w = c.print-length.ensures in
+    let w = c.print.ensures in
     let fits : length text ≤ length out = omega (arith, table_fits a.text.now) in
     rw (table_whole a.text.now (length out) long) record {
       answer = ap (λ (m : ℕ). record { accepted = true; refusal = 0; size = m }) (w.0 ∙ place_all out text fits);
