@@ -1,2 +1,3 @@
 pub mod Pasting
 pub mod Few
+pub mod Sizes

@@ -1,8 +1,6 @@
 -- The numbers that each entry answers, in the order of its array.
 -- Assumes nothing.
-use Rattle.std.specs.Prelude.{true, false, List, [], ◌∷◌, ◌++◌, map, ℕ, ℤ, pos, eqb, length, get_or}
-use Rattle.std.specs.Int.{w64}
-use Rattle.std.proofs.Common.{SFits}
+use Rattle.std.specs.Prelude.{true, false, List, [], ◌∷◌, ◌++◌, map, ℕ, ℤ, pos, eqb, length, Result, Ok, Err}
 use Rattle.rules.specs.Sheet.{Outcome, read, refused}
 use Rattle.rules.specs.Design.{Answer, plot_size, treatment_size}
 use Rattle.rules.specs.Relation.{RelationAnswer}
@@ -11,6 +9,8 @@ use Rattle.rules.specs.Strata.{StrataAnswer}
 use Rattle.rules.specs.Naming.{Kind, plot, treatment, NameAnswer}
 use Rattle.rules.specs.Table.{TableAnswer}
 use Rattle.rules.specs.SheetText.{SheetAnswer}
+use Rattle.refusal.specs.declared.Refusal.{Refusal}
+use Rattle.refusal.specs.Numbers.{number_of}
 
 -- the number of the refusal, 0 for none
 abbrev pub reading_refusal : Outcome → ℕ
@@ -58,6 +58,11 @@ text_numbers a = length a.text ∷ []
 abbrev pub sheet_numbers : SheetAnswer → List ℕ
 sheet_numbers a = length a.sheet ∷ []
 
--- signed numbers of 64 bits
-abbrev pub AllFit : List ℤ → Type 0
-AllFit ds = (k : ℕ) → SFits w64 (get_or ds k (pos 0))
+-- the number of the refusal, 0 for none, and how many bytes are written
+abbrev pub refusal_of : Result ℕ Refusal → ℕ
+refusal_of (Ok m) = 0
+refusal_of (Err q) = number_of q
+
+abbrev pub size_of : Result ℕ Refusal → ℕ
+size_of (Ok m) = m
+size_of (Err q) = 0

@@ -2,7 +2,6 @@
 ghost use Rattle.std.specs.Prelude.{◌≡◌, ◌∷◌, ◌++◌, map, ℕ, ◌≤◌, ◌+◌, pos, length, get_or};
 ghost use Rattle.std.proofs.Math.Seq.{paste};
 ghost use Rattle.rules.specs.Limits.{most_members};
-ghost use Rattle.rachdoum.specs.Numbers.{AllFit};
 
 use limits::MEMBERS;
 
@@ -12,23 +11,21 @@ pub fn words(first: u32, a: [u32; MEMBERS], b: [u32; MEMBERS], c: [u32; MEMBERS]
 {
     let mut all = [0u32; 97];
     all[0] = first;
-    put_words(a, 1, &mut all);
-    put_words(b, MEMBERS + 1, &mut all);
-    put_words(c, 2 * MEMBERS + 1, &mut all);
+    put(&a, 1, &mut all);
+    put(&b, MEMBERS + 1, &mut all);
+    put(&c, 2 * MEMBERS + 1, &mut all);
     all
 }
 
-// Writes a list of words from `at` on.
-fn put_words(from: [u32; MEMBERS], at: usize, out: &mut [u32])
-    requires { at + most_members ≤ length out.old }
-    ensures { out.new ≡ paste out.old at from most_members }
+// Copies a list to the place `at`.
+fn put<T: Copy>(from: &[T], at: usize, out: &mut [T])
+    requires { at + length from.now ≤ length out.old }
+    ensures { out.new ≡ paste out.old at from.now (length from.now) }
 {
-    for i in 0..MEMBERS {
-        out[at + i] = from[i];
-    }
+    out[at..at + from.len()].copy_from_slice(from);
 }
 
-// Places as signed numbers.
+// Places as signed numbers. A walk by place: a closure handed to `map` would not know that a place is small.
 pub fn signed(places: [usize; MEMBERS]) -> [i64; MEMBERS]
     requires { (i : ℕ) → get_or places i 0 ≤ most_members }
     ensures { result ≡ map pos places }
@@ -42,21 +39,10 @@ pub fn signed(places: [usize; MEMBERS]) -> [i64; MEMBERS]
 
 // Two lists of signed numbers.
 pub fn numbers(a: [i64; MEMBERS], b: [i64; MEMBERS]) -> [i64; 64]
-    requires { AllFit a × AllFit b }
     ensures { result ≡ a ++ b }
 {
     let mut all = [0i64; 64];
-    put_numbers(a, 0, &mut all);
-    put_numbers(b, MEMBERS, &mut all);
+    put(&a, 0, &mut all);
+    put(&b, MEMBERS, &mut all);
     all
-}
-
-// Writes a list of signed numbers from `at` on.
-fn put_numbers(from: [i64; MEMBERS], at: usize, out: &mut [i64])
-    requires { (at + most_members ≤ length out.old) × AllFit from }
-    ensures { out.new ≡ paste out.old at from most_members }
-{
-    for i in 0..MEMBERS {
-        out[at + i] = from[i];
-    }
 }

@@ -16,19 +16,15 @@ ghost use Rattle.rules.specs.Parents.{conversion};
 ghost use Rattle.rules.specs.Formula.{formula_sheet};
 ghost use Rattle.standing.specs.Cases.{case_of};
 ghost use Rattle.naming.specs.Answers.{kind_of};
-ghost use Rattle.writer.specs.Answers.{writing_numbers};
-ghost use Rattle.rachdoum.specs.Numbers.{reading_refusal, reading_numbers, plot_design_numbers, full_design_numbers, relation_numbers, comparison_numbers, strata_numbers, stated_kind, naming_numbers, text_numbers, sheet_numbers};
+ghost use Rattle.rachdoum.specs.Numbers.{reading_refusal, reading_numbers, plot_design_numbers, full_design_numbers, relation_numbers, comparison_numbers, strata_numbers, stated_kind, naming_numbers, text_numbers, sheet_numbers, refusal_of, size_of};
 
 mod gather;
 
-use comparison::Compared;
-use design::{FullDesign, PlotDesign};
+use comparison::Place;
 use limits::Level;
-use naming::{Kind, Named};
-use sheet::Reading;
+use naming::Kind;
+use refusal::Refusal;
 use standing::Comparison;
-use table::Printed;
-use writer::Writing;
 
 // Questions 1 to 5. The answer: plots, plot columns, treatment columns.
 #[unsafe(no_mangle)]
@@ -41,19 +37,18 @@ pub extern "C" fn rachdoum_read_sheet(
     ensures table { levels.new ≡ levels_after (reading text.now levels.old) text.now levels.old }
     ensures numbers { answer.new ≡ reading_numbers (reading text.now levels.old) }
 {
-    let found = sheet::read_sheet(text, levels);
-    match found {
-        Reading::Refused(number) => {
-            *answer = [0; 3];
-            number
-        }
-        Reading::Read(counts) => {
+    match sheet::read_sheet(text, levels) {
+        Ok(counts) => {
             *answer = [
                 counts.plots as u64,
                 counts.plot_columns as u64,
                 counts.treatment_columns as u64,
             ];
             0
+        }
+        Err(refusal) => {
+            *answer = [0; 3];
+            refusal.number()
         }
     }
 }
@@ -71,15 +66,14 @@ pub extern "C" fn rachdoum_plot_design(
     ensures buffer { family.new ≡ plot_buffer family.old (plot_design plots columns levels.now (length family.old)) }
     ensures numbers { answer.new ≡ plot_design_numbers (plot_design plots columns levels.now (length family.old)) }
 {
-    let found = design::plot_design(levels, plots, columns, family);
-    match found {
-        PlotDesign::Accepted(size) => {
+    match design::plot_design(levels, plots, columns, family) {
+        Ok(size) => {
             *answer = [0, 0, size as u64];
             0
         }
-        PlotDesign::Refused(r) => {
+        Err(r) => {
             *answer = [r.first as u64, r.second as u64, r.size as u64];
-            r.number
+            r.question.number()
         }
     }
 }
@@ -111,18 +105,18 @@ pub extern "C" fn rachdoum_full_design(
         treatment_family,
     );
     match found {
-        FullDesign::Accepted(sizes) => {
+        Ok(sizes) => {
             *answer = [0, 0, sizes.plot as u64, sizes.treatment as u64];
             0
         }
-        FullDesign::Refused(r) => {
+        Err(r) => {
             *answer = [
                 r.first as u64,
                 r.second as u64,
                 r.plot as u64,
                 r.treatment as u64,
             ];
-            r.number
+            r.question.number()
         }
     }
 }
@@ -139,15 +133,17 @@ pub extern "C" fn rachdoum_relation(
     ensures refusal { result ≡ (relation plots family.now size).refusal }
     ensures numbers { answer.new ≡ relation_numbers (relation plots family.now size) }
 {
-    let found = strata::relation(family, plots, size);
-    let members = found.size;
-    let coarser = found.coarser;
-    let direct = found.direct;
-    let counts = found.counts;
-    let all = gather::words(members as u32, coarser, direct, counts);
-    *answer = all;
-    let number = found.refusal;
-    number as u32
+    match strata::relation(family, plots, size) {
+        Ok(found) => {
+            let size = found.size as u32;
+            *answer = gather::words(size, found.coarser, found.direct, found.counts);
+            0
+        }
+        Err(refusal) => {
+            *answer = [0; 97];
+            refusal.number()
+        }
+    }
 }
 
 // Questions 6 and 15. The answer: the degrees of freedom of each member.
@@ -161,11 +157,16 @@ pub extern "C" fn rachdoum_degrees(
     ensures refusal { result ≡ (degrees_of_freedom plots family.now size).refusal }
     ensures numbers { answer.new ≡ (degrees_of_freedom plots family.now size).degrees }
 {
-    let found = strata::degrees_of_freedom(family, plots, size);
-    let degrees = found.degrees;
-    *answer = degrees;
-    let number = found.refusal;
-    number as u32
+    match strata::degrees_of_freedom(family, plots, size) {
+        Ok(degrees) => {
+            *answer = degrees;
+            0
+        }
+        Err(refusal) => {
+            *answer = [0; 32];
+            refusal.number()
+        }
+    }
 }
 
 // Questions 6, 15 and 16. The answer: the places of the treatment members' strata, the residuals of the plot members.
@@ -188,16 +189,19 @@ pub extern "C" fn rachdoum_strata(
         treatment_size,
         plots,
     );
-    let strata_places = found.places;
-    let places = gather::signed(strata_places);
-    let residuals = found.residuals;
-    let all = gather::numbers(places, residuals);
-    *answer = all;
-    let number = found.refusal;
-    number as u32
+    match found {
+        Ok(found) => {
+            *answer = gather::numbers(gather::signed(found.places), found.residuals);
+            0
+        }
+        Err(refusal) => {
+            *answer = [0; 64];
+            refusal.number()
+        }
+    }
 }
 
-// The number of a case: 1 equivalent, 2 finer, 3 coarser, 4 orthogonal, 5 not orthogonal.
+// The number of a case: 1 equivalent, 2 finer, 3 coarser, 4 orthogonal, 5 not orthogonal. A function: the type is from elsewhere, so that no `From` can stand here.
 fn case_number(case: Comparison) -> u64
     ensures { result ≡ case_number (case_of case) }
 {
@@ -225,35 +229,36 @@ pub extern "C" fn rachdoum_compare(
     ensures refusal { result ≡ (comparing plots first_family.now first_size first_place second_family.now second_size second_place).refusal }
     ensures numbers { answer.new ≡ comparison_numbers (comparing plots first_family.now first_size first_place second_family.now second_size second_place) }
 {
-    let found = comparison::compare_members(
-        first_family,
-        first_size,
-        first_place,
-        second_family,
-        second_size,
-        second_place,
-        plots,
-    );
-    match found {
-        Compared::Stands(case) => {
+    let first = Place {
+        family: first_family,
+        size: first_size,
+        number: first_place,
+    };
+    let second = Place {
+        family: second_family,
+        size: second_size,
+        number: second_place,
+    };
+    match comparison::compare_members(first, second, plots) {
+        Ok(case) => {
             *answer = [case_number(case)];
             0
         }
-        Compared::Refused(number) => {
+        Err(refusal) => {
             *answer = [0];
-            number
+            refusal.number()
         }
     }
 }
 
-// The kind that a number states: 0 plot, any other treatment.
+// The kind that a number states: 0 plot, any other treatment. A function: both types are from elsewhere, so that no `From` can stand here.
 fn stated_kind(kind: u32) -> Kind
     ensures { kind_of result ≡ stated_kind kind }
 {
-    if kind == 0 {
-        return Kind::Plot;
+    match kind {
+        0 => Kind::Plot,
+        _ => Kind::Treatment,
     }
-    Kind::Treatment
 }
 
 // Questions 2, 3, 6, 7 and 15. The answer: how many bytes the name has.
@@ -273,18 +278,9 @@ pub extern "C" fn rachdoum_name(
     ensures buffer { name.new ≡ name_buffer name.old (naming (stated_kind kind) text.now levels.now family.now plots size place (length name.old)) }
     ensures numbers { answer.new ≡ naming_numbers (naming (stated_kind kind) text.now levels.now family.now plots size place (length name.old)) }
 {
-    let stated = stated_kind(kind);
-    let found = naming::member_name(text, levels, family, plots, size, stated, place, name);
-    match found {
-        Named::Written(length) => {
-            *answer = [length as u64];
-            0
-        }
-        Named::Refused(number) => {
-            *answer = [0];
-            number
-        }
-    }
+    let kind = stated_kind(kind);
+    let found = naming::member_name(text, levels, family, plots, size, kind, place, name);
+    put_size(found, answer)
 }
 
 // The whole printed text. The answer: how many bytes it has. 6: the buffer is too short.
@@ -294,33 +290,18 @@ pub extern "C" fn rachdoum_skeleton(text: &[u8], out: &mut [u8], answer: &mut [u
     ensures buffer { out.new ≡ table_buffer out.old (skeleton_table text.now (length out.old)) }
     ensures numbers { answer.new ≡ text_numbers (skeleton_table text.now (length out.old)) }
 {
-    let found = table::skeleton_table(text, out);
-    match found {
-        Printed::Text(bytes) => {
-            *answer = [bytes as u64];
-            0
-        }
-        Printed::Refused(question) => {
-            *answer = [0];
-            question
-        }
-    }
+    put_size(table::skeleton_table(text, out), answer)
 }
 
-// Hands over what an entry that writes a sheet answered: the number of the refusal, and how many bytes the sheet has.
-fn put_writing(found: Writing, answer: &mut [u64; 1]) -> u32
-    ensures refusal { result ≡ (writing_numbers found).refusal }
-    ensures numbers { answer.new ≡ (writing_numbers found).size ∷ [] }
+// Hands over what an entry that writes bytes answered: the number of the refusal, and how many bytes there are.
+fn put_size(found: Result<usize, Refusal>, answer: &mut [u64; 1]) -> u32
+    ensures refusal { result ≡ refusal_of found }
+    ensures numbers { answer.new ≡ size_of found ∷ [] }
 {
+    *answer = [found.unwrap_or(0) as u64];
     match found {
-        Writing::Written(size) => {
-            *answer = [size as u64];
-            0
-        }
-        Writing::Refused(refusal) => {
-            *answer = [0];
-            refusal
-        }
+        Ok(_) => 0,
+        Err(refusal) => refusal.number(),
     }
 }
 
@@ -331,8 +312,7 @@ pub extern "C" fn rachdoum_convert(old: &[u8], sheet: &mut [u8], answer: &mut [u
     ensures buffer { sheet.new ≡ sheet_buffer sheet.old (conversion old.now (length sheet.old)) }
     ensures numbers { answer.new ≡ sheet_numbers (conversion old.now (length sheet.old)) }
 {
-    let converted = conversion::convert(old, sheet);
-    put_writing(converted, answer)
+    put_size(conversion::convert(old, sheet), answer)
 }
 
 // Questions 6, 17 and 18 of a block formula. The answer: how many bytes its sheet has.
@@ -342,6 +322,5 @@ pub extern "C" fn rachdoum_formula(formula: &[u8], sheet: &mut [u8], answer: &mu
     ensures buffer { sheet.new ≡ sheet_buffer sheet.old (formula_sheet formula.now (length sheet.old)) }
     ensures numbers { answer.new ≡ sheet_numbers (formula_sheet formula.now (length sheet.old)) }
 {
-    let expanded = block_formula::expand(formula, sheet);
-    put_writing(expanded, answer)
+    put_size(block_formula::expand(formula, sheet), answer)
 }

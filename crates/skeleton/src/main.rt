@@ -3,7 +3,6 @@
 
 use input::read_input;
 use std::io;
-use table::Printed;
 
 // One byte more than a sheet may have, so that a longer one is refused.
 const INPUT: usize = limits::TEXT + 1;
@@ -18,11 +17,8 @@ fn main(rt: HostRuntime) -> io::Result<()> {
         Err(error) => return eprintln!(rt; "skeleton: standard input: {error}"),
     };
     let mut out = [0u8; TABLE];
-    let answer = table::skeleton_table(&input[..got], &mut out);
     // The buffer has the room that is asked for, so the table is not refused.
-    let Printed::Text(length) = answer else {
-        return Ok(());
-    };
+    let length = table::skeleton_table(&input[..got], &mut out).unwrap();
     match rt.write_all(&out[..length]) {
         Ok(()) => Ok(()),
         Err(error) => eprintln!(rt; "skeleton: standard output: {error}"),

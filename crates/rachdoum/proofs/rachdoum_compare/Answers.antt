@@ -7,18 +7,18 @@ use Rattle.comparison.specs.Answers.{compared_numbers}
 use Rattle.rachdoum.specs.Numbers.{comparison_numbers}
 use Rattle.rachdoum.proofs.rachdoum_compare.Goals as goal
 
-pub returns-in-Stands : goal.returns-in-Stands
-returns-in-Stands c =
-    let r = sym (ap compared_numbers c.in-Stands.is) ∙ c.compare_members-found.ensures in
+pub returns-in-Ok : goal.returns-in-Ok
+returns-in-Ok c =
+    let r = sym (ap compared_numbers c.in-Ok.is) ∙ c.compare_members.ensures in
     record {
       refusal = ap (λ (x : ComparisonAnswer). x.refusal) r;
       numbers = ap (λ (x : ℕ). x ∷ []) c.case_number.ensures ∙ ap comparison_numbers r;
     }
 
-pub returns-in-Refused : goal.returns-in-Refused
-returns-in-Refused c =
-    let r = sym (ap compared_numbers c.in-Refused.is) ∙ c.compare_members-found.ensures in
+pub returns-in-Err : goal.returns-in-Err
+returns-in-Err c =
+    let r = sym (ap compared_numbers c.in-Err.is) ∙ c.compare_members.ensures in
     record {
-      refusal = ap (λ (x : ComparisonAnswer). x.refusal) r;
+      refusal = c.number.ensures ∙ ap (λ (x : ComparisonAnswer). x.refusal) r;
       numbers = ap comparison_numbers r;
     }

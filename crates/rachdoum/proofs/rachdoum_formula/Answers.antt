@@ -1,16 +1,17 @@
--- `rachdoum::rachdoum_formula` meets its contract: the answer's numbers are the rules'.
+-- `rachdoum::rachdoum_formula` meets its contract: the answer has the rules' numbers.
 use mathlib.Core.Path.{ap, ◌∙◌}
 use mathlib.Core.List.{[], ◌∷◌}
+use Prim.Native.Nat.{ℕ}
 use Rattle.writer.specs.Answers.{SheetNumbers, answer_numbers}
+use Rattle.rachdoum.proofs.Sizes.{refusal_written, size_written}
 use Rattle.rachdoum.proofs.rachdoum_formula.Goals as goal
 
 pub returns : goal.returns
 unfolding answer_numbers
 returns c =
-    let k = c.expand-expanded in
-    let w = c.put_writing.ensures in
+    let f = c.expand in
     record {
-      refusal = w.refusal ∙ ap (λ (x : SheetNumbers). x.refusal) k.ensures.answer;
-      buffer = k.ensures.sheet;
-      numbers = w.numbers ∙ ap (λ (x : SheetNumbers). x.size ∷ []) k.ensures.answer;
+      refusal = c.put_size.ensures.refusal ∙ refusal_written f.result ∙ ap (λ (y : SheetNumbers). y.refusal) f.ensures.answer;
+      buffer = f.ensures.sheet;
+      numbers = c.put_size.ensures.numbers ∙ ap (λ (m : ℕ). m ∷ []) (size_written f.result ∙ ap (λ (y : SheetNumbers). y.size) f.ensures.answer);
     }

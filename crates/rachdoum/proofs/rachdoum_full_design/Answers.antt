@@ -11,10 +11,10 @@ refusal_in x = x.refusal
 numbers_in : FullNumbers → List ℕ
 numbers_in x = x.first ∷ x.second ∷ x.plot ∷ x.treatment ∷ []
 
-pub returns-in-Accepted : goal.returns-in-Accepted
+pub returns-in-Ok : goal.returns-in-Ok
 unfolding full_numbers full_numbers_of refusal_in numbers_in
-returns-in-Accepted c =
-    let e = sym (ap full_numbers c.in-Accepted.is) ∙ c.full_design-found.ensures.answer in
+returns-in-Ok c =
+    let e = sym (ap full_numbers c.in-Ok.is) ∙ c.full_design-found.ensures.answer in
     record {
       refusal = ap refusal_in e;
       plots = c.full_design-found.ensures.plots;
@@ -22,12 +22,12 @@ returns-in-Accepted c =
       numbers = ap numbers_in e;
     }
 
-pub returns-in-Refused : goal.returns-in-Refused
+pub returns-in-Err : goal.returns-in-Err
 unfolding full_numbers full_numbers_of refusal_in numbers_in
-returns-in-Refused c =
-    let e = sym (ap full_numbers c.in-Refused.is) ∙ c.full_design-found.ensures.answer in
+returns-in-Err c =
+    let e = sym (ap full_numbers c.in-Err.is) ∙ c.full_design-found.ensures.answer in
     record {
-      refusal = ap refusal_in e;
+      refusal = c.number.ensures ∙ ap refusal_in e;
       plots = c.full_design-found.ensures.plots;
       treatments = c.full_design-found.ensures.treatments;
       numbers = ap numbers_in e;

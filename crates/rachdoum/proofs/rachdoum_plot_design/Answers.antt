@@ -11,22 +11,14 @@ refusal_in x = x.refusal
 numbers_in : PlotNumbers → List ℕ
 numbers_in x = x.first ∷ x.second ∷ x.size ∷ []
 
-pub returns-in-Accepted : goal.returns-in-Accepted
+pub returns-in-Ok : goal.returns-in-Ok
 unfolding plot_numbers plot_numbers_of refusal_in numbers_in
-returns-in-Accepted c =
-    let e = sym (ap plot_numbers c.in-Accepted.is) ∙ c.plot_design-found.ensures.answer in
-    record {
-      refusal = ap refusal_in e;
-      buffer = c.plot_design-found.ensures.buffer;
-      numbers = ap numbers_in e;
-    }
+returns-in-Ok c =
+    let e = sym (ap plot_numbers c.in-Ok.is) ∙ c.plot_design.ensures.answer in
+    record { refusal = ap refusal_in e; buffer = c.plot_design.ensures.buffer; numbers = ap numbers_in e }
 
-pub returns-in-Refused : goal.returns-in-Refused
+pub returns-in-Err : goal.returns-in-Err
 unfolding plot_numbers plot_numbers_of refusal_in numbers_in
-returns-in-Refused c =
-    let e = sym (ap plot_numbers c.in-Refused.is) ∙ c.plot_design-found.ensures.answer in
-    record {
-      refusal = ap refusal_in e;
-      buffer = c.plot_design-found.ensures.buffer;
-      numbers = ap numbers_in e;
-    }
+returns-in-Err c =
+    let e = sym (ap plot_numbers c.in-Err.is) ∙ c.plot_design.ensures.answer in
+    record { refusal = c.number.ensures ∙ ap refusal_in e; buffer = c.plot_design.ensures.buffer; numbers = ap numbers_in e }

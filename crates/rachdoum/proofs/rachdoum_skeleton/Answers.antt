@@ -1,25 +1,17 @@
--- `rachdoum::rachdoum_skeleton` meets its contract: each case of the answer has the rules' numbers.
-use mathlib.Core.Path.{sym, ap, ◌∙◌}
+-- `rachdoum::rachdoum_skeleton` meets its contract: the answer has the rules' numbers.
+use mathlib.Core.Path.{ap, ◌∙◌}
 use mathlib.Core.List.{[], ◌∷◌}
-use Rattle.table.specs.Answers.{PrintNumbers, print_numbers, print_numbers_of}
+use Prim.Native.Nat.{ℕ}
+use Rattle.table.specs.Answers.{PrintNumbers, print_numbers_of}
+use Rattle.rachdoum.proofs.Sizes.{refusal_printed, size_printed}
 use Rattle.rachdoum.proofs.rachdoum_skeleton.Goals as goal
 
-pub returns-in-Text : goal.returns-in-Text
-unfolding print_numbers print_numbers_of
-returns-in-Text c =
-    let r = sym (ap print_numbers c.in-Text.is) ∙ c.skeleton_table-found.ensures.answer in
+pub returns : goal.returns
+unfolding print_numbers_of
+returns c =
+    let f = c.skeleton_table in
     record {
-      refusal = ap (λ (x : PrintNumbers). x.refusal) r;
-      buffer = c.skeleton_table-found.ensures.buffer;
-      numbers = ap (λ (x : PrintNumbers). x.size ∷ []) r;
-    }
-
-pub returns-in-Refused : goal.returns-in-Refused
-unfolding print_numbers print_numbers_of
-returns-in-Refused c =
-    let r = sym (ap print_numbers c.in-Refused.is) ∙ c.skeleton_table-found.ensures.answer in
-    record {
-      refusal = ap (λ (x : PrintNumbers). x.refusal) r;
-      buffer = c.skeleton_table-found.ensures.buffer;
-      numbers = ap (λ (x : PrintNumbers). x.size ∷ []) r;
+      refusal = c.put_size.ensures.refusal ∙ refusal_printed f.result ∙ ap (λ (y : PrintNumbers). y.refusal) f.ensures.answer;
+      buffer = f.ensures.buffer;
+      numbers = c.put_size.ensures.numbers ∙ ap (λ (m : ℕ). m ∷ []) (size_printed f.result ∙ ap (λ (y : PrintNumbers). y.size) f.ensures.answer);
     }

@@ -4,9 +4,10 @@ use mathlib.Core.List.{List, ◌++◌}
 use Prim.Native.Nat.{ℕ, ◌≤◌}
 use lib.IntN.{ℤ}
 use lib.ListN.{get_or}
-use Rattle.rules.specs.Strata.{StrataAnswer}
-use Rattle.rachdoum.specs.Numbers.{strata_numbers, AllFit}
-use Rattle.rachdoum.proofs.Few.{strata_few, signed_fit, strata_fit}
+use Rattle.rules.specs.Strata.{strata_refused, StrataAnswer}
+use Rattle.strata.specs.Answers.{strata_in}
+use Rattle.rachdoum.specs.Numbers.{strata_numbers}
+use Rattle.rachdoum.proofs.Few.{strata_few}
 use Rattle.rachdoum.proofs.rachdoum_strata.Goals as goal
 
 refusal_in : StrataAnswer → ℕ
@@ -15,29 +16,24 @@ refusal_in a = a.refusal
 places_in : StrataAnswer → List ℕ
 places_in a = a.places
 
-residuals_in : StrataAnswer → List ℤ
-residuals_in a = a.residuals
-
-pub signed-places-requires : goal.signed-places-requires
+pub signed-requires : goal.signed-requires
 unfolding places_in
-signed-places-requires c i =
+signed-requires c i =
     let a = c.args in
-    subst (λ (x : List ℕ). get_or x i 0 ≤ 32) (sym (ap places_in c.strata-found.ensures)) (strata_few a.plots a.plot_family.now a.plot_size a.treatment_family.now a.treatment_size i)
+    let e = sym (ap strata_in c.in-Ok.is) ∙ c.strata-found.ensures in
+    subst (λ (x : List ℕ). get_or x i 0 ≤ 32) (sym (ap places_in e)) (strata_few a.plots a.plot_family.now a.plot_size a.treatment_family.now a.treatment_size i)
 
-pub numbers-all-requires : goal.numbers-all-requires
-unfolding residuals_in places_in
-numbers-all-requires c =
-    let a = c.args in
-    let e = ap residuals_in c.strata-found.ensures in
-    let few : (i : ℕ) → get_or c.strata-found.result.places i 0 ≤ 32 = λ i. subst (λ (x : List ℕ). get_or x i 0 ≤ 32) (sym (ap places_in c.strata-found.ensures)) (strata_few a.plots a.plot_family.now a.plot_size a.treatment_family.now a.treatment_size i) in
-    (subst AllFit (sym c.signed-places.ensures) (signed_fit c.strata-found.result.places few), subst AllFit (sym e) (strata_fit a.plots a.plot_family.now a.plot_size a.treatment_family.now a.treatment_size))
-
-pub returns : goal.returns
+pub returns-in-Ok : goal.returns-in-Ok
 unfolding refusal_in
-returns c =
-    let e = c.strata-found.ensures in
-    let r = c.strata-found.result in
+returns-in-Ok c =
+    let e = sym (ap strata_in c.in-Ok.is) ∙ c.strata-found.ensures in
     record {
       refusal = ap refusal_in e;
-      numbers = c.numbers-all.ensures ∙ ap (λ (x : List ℤ). x ++ r.residuals) c.signed-places.ensures ∙ ap strata_numbers e;
+      numbers = c.numbers.ensures ∙ ap (λ (x : List ℤ). x ++ c.in-Ok.found.residuals) c.signed.ensures ∙ ap strata_numbers e;
     }
+
+pub returns-in-Err : goal.returns-in-Err
+unfolding refusal_in strata_refused
+returns-in-Err c =
+    let e = sym (ap strata_in c.in-Err.is) ∙ c.strata-found.ensures in
+    record { refusal = c.number.ensures ∙ ap refusal_in e; numbers = ap strata_numbers e }

@@ -13,4 +13,4 @@ returns c =
     let a = c.args in
     let la : length a.a ≡ 32 = omega arith in
     let lb : length a.b ≡ 32 = omega arith in
-    c.put_numbers-2.ensures ∙ ap (λ (w : List ℤ). paste w 32 a.b 32) c.put_numbers.ensures ∙ two a.a a.b la lb
+    (rw lb at c.put-2.ensures) ∙ ap (λ (w : List ℤ). paste w 32 a.b 32) (rw la at c.put.ensures) ∙ two a.a a.b la lb

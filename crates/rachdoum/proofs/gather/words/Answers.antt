@@ -14,6 +14,6 @@ returns c =
     let la : length a.a ≡ 32 = omega arith in
     let lb : length a.b ≡ 32 = omega arith in
     let lc : length a.c ≡ 32 = omega arith in
-    c.put_words-3.ensures
-    ∙ ap (λ (w : List ℕ). paste w 65 a.c 32) (c.put_words-2.ensures ∙ ap (λ (w : List ℕ). paste w 33 a.b 32) c.put_words.ensures)
+    (rw lc at c.put-3.ensures)
+    ∙ ap (λ (w : List ℕ). paste w 65 a.c 32) ((rw lb at c.put-2.ensures) ∙ ap (λ (w : List ℕ). paste w 33 a.b 32) (rw la at c.put.ensures))
     ∙ three a.first a.a a.b a.c la lb lc
