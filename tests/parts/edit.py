@@ -5,7 +5,7 @@ An edit has lines `file: PATH` and then pairs of lines `old: TEXT` and `new: TEX
 the pairs before. Further, each law that a line `fails: CRATE::FILE::LAW` names gets a file proofs/AskedN.antt, whose one declaration rests
 on that law alone: the prover tells of each such declaration whether what it rests on is refused.
 """
-import re
+import os
 import sys
 
 LAW = """use Rattle.std.specs.Prelude.{{ℕ}}
@@ -39,8 +39,10 @@ def main(edit, folder):
             if whole.count(old) != 1:
                 sys.exit(f"an old text stands {whole.count(old)} times in {path}, and not once: {old}")
             write(path, whole.replace(old, line[len("new:") :].removeprefix(" ")))
-        elif key == "fails" and re.search("::[A-Z]", text):
-            laws.append(text.strip().split("::"))
+        elif key == "fails":
+            crate, *file, law = text.strip().split("::")
+            if file and os.path.exists(f"{folder}/proofs/{'/'.join(file)}.antt"):
+                laws.append((crate, *file, law))
     for number, (crate, *file, law) in enumerate(laws, 1):
         write(f"{folder}/proofs/Asked{number}.antt", LAW.format(crate=crate, file=".".join(file), law=law))
         write(f"{folder}/proofs/Lib.antt", f"{read(f'{folder}/proofs/Lib.antt')}mod Asked{number}\n")
