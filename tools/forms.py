@@ -1,7 +1,7 @@
 #!/usr/bin/env python3
-"""Counts places of older forms in the Rattle sources and lists them: tools/forms.py [-l] [CRATE ..]
+"""Counts places in the Rattle sources that another form may say better, and lists them: tools/forms.py [-l] [CRATE ..]
 
-Each count is of a pattern, so that it can be taken again; which places may stay is said in docs/DESIGN-PASS.md.
+Each count is of a pattern, so that it can be taken again. docs/DESIGN-PASS.md has the counts.
 """
 import re
 import sys
