@@ -16,7 +16,7 @@ use Rattle.rules.specs.Strata.{StrataAnswer, stratum, residuals, all_have_stratu
 use Rattle.rules.proofs.Members.{clash}
 use Rattle.rules.proofs.Numbering.{by_cases}
 use Rattle.rules.proofs.ComparedPairs.{relation_compares}
-use Rattle.strata.specs.Answers.{relation_in, RelationCompared, degrees_in, analysis_in, analysis_from, AnalysisAnswer, with_degrees, strata_analysis}
+use Rattle.strata.specs.Answers.{relation_in, RelationCompared, degrees_in, degrees_found, analysis_in, analysis_from, AnalysisAnswer, with_degrees, strata_analysis}
 use Rattle.families.specs.Lent.{formed_in}
 use Rattle.strata.specs.Lent.{family_refusal}
 use Rattle.strata.specs.declared.order.Relation.{Relation}
@@ -47,9 +47,13 @@ module _ (n : ℕ) (b : List ℕ) (size : ℕ) where
   degrees_no q r e f =
       rw e (by_refusal n b size (λ q. degrees_refused (number_of q) ≡ degrees_of_freedom n b size) (λ w. rw (w, degrees_of_freedom)) (λ w f. rw (w, f, degrees_of_freedom)) q f)
 
+  pub degrees_found_lem : family_within n b ≡ true → well_formed (members_of n b size) ≡ true → degrees_of_freedom n b size ≡ degrees_found n (members_of n b size)
+  unfolding degrees_of_freedom degrees_found
+  degrees_found_lem e f = rw (e, f, degrees_of_freedom)
+
   pub degrees_yes : (ds : List ℤ) → ds ≡ for_places (pos 0) (degrees n (members_of n b size)) → family_refusal n b size ≡ None → degrees_in (Ok ds) ≡ degrees_of_freedom n b size
-  unfolding degrees_of_freedom
-  degrees_yes ds d e = let both = none_refused n b size e in rw (d, both.0, both.1, degrees_of_freedom)
+  unfolding degrees_found
+  degrees_yes ds d e = let both = none_refused n b size e in rw d (sym (degrees_found_lem both.0 both.1))
 
 -- ---- strata
 

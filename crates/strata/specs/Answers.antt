@@ -25,6 +25,11 @@ abbrev pub degrees_in : Result (List ℤ) Refusal → DegreesAnswer
 degrees_in (Ok ds) = record { refusal = 0; degrees = ds }
 degrees_in (Err q) = degrees_refused (number_of q)
 
+-- the answer for a family that questions 6 and 15 accept
+unfoldable pub degrees_found : ℕ → Family → DegreesAnswer
+unfolding for_places degrees
+degrees_found n S = record { refusal = 0; degrees = for_places (pos 0) (degrees n S) }
+
 abbrev pub strata_in : Result Strata Refusal → StrataAnswer
 strata_in (Ok r) = record { refusal = 0; places = r.places; residuals = r.residuals }
 strata_in (Err q) = strata_refused (number_of q)
