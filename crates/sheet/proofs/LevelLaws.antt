@@ -1,23 +1,26 @@
 -- Laws of a level, digit by digit, and of a level at hand in a text.
 -- Assumes nothing.
 use mathlib.Core.Path.{◌≡◌, refl, sym, ap, ◌∙◌}
-use mathlib.Core.Bool.{true, false}
+use mathlib.Core.Bool.{true, false, ◌||◌}
 use mathlib.Core.List.{List, [], ◌∷◌}
 use Prim.Native.Nat.{ℕ, zero, suc, ◌+◌, ◌-◌, ◌*◌, ◌≤◌, ◌<◌}
 use native.Mathlib.Omega.{arith}
 use native.Mathlib.Nat.{not-suc-le-zero}
 use native.Mathlib.Numerals.{add-one}
-use lib.Dec.{eqb}
+use lib.Dec.{eqb, leb}
 use lib.ListN.{length, get_or, drop, drop_of_length-le}
 use lib.Seq.{drop-cons}
-use borrow.Author.Tests.{ne_eqb, eq-eqb, eqb-true, eqb-false}
+use borrow.Author.Tests.{ne_eqb, eq-eqb, eqb-true, eqb-false, leb-true, leb-false}
 use Rattle.std.specs.Prelude.{Some, None}
-use Rattle.rules.specs.Sheet.{all, digit, decimal, decimal_from, no_leading_zero, is_level}
+use Rattle.rules.specs.Sheet.{all, digit, within, decimal, decimal_from, no_leading_zero, is_level}
 use Rattle.rules.specs.Limits.{most_level}
 use Rattle.rules.proofs.Numbering.{by_cases}
-use Rattle.rules.proofs.Sheet.{decimal_grows, level_leading, level_digit, level_large, level_none, level_is}
+use Rattle.rules.proofs.Sheet.{and_left, and_right, decimal_grows, level_leading, level_digit, level_large, level_none, level_is}
 use Rattle.sheet.specs.Walk.{field_of, level_of, level_there, level_then}
 use Rattle.sheet.specs.declared.field.FieldLevel.{FieldLevel}
+use Rattle.sheet.proofs.Stops.{field_get}
+use Rattle.sheet.proofs.RowLaws.{level_bad, level_far, level_other, level_good}
+use Rattle.sheet.proofs.Walk.{field_none, field_stop, field_goes}
 
 -- ---- what is answered
 
@@ -138,3 +141,92 @@ module _ (f : List ℕ) (i v : ℕ) (d : Digits f i v) where
       where
         no : v ≡ 0 → get_or f i 0 ≡ 48 → ⊥
         no k w = omega arith
+
+-- ---- the same walk over a text that may go on: i bytes of the field that xs starts with are passed
+
+-- a digit ends no field
+digit_goes : (x : ℕ) → digit x ≡ true → (eqb x 9 || eqb x 10) ≡ false
+digit_goes x e =
+    let l = leb-true 48 x (and_left (leb 48 x) (leb x 57) e) in
+    rw (ne_eqb x 9 (λ z. omega arith), ne_eqb x 10 (λ z. omega arith))
+
+pub record Passed (xs : List ℕ) (i v : ℕ) : Type 0 where
+  pub size : i + length (field_of (drop i xs)) ≡ length (field_of xs)
+  pub so_far : Digits (field_of xs) i v
+
+pub passed_none : (xs : List ℕ) → Passed xs 0 0
+passed_none xs = record { size = omega arith; so_far = digits_start (field_of xs) }
+
+module _ (s at : ℕ) (xs : List ℕ) where
+  not_written : level_of (field_of xs) ≡ None → level_then s at xs ≡ None
+  not_written e = then_off s at xs (level_bad s at xs (level_of_none (field_of xs) (sym e)))
+
+  -- it starts past the text's end
+  pub passed_past : xs ≡ [] → level_then s at xs ≡ None
+  unfolding field_of
+  passed_past e = rw e (then_off s at [] (level_far [] 0 0 s refl (omega arith)))
+
+  module _ (i v : ℕ) (p : Passed xs i v) where
+    -- the text ends
+    pub passed_out : length xs ≤ i → level_then s at xs ≡ None
+    passed_out h =
+        let n = ap length (field_none xs i h) in
+        then_off s at xs (level_far xs 0 i s (omega (arith, p.size)) h)
+
+    -- another byte
+    module _ (h : i < length xs) where
+      ends : (eqb (get_or xs i 0) 9 || eqb (get_or xs i 0) 10) ≡ true → i ≡ length (field_of xs)
+      ends e = let n = ap length (field_stop xs i h e) in omega (arith, p.size)
+
+      goes : (eqb (get_or xs i 0) 9 || eqb (get_or xs i 0) 10) ≡ false → (i < length (field_of xs)) × (i + 1 + length (field_of (drop (i + 1) xs)) ≡ length (field_of xs))
+      goes e = let n = ap length (field_goes xs i h e) in (omega (arith, p.size), omega (arith, p.size))
+
+      byte : i < length (field_of xs) → get_or (field_of xs) i 0 ≡ get_or xs i 0
+      byte l = let z : 0 + i ≡ i = omega arith in field_get xs 0 i l ∙ ap (λ (k : ℕ). get_or xs k 0) z
+
+      -- no digit, and no end of a level
+      pub passed_stray : digit (get_or xs i 0) ≡ false → (get_or xs i 0 ≡ s → (eqb s 9 || eqb s 10) ≡ true → 1 ≤ v → ⊥) → level_then s at xs ≡ None
+      passed_stray e n = by_cases (eqb (get_or xs i 0) 9 || eqb (get_or xs i 0) 10) stops on
+        where
+          on : (eqb (get_or xs i 0) 9 || eqb (get_or xs i 0) 10) ≡ false → level_then s at xs ≡ None
+          on g = let l = (goes g).0 in not_written (digits_stray (field_of xs) i v p.so_far l (rw (byte l) e))
+
+          empty : (1 ≤ v → ⊥) → i ≡ length (field_of xs) → level_then s at xs ≡ None
+          empty k z = not_written (digits_none (field_of xs) i v p.so_far (omega arith) (omega arith))
+
+          stops : (eqb (get_or xs i 0) 9 || eqb (get_or xs i 0) 10) ≡ true → level_then s at xs ≡ None
+          stops g =
+              by_cases (eqb (get_or xs i 0) s)
+              (λ b. let q = eqb-true (get_or xs i 0) s b in empty (n q (rw q at g)) (ends g))
+              (λ b. then_off s at xs (level_other xs 0 i s (let z = ends g in omega arith) (eqb-false (get_or xs i 0) s b)))
+
+      -- the end of a level
+      pub passed_end : get_or xs i 0 ≡ s → (eqb s 9 || eqb s 10) ≡ true → 1 ≤ v → level_then s at xs ≡ Some (record { end = at + i + 1; level = v })
+      passed_end e b k =
+          let z = ends (rw e b) in
+          let r = level_of_some (field_of xs) v (sym (digits_end (field_of xs) i v p.so_far (omega arith) k)) in
+          let n : at + suc (length (field_of xs)) ≡ at + i + 1 = omega arith in
+          then_on s at xs (level_good xs 0 i s (omega arith) h e r.0) ∙ rw (n, r.1)
+
+      -- a digit
+      module _ (e : digit (get_or xs i 0) ≡ true) where
+        inside : i < length (field_of xs)
+        inside = (goes (digit_goes (get_or xs i 0) e)).0
+
+        pub passed_bad : within 1 most_level (10 * v + (get_or xs i 0 - 48)) ≡ false → level_then s at xs ≡ None
+        passed_bad n =
+            let low = leb-true 48 (get_or xs i 0) (and_left (leb 48 (get_or xs i 0)) (leb (get_or xs i 0) 57) e) in
+            let b = byte inside in
+            by_cases (leb 1 (10 * v + (get_or xs i 0 - 48)))
+            (λ z. let y = leb-false (10 * v + (get_or xs i 0 - 48)) most_level (rw z at n) in not_written (digits_large (field_of xs) i v p.so_far inside (omega arith)))
+            (λ z. let y = leb-false 1 (10 * v + (get_or xs i 0 - 48)) z in not_written (digits_zero (field_of xs) i v p.so_far inside (omega arith) (omega arith)))
+
+        pub passed_on : within 1 most_level (10 * v + (get_or xs i 0 - 48)) ≡ true → Passed xs (i + 1) (10 * v + (get_or xs i 0 - 48))
+        passed_on n =
+            let l = leb-true 1 (10 * v + (get_or xs i 0 - 48)) (and_left (leb 1 (10 * v + (get_or xs i 0 - 48))) (leb (10 * v + (get_or xs i 0 - 48)) most_level) n) in
+            let k = leb-true (10 * v + (get_or xs i 0 - 48)) most_level (and_right (leb 1 (10 * v + (get_or xs i 0 - 48))) (leb (10 * v + (get_or xs i 0 - 48)) most_level) n) in
+            let b = byte inside in
+            record {
+              size = (goes (digit_goes (get_or xs i 0) e)).1;
+              so_far = rw b at (digits_on (field_of xs) i v p.so_far inside (rw b e) (rw b l) (rw b k));
+            }

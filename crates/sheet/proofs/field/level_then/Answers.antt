@@ -1,43 +1,63 @@
--- `sheet::field::level_then` meets its contract.
-use Prim.Native.Nat.{ℕ, suc, ◌+◌}
-use mathlib.Core.Path.{◌≡◌, sym, ap₂, ◌∙◌}
+use Prim.Native.Nat.{◌+◌, ◌-◌, ◌*◌, ◌≤◌}
+use mathlib.Core.Path.{◌≡◌, sym, ◌∙◌}
+use mathlib.Core.Bool.{true, false, ◌||◌}
 use native.Mathlib.Omega.{arith}
-use lib.ListN.{length, drop}
-use Rattle.std.specs.Prelude.{Some, None}
-use Rattle.sheet.specs.Walk.{field_of, level_of}
-use Rattle.sheet.proofs.Stops.{field_cut}
-use Rattle.sheet.proofs.RowLaws.{level_bad, level_far, level_other, level_good}
-use Rattle.sheet.proofs.LevelLaws.{level_of_none, level_of_some, then_off, then_on}
+use lib.Dec.{eqb}
+use lib.ListN.{length, get_or, drop, drop_of_length-le}
+use Rattle.std.proofs.lemmas.Grind.{common_steps}
+use Rattle.std.proofs.lemmas.Bool.Decides.{nat_tests}
+use Rattle.rules.specs.Limits.{most_level}
+use Rattle.rules.specs.Sheet.{within}
+use Rattle.rules.proofs.Members.{clash}
+use Rattle.sheet.proofs.FirstByte.{rest_taken}
+use Rattle.sheet.proofs.LevelLaws.{passed_none, passed_past, passed_out, passed_stray, passed_end, passed_bad, passed_on}
 use Rattle.sheet.proofs.field.level_then.Goals as goal
+use Rattle.sheet.proofs.field.level_then.Goals.{In_ok-rest, then-x-stop-via-then-x-stop, then-x-stop-via-else-x-stop+then-not-ends_field, then-x-stop-via-else-x-stop+else-not-ends_field+then-level-lt1}
 
-pub returns-then-text-end : goal.returns-then-text-end
-returns-then-text-end c =
-    let s = c.args in
-    let e = c.end_of-end in
-    sym (then_off s.stop s.start (drop s.start s.text.now) (level_far s.text.now s.start e.result s.stop e.ensures c.if-text-end.true))
+-- the rest is what stands in the text from `start` on
+rest : (c : In_ok-rest) → c.in_ok-rest.rest.now ≡ drop c.args.start c.args.text.now
+rest c = c.in_ok-rest.ensures.lookup.0.2 ∙ rest_taken c.args.start c.args.text.now
 
-pub returns-then-text-end-2 : goal.returns-then-text-end-2
-returns-then-text-end-2 c =
-    let s = c.args in
-    let e = c.end_of-end in
-    sym (then_off s.stop s.start (drop s.start s.text.now) (level_other s.text.now s.start e.result s.stop e.ensures c.if-text-end-2.true))
+pub returns-in_err-rest : goal.returns-in_err-rest
+returns-in_err-rest c =
+    let h : length c.args.text.now ≤ c.args.start = grind arith in
+    c.from_residual.ensures ∙ sym (passed_past c.args.stop c.args.start (drop c.args.start c.args.text.now) (drop_of_length-le c.args.text.now h))
 
-pub returns-in_err-level : goal.returns-in_err-level
-returns-in_err-level c =
-    let s = c.args in
-    let e = c.end_of-end in
-    let f = field_of (drop s.start s.text.now) in
-    let none : None ≡ level_of f = rw (field_cut s.text.now s.start e.result e.ensures) at c.in_err-level.ensures in
-    c.from_residual.ensures ∙ sym (then_off s.stop s.start (drop s.start s.text.now) (level_bad s.stop s.start (drop s.start s.text.now) (level_of_none f none)))
+pub loop-i-init : goal.loop-i-init
+loop-i-init c = passed_none c.in_ok-rest.rest.now
+
+pub returns-then-x-stop : goal.returns-then-x-stop
+returns-then-x-stop c =
+    let a = c.args in
+    let x = get_or c.in_ok-rest.rest.now c.loop-i.i 0 in
+    let ended : (eqb a.stop 9 || eqb a.stop 10) ≡ true → x ≡ a.stop → 1 ≤ c.loop-i.level → ⊥ =
+    λ e z k. elim c.then-x-stop.branch [
+      | then-x-stop-via-then-x-stop w ↦ w.if-x-stop.true z
+      | then-x-stop-via-else-x-stop+then-not-ends_field w ↦ clash e (sym w.ends_field.ensures ∙ w.if-not-ends_field.true)
+      | then-x-stop-via-else-x-stop+else-not-ends_field+then-level-lt1 w ↦ omega arith
+    ] in
+    rw (← (rest (goal.at.returns-then-x-stop c).In_ok-rest))
+    (sym (passed_stray a.stop a.start c.in_ok-rest.rest.now c.loop-i.i c.loop-i.level c.loop-i.invariant (omega arith) (sym c.is_ascii_digit.ensures.value ∙ c.if-not-is_ascii_digit.true) (λ z e k. ended e z k)))
+
+pub returns-then-not-is_ascii_digit : goal.returns-then-not-is_ascii_digit
+returns-then-not-is_ascii_digit c =
+    let a = c.args in
+    let e = sym c.ends_field.ensures ∙ c.if-not-ends_field.false in
+    rw (← (rest (goal.at.returns-then-not-is_ascii_digit c).In_ok-rest))
+    (sym (passed_end a.stop a.start c.in_ok-rest.rest.now c.loop-i.i c.loop-i.level c.loop-i.invariant (omega arith) c.if-x-stop.false e (omega arith)))
+
+pub returns-then-not-contains : goal.returns-then-not-contains
+returns-then-not-contains c =
+    let a = c.args in
+    let n : within 1 most_level (10 * c.loop-i.level + (get_or c.in_ok-rest.rest.now c.loop-i.i 0 - 48)) ≡ false = grind (arith, common_steps, nat_tests) in
+    rw (← (rest (goal.at.returns-then-not-contains c).In_ok-rest))
+    (sym (passed_bad a.stop a.start c.in_ok-rest.rest.now c.loop-i.i c.loop-i.level c.loop-i.invariant (omega arith) (sym c.is_ascii_digit.ensures.value ∙ c.if-not-is_ascii_digit.false) n))
+
+pub loop-i-preserved : goal.loop-i-preserved
+loop-i-preserved c =
+    let a = c.args in
+    let n : within 1 most_level (10 * c.loop-i.level + (get_or c.in_ok-rest.rest.now c.loop-i.i 0 - 48)) ≡ true = grind (arith, common_steps, nat_tests) in
+    passed_on a.stop a.start c.in_ok-rest.rest.now c.loop-i.i c.loop-i.level c.loop-i.invariant (omega arith) (sym c.is_ascii_digit.ensures.value ∙ c.if-not-is_ascii_digit.false) n
 
 pub returns : goal.returns
-returns c =
-    let s = c.args in
-    let e = c.end_of-end in
-    let f = field_of (drop s.start s.text.now) in
-    let some : Some c.in_ok-level.level ≡ level_of f = rw (field_cut s.text.now s.start e.result e.ensures) at c.in_ok-level.ensures in
-    let v = level_of_some f c.in_ok-level.level some in
-    let byte = c.if-text-end-2.false in
-    let n : e.result + 1 ≡ s.start + suc (length f) = omega (arith, e.ensures) in
-    ap₂ (λ (x y : ℕ). Some (record { end = x; level = y })) n v.1
-    ∙ sym (then_on s.stop s.start (drop s.start s.text.now) (level_good s.text.now s.start e.result s.stop e.ensures c.if-text-end.false byte v.0))
+returns c = rw (← (rest (goal.at.returns c).In_ok-rest)) (sym (passed_out c.args.stop c.args.start c.in_ok-rest.rest.now c.loop-i.i c.loop-i.level c.loop-i.invariant (omega arith)))
