@@ -8,18 +8,20 @@ use native.Mathlib.Omega.{arith}
 use native.Mathlib.Nat.{not-suc-le-zero}
 use native.Mathlib.Numerals.{add-one}
 use lib.Dec.{eqb, leb}
-use lib.ListN.{length, get_or, drop, drop_of_length-le}
-use lib.Seq.{drop-cons}
-use borrow.Author.Tests.{ne_eqb, eq-eqb, eqb-true, eqb-false, leb-true, leb-false}
+use lib.ListN.{length, get_or, take, drop, length-drop, drop_of_length-le}
+use lib.Seq.{drop-cons, get_or-drop}
+use borrow.Author.Tests.{ne_eqb, eq-eqb, eqb-true, eqb-false, leb-true, leb-false, le-leb}
 use Rattle.std.specs.Prelude.{Some, None}
 use Rattle.rules.specs.Sheet.{all, digit, within, decimal, decimal_from, no_leading_zero, is_level}
 use Rattle.rules.specs.Limits.{most_level}
 use Rattle.rules.proofs.Numbering.{by_cases}
+use Rattle.rules.proofs.Members.{clash}
 use Rattle.rules.proofs.Sheet.{and_left, and_right, decimal_grows, level_leading, level_digit, level_large, level_none, level_is}
 use Rattle.sheet.specs.Walk.{field_of, level_of, level_there, level_then}
 use Rattle.sheet.specs.declared.field.FieldLevel.{FieldLevel}
-use Rattle.sheet.proofs.Stops.{field_get}
-use Rattle.sheet.proofs.RowLaws.{level_bad, level_far, level_other, level_good}
+use Rattle.sheet.proofs.FirstByte.{rest_taken}
+use Rattle.sheet.proofs.Stops.{Stop, at_tab, at_newline, at_end, stop, field_get}
+use Rattle.sheet.proofs.RowLaws.{not_there, level_bad, level_far, level_other, level_good}
 use Rattle.sheet.proofs.Walk.{field_none, field_stop, field_goes}
 
 -- ---- what is answered
@@ -213,20 +215,66 @@ module _ (s at : ℕ) (xs : List ℕ) where
         inside : i < length (field_of xs)
         inside = (goes (digit_goes (get_or xs i 0) e)).0
 
-        pub passed_bad : within 1 most_level (10 * v + (get_or xs i 0 - 48)) ≡ false → level_then s at xs ≡ None
-        passed_bad n =
+        passed_zero : 10 * v + (get_or xs i 0 - 48) < 1 → level_then s at xs ≡ None
+        passed_zero l =
             let low = leb-true 48 (get_or xs i 0) (and_left (leb 48 (get_or xs i 0)) (leb (get_or xs i 0) 57) e) in
             let b = byte inside in
-            by_cases (leb 1 (10 * v + (get_or xs i 0 - 48)))
-            (λ z. let y = leb-false (10 * v + (get_or xs i 0 - 48)) most_level (rw z at n) in not_written (digits_large (field_of xs) i v p.so_far inside (omega arith)))
-            (λ z. let y = leb-false 1 (10 * v + (get_or xs i 0 - 48)) z in not_written (digits_zero (field_of xs) i v p.so_far inside (omega arith) (omega arith)))
+            not_written (digits_zero (field_of xs) i v p.so_far inside (omega arith) (omega arith))
 
-        pub passed_on : within 1 most_level (10 * v + (get_or xs i 0 - 48)) ≡ true → Passed xs (i + 1) (10 * v + (get_or xs i 0 - 48))
-        passed_on n =
-            let l = leb-true 1 (10 * v + (get_or xs i 0 - 48)) (and_left (leb 1 (10 * v + (get_or xs i 0 - 48))) (leb (10 * v + (get_or xs i 0 - 48)) most_level) n) in
-            let k = leb-true (10 * v + (get_or xs i 0 - 48)) most_level (and_right (leb 1 (10 * v + (get_or xs i 0 - 48))) (leb (10 * v + (get_or xs i 0 - 48)) most_level) n) in
+        pub passed_large : most_level < 10 * v + (get_or xs i 0 - 48) → level_then s at xs ≡ None
+        passed_large l = let b = byte inside in not_written (digits_large (field_of xs) i v p.so_far inside (omega arith))
+
+        pub passed_on : 1 ≤ 10 * v + (get_or xs i 0 - 48) → 10 * v + (get_or xs i 0 - 48) ≤ most_level → Passed xs (i + 1) (10 * v + (get_or xs i 0 - 48))
+        passed_on l k =
             let b = byte inside in
             record {
               size = (goes (digit_goes (get_or xs i 0) e)).1;
               so_far = rw b at (digits_on (field_of xs) i v p.so_far inside (rw b e) (rw b l) (rw b k));
             }
+
+  -- no byte that ends a field
+  pub no_stop : (eqb s 9 || eqb s 10) ≡ false → level_then s at xs ≡ None
+  no_stop e = then_off s at xs (go (stop xs))
+    where
+      no : (b : ℕ) → (eqb b 9 || eqb b 10) ≡ true → b ≡ s → ⊥
+      no b t z = clash (rw z at t) e
+
+      go : Stop xs → level_there s xs ≡ false
+      go (at_tab r) = not_there s at xs (λ l b. no (get_or xs (length (field_of xs)) 0) (rw r.byte) b)
+      go (at_newline r) = not_there s at xs (λ l b. no (get_or xs (length (field_of xs)) 0) (rw r.byte) b)
+      go (at_end r) = not_there s at xs (λ l b. omega (arith, r.all_of_it))
+
+  -- the first byte
+  module _ (h : 0 < length xs) where
+    pub first_bad : within 49 57 (get_or xs 0 0) ≡ false → level_then s at xs ≡ None
+    first_bad n =
+        by_cases (digit (get_or xs 0 0))
+        (λ e. by_cases (leb 49 (get_or xs 0 0))
+        (λ l. clash (and_right (leb 48 (get_or xs 0 0)) (leb (get_or xs 0 0) 57) e) (rw l at n))
+        (λ l. let k = leb-false 49 (get_or xs 0 0) l in passed_zero 0 0 (passed_none xs) h e (omega arith)))
+        (λ e. passed_stray 0 0 (passed_none xs) h e (λ z b k. omega arith))
+
+    pub first_good : within 49 57 (get_or xs 0 0) ≡ true → Passed xs 1 (get_or xs 0 0 - 48)
+    first_good n =
+        let low = leb-true 49 (get_or xs 0 0) (and_left (leb 49 (get_or xs 0 0)) (leb (get_or xs 0 0) 57) n) in
+        let high = leb-true (get_or xs 0 0) 57 (and_right (leb 49 (get_or xs 0 0)) (leb (get_or xs 0 0) 57) n) in
+        let e : digit (get_or xs 0 0) ≡ true = rw (le-leb 48 (get_or xs 0 0) (omega arith), le-leb (get_or xs 0 0) 57 high) in
+        let z : 10 * 0 + (get_or xs 0 0 - 48) ≡ get_or xs 0 0 - 48 = omega arith in
+        rw z at (passed_on 0 0 (passed_none xs) h e (omega arith) (omega arith))
+
+-- past the first byte the number is 1 or more
+pub passed_some : (xs : List ℕ) (i v : ℕ) → Passed xs (i + 1) v → 1 ≤ v
+passed_some xs i v p = by_cases (eqb v 0) (λ e. let z = p.so_far.some (eqb-true v 0 e) in omega arith) (λ e. let z = eqb-false v 0 e in omega arith)
+
+-- the bytes past the first, as a slice pattern binds them
+module _ (xs ys : List ℕ) (e : xs ≡ ys) where
+  past_first : take (length xs - 1) (drop 1 xs) ≡ drop 1 ys
+  past_first = rest_taken 1 xs ∙ ap (drop 1) e
+
+  pub past_size : length (take (length xs - 1) (drop 1 xs)) ≡ length ys - 1
+  past_size = ap length past_first ∙ length-drop 1 ys
+
+  pub past_byte : (i : ℕ) → get_or (take (length xs - 1) (drop 1 xs)) i 0 ≡ get_or ys (i + 1) 0
+  past_byte i =
+      let z : 1 + i ≡ i + 1 = omega arith in
+      ap (λ (r : List ℕ). get_or r i 0) past_first ∙ get_or-drop 1 ys i 0 ∙ ap (λ (k : ℕ). get_or ys k 0) z

@@ -51,21 +51,29 @@ pub struct FieldLevel {
 pub fn level_then(text: &[u8], start: usize, stop: u8) -> Option<FieldLevel>
     ensures { result ≡ level_then stop start (drop start text.now) }
 {
-    let rest = text.get(start..)?;
-    let mut level = 0u64;
+    let [first, rest @ ..] = text.get(start..)? else {
+        return None;
+    };
+    if !(b'1'..=b'9').contains(first) {
+        return None;
+    }
+    let mut level = (*first - b'0') as u64;
     for (i, &x) in rest.iter().enumerate() {
-        if !x.is_ascii_digit() {
-            if x != stop || !ends_field(stop) || level < 1 {
+        if x == stop {
+            if !ends_field(stop) {
                 return None;
             }
             return Some(FieldLevel {
-                end: start + i + 1,
+                end: start + i + 2,
                 level: level as Level,
             });
         }
+        if !x.is_ascii_digit() {
+            return None;
+        }
         level = 10 * level + (x - b'0') as u64;
-        // A leading zero, or too large already.
-        if !(1..=LEVEL).contains(&level) {
+        // Too large already.
+        if LEVEL < level {
             return None;
         }
     }
