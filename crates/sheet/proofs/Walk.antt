@@ -1,6 +1,6 @@
 -- Laws of the steps of a walk over a text.
 -- Assumes nothing.
-use mathlib.Core.Path.{◌≡◌, refl, sym, ◌∙◌}
+use mathlib.Core.Path.{◌≡◌, refl, sym, ap, ◌∙◌}
 use mathlib.Core.Bool.{Bool, true, false, ◌||◌}
 use mathlib.Core.List.{List, [], ◌∷◌}
 use Prim.Native.Nat.{ℕ, zero, suc, ◌+◌, ◌≤◌, ◌<◌}
@@ -32,6 +32,14 @@ module _ (xs : List ℕ) (at : ℕ) where
   pub field_goes : at < length xs → (eqb (get_or xs at 0) 9 || eqb (get_or xs at 0) 10) ≡ false → field_of (drop at xs) ≡ get_or xs at 0 ∷ field_of (drop (at + 1) xs)
   unfolding field_of
   field_goes h e = rw (add-one, drop-cons xs at 0 h, e, field_of)
+
+-- ---- the field in a text that is cut short
+
+pub field_take : (k : ℕ) (xs : List ℕ) → field_of (take k xs) ≡ take k (field_of xs)
+unfolding field_of
+field_take zero xs = refl
+field_take (suc k) [] = refl
+field_take (suc k) (x ∷ xs) = by_cases (eqb x 9 || eqb x 10) (λ e. rw (e, field_of)) (λ e. rw (e, field_of) (ap (λ (r : List ℕ). x ∷ r) (field_take k xs)))
 
 -- ---- a part, byte by byte
 

@@ -1,7 +1,7 @@
 // Fields: where one ends, whether it is a level, and of which bytes it is made.
 ghost use Rattle.std.specs.Prelude.{◌≡◌, ◌||◌, ◌+◌, eqb, length, drop};
 ghost use Rattle.rules.specs.Sheet.{tab, newline, up_to, letter_or_digit, same_bytes, is_name};
-ghost use Rattle.sheet.specs.Walk.{field_of, level_of, level_then, is_mark};
+ghost use Rattle.sheet.specs.Walk.{field_of, level_then, is_mark};
 
 use limits::{LEVEL, Level, NAME_TAIL};
 
@@ -39,27 +39,6 @@ pub fn place_of(text: &[u8], byte: u8) -> usize
     text.len()
 }
 
-// The level that a field writes: a decimal number from 1 on, without leading zeros.
-fn level_of(field: &[u8]) -> Option<Level>
-    ensures { result ≡ level_of field.now }
-{
-    let mut level = 0u64;
-    for &x in field {
-        if !x.is_ascii_digit() {
-            return None;
-        }
-        level = 10 * level + (x - b'0') as u64;
-        // A leading zero, or too large already.
-        if level < 1 || LEVEL < level {
-            return None;
-        }
-    }
-    if level < 1 {
-        return None;
-    }
-    Some(level as Level)
-}
-
 // A level, and the place after the byte that follows it.
 #[derive(Clone, Copy)]
 pub struct FieldLevel {
@@ -67,22 +46,38 @@ pub struct FieldLevel {
     pub level: Level,
 }
 
-// Reads the level that starts at `start`, where the byte `stop` ends its field.
+// Reads the level that starts at `start` and the byte `stop` after it, which ends its field, up to the first byte that tells that they
+// are not there. A level is a decimal number from 1 on, without leading zeros.
 pub fn level_then(text: &[u8], start: usize, stop: u8) -> Option<FieldLevel>
     ensures { result ≡ level_then stop start (drop start text.now) }
 {
-    let end = end_of(text, start);
-    if text.len() <= end {
+    let [first, rest @ ..] = text.get(start..)? else {
+        return None;
+    };
+    if !(b'1'..=b'9').contains(first) {
         return None;
     }
-    if text[end] != stop {
-        return None;
+    let mut level = (*first - b'0') as u64;
+    for (i, &x) in rest.iter().enumerate() {
+        if x == stop {
+            if !ends_field(stop) {
+                return None;
+            }
+            return Some(FieldLevel {
+                end: start + i + 2,
+                level: level as Level,
+            });
+        }
+        if !x.is_ascii_digit() {
+            return None;
+        }
+        level = 10 * level + (x - b'0') as u64;
+        // Too large already.
+        if LEVEL < level {
+            return None;
+        }
     }
-    let level = level_of(&text[start..end])?;
-    Some(FieldLevel {
-        end: end + 1,
-        level,
-    })
+    None
 }
 
 // Whether a byte is a letter or a digit.

@@ -9,6 +9,9 @@ use crate::field;
 use limits::{COLUMNS, FIELDS};
 use std::ops::Range;
 
+// A column has at most 14 bytes, and a byte follows.
+const PAST_COLUMN: usize = 15;
+
 // The first line of a sheet: where the next one starts, the columns of each kind, and the column of the level table that each field
 // takes, 0 past the fields.
 #[derive(Clone, Copy)]
@@ -47,8 +50,9 @@ fn column_end(text: &[u8], start: usize) -> Option<usize>
     requires { start ≤ length text.now }
     ensures { result ≡ column_end start (drop start text.now) }
 {
-    let end = field::end_of(text, start);
-    (end < text.len() && is_column(&text[start..end])).then_some(end)
+    let near = &text[..text.len().min(start + PAST_COLUMN)];
+    let end = field::end_of(near, start);
+    (end < near.len() && is_column(&near[start..end])).then_some(end)
 }
 
 // The first line but for its names: the fields one by one, each counted and given its column of the level table.
