@@ -48,7 +48,7 @@ fn name(line: &[u8], i: usize) -> &[u8]
     ensures { result.now ≡ get_or (names_in line.now) i [] }
 {
     match sheet::column_name(line, b'p', i) {
-        Some(span) => &line[span],
+        Some(span) => &line[span.start..span.end],
         None => &[],
     }
 }

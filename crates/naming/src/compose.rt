@@ -175,7 +175,7 @@ fn put_marked(text: &[u8], mark: u8, c: usize, out: &mut [u8], at: usize) -> usi
     ensures { Wrote out.old at (get_or (column_names mark (header text.now)) c []) out.new result }
 {
     match sheet::column_name(text, mark, c) {
-        Some(span) => decimal::write_bytes(&text[span], out, at),
+        Some(span) => decimal::write_bytes(&text[span.start..span.end], out, at),
         None => at,
     }
 }

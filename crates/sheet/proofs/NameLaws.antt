@@ -14,7 +14,7 @@ use Rattle.rules.proofs.Numbering.{by_cases}
 use Rattle.sheet.specs.Walk.{field_of}
 use Rattle.sheet.specs.Answers.{past_mark, span_from, column_span}
 use Rattle.std.specs.Prelude.{Option, Some, None}
-use Rattle.std.specs.declared.ops.Range.{Range}
+use Rattle.sheet.specs.declared.header.Span.{Span}
 use Rattle.sheet.proofs.Stops.{Stop, at_tab, at_newline, at_end, stop, field_part, field_next}
 use Rattle.sheet.proofs.Walk.{slice_none}
 use Rattle.sheet.proofs.HeaderLaws.{name_part, newline_here, tab_here, end_here}
@@ -35,9 +35,9 @@ module _ (mark at : ℕ) (f : Field) (R : List Field) where
   span_other zero e = rw (e, span_from)
   span_other (suc k) e = rw (e, span_from)
 
-span_nowhere : (mark k at : ℕ) → span_from mark k at [] ≡ None
+no_span_lem : (mark k at : ℕ) → span_from mark k at [] ≡ None
 unfolding span_from
-span_nowhere mark k at = refl
+no_span_lem mark k at = refl
 
 field_short : (xs : List ℕ) → length (field_of xs) ≤ length xs
 unfolding field_of
@@ -83,7 +83,7 @@ module _ (text : List ℕ) (at e : ℕ) (d : e ≡ at + length (field_of (drop a
   module _ (mark k j : ℕ) (t : Passed mark k j) where
     last : fields (up_to 10 (drop at text)) ≡ field_of (drop at text) ∷ [] → span_from mark k at (header (drop at text)) ≡ None
     unfolding header
-    last p = rw (p, ← (field_part text at e d)) (t [] ∙ span_nowhere mark j (suc e))
+    last p = rw (p, ← (field_part text at e d)) (t [] ∙ no_span_lem mark j (suc e))
 
     pub span_unended : length text ≤ e → span_from mark k at (header (drop at text)) ≡ None
     span_unended h = last (end_here text at e d h).parts
@@ -157,18 +157,18 @@ module _ (text : List ℕ) where
       go (at_end r) = let e = first [] r.parts in (e.0, none e.1)
 
   -- a part of the text that is so many bytes
-  pub record Part (s : Range ℕ) (bytes : List ℕ) : Type 0 where
+  pub record Part (s : Span) (bytes : List ℕ) : Type 0 where
     pub ordered : s.start ≤ s.end
     pub inside : s.end ≤ length text
     pub is : slice s.start s.end text ≡ bytes
 
   -- no bytes where there is no column
-  abbrev Told : Option (Range ℕ) → List ℕ → Type 0
+  abbrev Told : Option Span → List ℕ → Type 0
   Told (Some s) bytes = Part s bytes
   Told None bytes = bytes ≡ []
 
   named : (mark c at : ℕ) (fs : List Field) → Stand at fs → Told (span_from mark c at fs) (get_or (column_names mark fs) c [])
-  named mark c at [] s = rw (span_nowhere mark c at) (no_names mark c)
+  named mark c at [] s = rw (no_span_lem mark c at) (no_names mark c)
   named mark c at (f ∷ fs) s =
       by_cases (is_kind mark f)
       (kind c (λ k. named mark k (suc (at + length f)) fs w.1))
@@ -196,8 +196,8 @@ module _ (text : List ℕ) where
 
   -- where the promise of `column_name` leads
   module _ (mark c : ℕ) where
-    pub span_some : (s : Range ℕ) → column_span mark c text ≡ Some s → Part s (get_or (column_names mark (header text)) c [])
-    span_some s e = subst (λ (o : Option (Range ℕ)). Told o (get_or (column_names mark (header text)) c [])) e (told mark c)
+    pub span_some : (s : Span) → column_span mark c text ≡ Some s → Part s (get_or (column_names mark (header text)) c [])
+    span_some s e = subst (λ (o : Option Span). Told o (get_or (column_names mark (header text)) c [])) e (told mark c)
 
     pub span_none : column_span mark c text ≡ None → get_or (column_names mark (header text)) c [] ≡ []
-    span_none e = subst (λ (o : Option (Range ℕ)). Told o (get_or (column_names mark (header text)) c [])) e (told mark c)
+    span_none e = subst (λ (o : Option Span). Told o (get_or (column_names mark (header text)) c [])) e (told mark c)

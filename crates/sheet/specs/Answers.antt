@@ -1,7 +1,7 @@
 -- The structs and enums that the functions answer, by the rules' definitions.
 -- Assumes nothing.
 use Rattle.std.specs.Prelude.{Bool, true, false, ◌&&◌, Option, Some, None, Result, Ok, Err, List, [], ◌∷◌, ◌++◌, ℕ, zero, suc, ◌+◌, ◌-◌, min, leb, length, replicate}
-use Rattle.std.specs.declared.ops.Range.{Range}
+use Rattle.sheet.specs.declared.header.Span.{Span}
 use Rattle.rules.specs.Limits.{most_columns, most_fields, most_level}
 use Rattle.rules.specs.Sheet.{Field, Line, newline, plot_mark, treatment_mark, all, has, up_to, is_column, is_kind, count_kind, header, columns_after, is_plot_line, question3, Outcome, read, refused}
 use Rattle.refusal.specs.declared.Refusal.{Refusal}
@@ -55,18 +55,18 @@ unfolding question3 first_line
 headed text = elim (question3 text) [ true ↦ Some (first_line text) | false ↦ None ]
 
 -- where the name in the field from `start` to `stop` stands: past the two bytes of its kind
-abbrev pub past_mark : ℕ → ℕ → Range ℕ
+abbrev pub past_mark : ℕ → ℕ → Span
 past_mark start stop = record { start = min (start + 2) stop; end = stop }
 
 -- where the name of column c, from 0, of the fields that a byte marks stands, when the first of the fields starts at `at`
-unfoldable pub span_from : ℕ → ℕ → ℕ → List Field → Option (Range ℕ)
+unfoldable pub span_from : ℕ → ℕ → ℕ → List Field → Option Span
 unfolding is_kind
 span_from mark c at [] = None
 span_from mark zero at (f ∷ fs) = elim (is_kind mark f) [ true ↦ Some (past_mark at (at + length f)) | false ↦ span_from mark zero (suc (at + length f)) fs ]
 span_from mark (suc c) at (f ∷ fs) = elim (is_kind mark f) [ true ↦ span_from mark c (suc (at + length f)) fs | false ↦ span_from mark (suc c) (suc (at + length f)) fs ]
 
 -- the same of a text's first line; the bytes there are the column's name (span_some in proofs/NameLaws)
-unfoldable pub column_span : ℕ → ℕ → List ℕ → Option (Range ℕ)
+unfoldable pub column_span : ℕ → ℕ → List ℕ → Option Span
 unfolding span_from header
 column_span mark c text = span_from mark c 0 (header text)
 

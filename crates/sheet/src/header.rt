@@ -7,7 +7,6 @@ ghost use Rattle.sheet.specs.Answers.{past_mark, marked, headed, column_span};
 
 use crate::field;
 use limits::{COLUMNS, FIELDS};
-use std::ops::Range;
 
 // A column has at most 14 bytes, and a byte follows.
 const PAST_COLUMN: usize = 15;
@@ -20,6 +19,13 @@ pub struct Header {
     pub plot_columns: usize,
     pub treatment_columns: usize,
     pub columns: [u8; FIELDS],
+}
+
+// Where bytes of a text stand: from `start` on, those before `end`.
+#[derive(Clone, Copy, Debug, PartialEq, Eq)]
+pub struct Span {
+    pub start: usize,
+    pub end: usize,
 }
 
 // Question 3.
@@ -138,15 +144,18 @@ fn is_kind(text: &[u8], start: usize, stop: usize, mark: u8) -> bool
 }
 
 // Where the name in the field from `start` to `stop` stands: past the two bytes of its kind.
-fn name_in(start: usize, stop: usize) -> Range<usize>
+fn name_in(start: usize, stop: usize) -> Span
     requires { start ≤ stop }
     ensures { result ≡ past_mark start stop }
 {
-    start + (stop - start).min(2)..stop
+    Span {
+        start: start + (stop - start).min(2),
+        end: stop,
+    }
 }
 
 // Where the name of column `c`, from 0, of those that the first line marks with the byte `mark` stands.
-pub fn column_name(text: &[u8], mark: u8, c: usize) -> Option<Range<usize>>
+pub fn column_name(text: &[u8], mark: u8, c: usize) -> Option<Span>
     ensures { result ≡ column_span mark c text.now }
 {
     let mut at = 0;

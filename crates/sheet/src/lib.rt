@@ -11,7 +11,7 @@ mod questions;
 mod rows;
 
 pub use field::{end_of, is_name, letter_or_digit, place_of, same_bytes};
-pub use header::{Header, column_name, read_header};
+pub use header::{Header, Span, column_name, read_header};
 use limits::{LEVELS, Level, TEXT};
 use refusal::Refusal;
 

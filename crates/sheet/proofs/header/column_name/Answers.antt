@@ -3,7 +3,7 @@ use mathlib.Core.Path.{◌≡◌, sym, ap, ◌∙◌, subst}
 use native.Mathlib.Omega.{arith}
 use lib.ListN.{length, drop}
 use Rattle.std.specs.Prelude.{Some, None}
-use Rattle.std.specs.declared.ops.Range.{Range}
+use Rattle.sheet.specs.declared.header.Span.{Span}
 use Rattle.rules.specs.Sheet.{header}
 use Rattle.sheet.specs.Answers.{span_from}
 use Rattle.sheet.proofs.NameLaws.{span_start, end_inside, span_first, Passed, passed_kind, passed_other, span_unended, span_last, span_on}
@@ -39,7 +39,7 @@ is_kind-requires c = held c
 pub returns-then-left-eq0 : goal.returns-then-left-eq0
 returns-then-left-eq0 c =
     let a = c.args in
-    ap (λ (s : Range ℕ). Some s) c.name_in.ensures
+    ap (λ (s : Span). Some s) c.name_in.ensures
     ∙ sym (span_first a.text.now c.loop-mark.at c.end_of-e.result c.end_of-e.ensures a.mark (sym c.is_kind.ensures ∙ c.if-is_kind.true)) ∙ (rw c.if-left-eq0.true at c.loop-mark.invariant.1)
 
 pub returns-then-text-e : goal.returns-then-text-e
