@@ -31,7 +31,10 @@ pub fn write_bytes(from: &[u8], out: &mut [u8], at: usize) -> usize
         return at;
     }
     let n = from.len().min(out.len() - at);
-    out[at..at + n].copy_from_slice(&from[..n]);
+    // (The library's `copy_from_slice` would need `memmove` from outside where the archive is linked.)
+    for (i, &x) in from[..n].iter().enumerate() {
+        out[at + i] = x;
+    }
     at + n
 }
 
