@@ -11,20 +11,17 @@ use lib.Seq.{take_all, take-suc}
 use Rattle.rules.specs.Factor.{Column, at, number, labels, classes}
 use Rattle.rules.proofs.Walk.{classes_more}
 use Rattle.factor.specs.Labels.{largest}
-use Rattle.std.specs.Prelude.{Option}
-use Rattle.std.specs.List.{fold, reduce}
-use Rattle.std.specs.Option.{unwrap_or}
+use Rattle.std.specs.List.{fold}
 
--- the largest of the labels, folded from the first on
-largest_folded : (F : Column) (x : ℕ) → fold max x F ≡ largest (x ∷ F)
+-- the largest of a number and the labels
+folded_from : (F : Column) (x : ℕ) → fold max x F ≡ max x (largest F)
 unfolding largest
-largest_folded [] x = omega arith
-largest_folded (y ∷ F) x = let e = largest_folded F (max x y) in omega (arith, e)
+folded_from [] x = omega arith
+folded_from (y ∷ F) x = let e = folded_from F (max x y) in omega (arith, e)
 
-pub largest_reduced : (F : Column) (r : Option ℕ) → r ≡ reduce max F → unwrap_or r 0 ≡ largest F
-unfolding largest
-largest_reduced [] r e = rw e
-largest_reduced (x ∷ F) r e = rw e (largest_folded F x)
+-- the largest of the labels, folded from 0 on
+pub largest_folded : (F : Column) → fold max 0 F ≡ largest F
+largest_folded F = folded_from F 0 ∙ omega arith
 
 pub largest_none : (F : Column) → largest (take 0 F) ≡ 0
 unfolding largest

@@ -1,11 +1,10 @@
 -- Laws of the table of class sizes.
 -- Assumes nothing.
 use mathlib.Core.Path.{◌≡◌, refl, sym, ap, ◌∙◌}
-use mathlib.Core.Bool.{Bool, true, false, true≢false}
+use mathlib.Core.Bool.{Bool, true, false, true≢false, not, ◌&&◌}
 use mathlib.Core.List.{List}
 use Prim.Native.Nat.{ℕ, zero, suc, ◌+◌, ◌≤◌, ◌<◌}
 use native.Mathlib.Nat.{not-suc-le-zero}
-use Rattle.std.proofs.Common.{zero-le}
 use native.Mathlib.Numerals.{add-one}
 use native.Mathlib.Omega.{arith}
 use lib.Dec.{eqb}
@@ -18,8 +17,9 @@ use Rattle.rules.proofs.Numbering.{by_cases}
 use Rattle.rules.proofs.Tests.{count_yes, count_no, uniform_test}
 use Rattle.rules.proofs.Walks.{bool_false, count_le}
 use Rattle.rules.proofs.Sums.{Some, nowhere, somewhere, some}
-use Rattle.std.specs.Bool.{MatchBool}
-use Rattle.std.specs.List.{AllWithin, HoldsAt}
+use Rattle.std.specs.List.{list_any}
+use Rattle.std.proofs.lemmas.Bool.Decides.{nat_tests}
+use Rattle.factor.proofs.Gathered.{passed_by, passed_by_none}
 use Rattle.factor.specs.Sizes.{labelled, sizes}
 
 -- ---- sizes
@@ -59,13 +59,15 @@ count_some (suc n) p u h e z =
     (λ r. let w : true ≡ false = sym e ∙ ap p (eqb-true u n r) ∙ q in true≢false w)
     (λ r. let ne : u ≡ n → ⊥ = eqb-false u n r in count_some n p u (omega (arith, ne)) e (sym (count_no n p q) ∙ z)))
 
--- a label without a plot, or one of a class of this size
-abbrev pub SizeOf : ℕ → ℕ → Type 0
-SizeOf first size = (size ≡ 0 → ⊥) → size ≡ first
+-- whether a label has plots, but not this many
+abbrev pub other_size : ℕ → ℕ → Bool
+other_size first size = not (eqb size 0) && not (eqb size first)
 
--- a label of a class of another size
-abbrev pub OtherSize : ℕ → ℕ → Type 0
-OtherSize first size = (size ≡ 0 → ⊥) × (size ≡ first → ⊥)
+other_size_yes : (first size : ℕ) → other_size first size ≡ true → (size ≡ 0 → ⊥) × (size ≡ first → ⊥)
+other_size_yes first size h = (λ e. grind (arith, nat_tests), λ e. grind (arith, nat_tests))
+
+other_size_no : (first size : ℕ) → other_size first size ≡ false → (size ≡ 0 → ⊥) → size ≡ first
+other_size_no first size h nz = grind (arith, nat_tests)
 
 module _ (F : Column) {t : List ℕ} (e : t ≡ sizes F) (bytes : (u : ℕ) → at F u < 256) where
   room : length t ≡ 256
@@ -96,8 +98,8 @@ module _ (F : Column) {t : List ℕ} (e : t ≡ sizes F) (bytes : (u : ℕ) → 
           ∙ sizes_at F e v (bytes v) ∙ (uniform_test (length F) F).0 yes v 0 hv plot ∙ sym (sizes_at F e 0 (bytes 0))))
 
   -- what a walk over the table tells: all labels with a plot have as many as that of the first plot, or one has not
-  pub one_size_told : (r : Bool) → 0 < length F
-      → MatchBool r (AllWithin (SizeOf (get_or t (at F 0) 0)) t 0 (length t)) ((x : ℕ) × (x < length t) × HoldsAt (OtherSize (get_or t (at F 0) 0)) t x)
-      → r ≡ uniform (length F) F
-  one_size_told true plot all = sym (one_size_yes (λ x h. all x 0 zero-le (omega (arith, room))))
-  one_size_told false plot one = sym (one_size_no plot one.0 (omega (arith, room, one.1)) (one.2 0).0 (one.2 0).1)
+  pub one_size_told : (r : Bool) → 0 < length F → r ≡ list_any (other_size (get_or t (at F 0) 0)) t → not r ≡ uniform (length F) F
+  one_size_told true plot r = let some = passed_by _ t 0 (sym r) in
+      let other = other_size_yes _ _ some.2 in
+      sym (one_size_no plot some.0 (omega (arith, room, some.1)) other.0 other.1)
+  one_size_told false plot r = sym (one_size_yes (λ x h. other_size_no _ _ (passed_by_none _ t 0 (sym r) x (omega (arith, room)))))

@@ -6,5 +6,5 @@ ghost use Rattle.factor.specs.Labels.{largest};
 pub fn largest(column: &[u8]) -> u8
     ensures { result ≡ largest column.now }
 {
-    column.iter().copied().max().unwrap_or(0)
+    column.iter().fold(0, |most, &x| most.max(x))
 }

@@ -13,5 +13,13 @@ pub fn alike(f: &[u8], g: &[u8]) -> bool
 pub fn smaller(f: &[u8], g: &[u8]) -> bool
     ensures { result ≡ smaller f.now g.now }
 {
-    f < g
+    for (u, &x) in f.iter().enumerate() {
+        let Some(&y) = g.get(u) else {
+            return false;
+        };
+        if x != y {
+            return x < y;
+        }
+    }
+    f.len() < g.len()
 }

@@ -35,12 +35,15 @@ pub fn uniform(f: &[u8]) -> bool
     n == 0 || one_size(&f[..n])
 }
 
-// The same for a column that has a plot: the class of each plot has as many as that of the first.
+// The same for a column that has a plot: the class of each plot has as many as that of the first. The walk goes to the end, so that many
+// labels are compared at a time.
 fn one_size(f: &[u8]) -> bool
     requires { (0 < length f.now) × (length f.now ≤ most_plots) }
     ensures { result ≡ uniform (length f.now) f.now }
 {
     let table = sizes(f);
     let first = table[f[0] as usize];
-    table.iter().all(|&size| size == 0 || size == first)
+    !table
+        .iter()
+        .fold(false, |other, &size| other | (size != 0 && size != first))
 }

@@ -32,17 +32,23 @@ pub fn well_formed(family: &[u8], plots: usize, size: usize) -> bool
     plots <= PLOTS && FAMILY <= family.len() && formed(family, plots, size)
 }
 
-// How many classes a column has that is numbered by first appearance: its largest number.
+// How many classes a column has that is numbered by first appearance: its largest number. That each plot has a label is asked first, of many
+// plots at a time, and so the walk has work at a new class alone.
 fn numbered_classes(column: &[u8]) -> Option<usize>
     ensures { result ≡ numbered_classes column.now }
 {
+    if column.contains(&0) {
+        return None;
+    }
     let mut most: usize = 0;
     for &x in column {
         let x = x as usize;
-        if x == 0 || most + 1 < x {
-            return None;
+        if most < x {
+            if most + 1 < x {
+                return None;
+            }
+            most = x;
         }
-        most = most.max(x);
     }
     Some(most)
 }
