@@ -94,7 +94,7 @@ module _ (text : List ℕ) (start : ℕ) where
   pub column_end_some : (e : ℕ) → Some e ≡ column_end start (drop start text) → (column_there (drop start text) ≡ true) × (e ≡ start + length (field_of (drop start text)))
   column_end_some e s = by_cases (column_there (drop start text)) (λ c. (c, (let y = column_end_at c in cc))) (λ c. let n = column_end_off c in cc)
 
--- ---- a column stands in the first 15 bytes, and the byte after it
+-- ---- a column and the byte after it stand in the first 15 bytes
 
 end_is : (at : ℕ) (xs : List ℕ) → column_end at xs ≡ then_some (column_there xs) (at + length (field_of xs))
 unfolding column_end
