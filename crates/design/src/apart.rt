@@ -55,15 +55,17 @@ pub fn first_crossed(
     ensures second { second_of result ≡ cross_second (test_of sides.now) sides.now.treatment.size (first_of result) }
     ensures some { IfSome result (λ pair. pair.first ≡ 0 → ⊥) }
 {
-    for i in 0..sides.plot.size {
+    let mut found = None;
+    'pairs: for i in 0..sides.plot.size {
         for j in 0..sides.treatment.size {
             if !pair_orthogonal(sides, i, j, joins, apart) {
-                return Some(Places {
+                found = Some(Places {
                     first: i + 1,
                     second: j + 1,
                 });
+                break 'pairs;
             }
         }
     }
-    None
+    found
 }
