@@ -18,7 +18,7 @@ use Rattle.rules.proofs.Numbering.{by_cases, place_yes, place_no}
 use Rattle.rules.proofs.Members.{alike_sound, alike_self}
 use Rattle.rules.proofs.WorkList.{place_of}
 use Rattle.rules.proofs.Buffer.{put, length_put, length_members, member_is, members_add}
-use Rattle.design.specs.State.{column_at, Held, PlacedMember, old, new, NoRoom, grown_to}
+use Rattle.design.specs.State.{column_at, Held, PlacedMember, old, new, NoRoom, grown_to, FirstAt}
 
 -- ---- the search for a column
 
@@ -99,7 +99,7 @@ module _ (n : ℕ) (store counts : List ℕ) (size : ℕ) (h : Held n store coun
   no_room e f = record { full = ends ∙ e; fresh = f; held = rw ends h; members = ap (members_of n store) ends }
 
   -- the same by what a search finds
-  pub placed_found : (r : Option ℕ) → size ≡ 32 → MatchOption r (F ∈ S → ⊥) (λ i. (i < size) × (member_at S i ≡ F)) → MatchOption r (NoRoom n S F store counts) (λ i. PlacedMember n S F i store counts)
+  pub placed_found : (r : Option ℕ) → size ≡ 32 → FirstAt S size F r → MatchOption r (NoRoom n S F store counts) (λ i. PlacedMember n S F i store counts)
   placed_found None e f = no_room e f
   placed_found (Some i) e q = placed_old i q.0 q.1
 

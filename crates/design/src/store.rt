@@ -1,11 +1,10 @@
 // A family as it grows: members in the order of their discovery, 240 bytes apart, with their numbers of classes.
-ghost use Rattle.std.specs.Prelude.{◌≡◌, ◌+◌, ◌*◌, ◌≤◌, ◌<◌, length, MatchOption, IfSome};
+ghost use Rattle.std.specs.Prelude.{◌≡◌, ◌+◌, ◌*◌, ◌≤◌, ◌<◌, length, MatchOption};
 ghost use Rattle.std.proofs.Math.Seq.{paste};
 ghost use Rattle.rules.specs.Limits.{most_plots, most_members};
-ghost use Rattle.rules.specs.Factor.{classes, index_of};
-ghost use Rattle.rules.specs.Family.{◌∈◌, alike, members_of};
-ghost use Rattle.rules.specs.Relation.{member_at};
-ghost use Rattle.design.specs.State.{Held, PlacedMember, NoRoom, grown_to};
+ghost use Rattle.rules.specs.Factor.{classes};
+ghost use Rattle.rules.specs.Family.{members_of};
+ghost use Rattle.design.specs.State.{Held, FirstAt, PlacedMember, NoRoom, grown_to};
 
 use families::member;
 use limits::{MEMBERS, PLOTS};
@@ -19,8 +18,7 @@ pub fn find(
     count: u8,
 ) -> Option<usize>
     requires { Held (length column.now) store.now counts.now size × (count ≡ classes column.now) }
-    ensures found { MatchOption result (column.now ∈ members_of (length column.now) store.now size → ⊥) (λ i. (i < size) × (member_at (members_of (length column.now) store.now size) i ≡ column.now)) }
-    ensures first { IfSome result (λ i. i ≡ index_of alike (members_of (length column.now) store.now size) column.now) }
+    ensures { FirstAt (members_of (length column.now) store.now size) size column.now result }
 {
     for (i, &known) in counts[..size].iter().enumerate() {
         if known == count && factor::alike(member(store, i, column.len()), column) {

@@ -18,10 +18,8 @@ returns-then-alike c =
     let l : c.loop-i.i < c.args.size = omega (arith, length-take-le c.args.size c.args.counts.now (omega (arith, c.requires.0.few))) in
     let m = member_is (length F) c.requires.0.most c.args.store.now c.args.size c.loop-i.i l in
     let same = alike_sound _ F (ap (λ (G : Column). alike G F) (m ∙ sym c.member.ensures) ∙ sym c.alike.ensures ∙ c.if-alike.true) in
-    let len = length_members (length F) c.requires.0.most c.args.store.now c.args.size in record {
-      found = (l, same);
-      first = first_at _ F c.loop-i.i (rw len l) same c.loop-i.invariant;
-    }
+    let len = length_members (length F) c.requires.0.most c.args.store.now c.args.size in
+    (l, same, first_at _ F c.loop-i.i (rw len l) same c.loop-i.invariant)
 
 pub loop-i-preserved : goal.loop-i-preserved
 loop-i-preserved c =
@@ -34,8 +32,8 @@ loop-i-preserved c =
       | else-known-count-via-else-known-count w ↦ w.if-known-count.false (get_or-take c.args.size c.args.counts.now i 0 l ∙ c.requires.0.counted i l ∙ ap classes (sym m ∙ q) ∙ sym c.requires.1)
     ])
 
-pub returns-clause-found : goal.returns-clause-found
-returns-clause-found c =
+pub returns : goal.returns
+returns c =
     let F = c.args.column.now in
     let len = length_members (length F) c.requires.0.most c.args.store.now c.args.size in
     absent_lem _ F (λ k h. c.loop-i.invariant k (omega (arith, len, length-take-le c.args.size c.args.counts.now (omega (arith, c.requires.0.few)))))

@@ -9,4 +9,4 @@ pub returns : goal.returns
 returns c =
     let F = c.args.column.now in
     let all : c.args.size ≡ 32 = omega (arith, c.requires.0.few) in
-    placed_found (length F) c.args.store.now c.args.counts.now c.args.size c.requires.0 F refl c.find.result all c.find.ensures.found
+    placed_found (length F) c.args.store.now c.args.counts.now c.args.size c.requires.0 F refl c.find.result all c.find.ensures

@@ -16,10 +16,10 @@ pub returns-then-self-lt-MEMBERS-clause-adds : goal.returns-then-self-lt-MEMBERS
 returns-then-self-lt-MEMBERS-clause-adds c = rw c.grown-self.ensures (room_adds c.requires.0 c.requires.2 c.if-self-lt-MEMBERS.true c.place-p.ensures)
 
 pub returns-in_default-clause-adds : goal.returns-in_default-clause-adds
-returns-in_default-clause-adds c = full_adds c.requires.0 c.requires.2 refl c.if-self-lt-MEMBERS.false c.in_default.ensures.found
+returns-in_default-clause-adds c = full_adds c.requires.0 c.requires.2 refl c.if-self-lt-MEMBERS.false c.in_default.ensures
 
 pub returns-clause-stands : goal.returns-clause-stands
-returns-clause-stands c = old_stands c.requires.0 c.requires.2 refl c.if-self-lt-MEMBERS.false c.in-Some.ensures.found.0 c.in-Some.ensures.found.1
+returns-clause-stands c = old_stands c.requires.0 c.requires.2 refl c.if-self-lt-MEMBERS.false c.in-Some.ensures.0 c.in-Some.ensures.1
 
 pub returns-clause-adds : goal.returns-clause-adds
-returns-clause-adds c = old_adds c.requires.0 c.requires.2 refl c.if-self-lt-MEMBERS.false c.in-Some.ensures.found.0 c.in-Some.ensures.found.1
+returns-clause-adds c = old_adds c.requires.0 c.requires.2 refl c.if-self-lt-MEMBERS.false c.in-Some.ensures.0 c.in-Some.ensures.1
