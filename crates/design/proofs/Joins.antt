@@ -25,7 +25,7 @@ use Rattle.rules.proofs.Buffer.{length_members, member_is}
 use Rattle.rules.specs.Relation.{member_at}
 use Rattle.design.specs.State.{column_at, Held, PlacedMember, old, new, grown_to, Begun}
 use Rattle.design.specs.Treatments.{orthogonal_at}
-use Rattle.design.specs.Crossing.{FinerBits, Placing, exceeded, begun, Growing, Grown, Adds, Stands, Join, entry_at, Joins, Tested, Chosen}
+use Rattle.design.specs.Crossing.{FinerBits, Placing, exceeded, begun, Growing, Grown, Adds, Stands, Join, place_in, places_in, entry_at, Joins, Tested, Chosen}
 use Rattle.factor.proofs.Lent.{length_part}
 use Rattle.design.proofs.Placing.{placed_old, no_room, grown_old}
 use Rattle.design.proofs.Suprema.{insert_all_more, begun_placed, over_placed, placing_over, placing_begun}
@@ -201,6 +201,10 @@ module _ {n : ℕ} {store counts : List ℕ} {size : ℕ} {over : Bool} (g : Gro
           (λ h. over_adds n store counts size over F store counts size over h h As q)
           (λ h. begun h (subst (Begun n (As ++ F ∷ []) store counts) (same_size ∙ sym all) (begun_placed n store counts 32 held_all F p store counts As (as_placed As h q) numbered (placed_old n store counts 32 held_all F length-is p d is))))
 
+-- a place in the store is small
+pub stands_few : {n : ℕ} {store counts : List ℕ} {size : ℕ} {over : Bool} {F : Column} {place : Option ℕ} → Growing n store counts size over → Stands n F store size place → (q : ℕ) → place ≡ Some q → q < 32
+stands_few g s q e = omega (arith, (s q e).0, g.held.few)
+
 -- as it was
 pub grown_same : (n : ℕ) (store : List ℕ) (size : ℕ) → Grown n store size store size
 grown_same n store size = record { more = omega arith; keeps = λ k h. refl }
@@ -228,6 +232,15 @@ module _ {n : ℕ} {X F : Column} (e : X ≡ F) (l : length F ≡ n) where
 
 -- ---- the table
 
+-- the place in an entry that is one more
+pub place_more : (q : ℕ) → place_in (q + 1) ≡ Some q
+place_more q = rw add-one
+
+-- the places in entries that are 0
+pub places_none : (m : ℕ) → places_in (replicate m 0) ≡ replicate m None
+places_none zero = refl
+places_none (suc m) = ap (λ (l : List (Option ℕ)). None ∷ l) (places_none m)
+
 -- nothing yet
 none_at : (m k : ℕ) → get_or (replicate {A = Option ℕ} m None) k None ≡ None
 none_at zero k = refl
@@ -236,6 +249,9 @@ none_at (suc m) (suc k) = none_at m k
 
 pub joins_none : (n : ℕ) (plot first store : List ℕ) (size : ℕ) → Joins n plot first store size (replicate 1024 None)
 joins_none n plot first store size = record { cells = length-replicate {A = Option ℕ} 1024 None; sound = λ i j q hi hj e. absurd (let w : Some q ≡ None = sym e ∙ none_at 1024 (32 * i + j) in cc) }
+
+pub joins_begun : (n : ℕ) (plot first store : List ℕ) (size : ℕ) → Joins n plot first store size (places_in (replicate 1024 0))
+joins_begun n plot first store size = subst (Joins n plot first store size) (sym (places_none 1024)) (joins_none n plot first store size)
 
 -- what the table tells of a pair, and a pair that is not orthogonal of itself
 pub joins_tested : (n : ℕ) (plot first store : List ℕ) (size : ℕ) (joins : List (Option ℕ)) → Joins n plot first store size joins → (a b : ℕ) → orthogonal_at n plot first a b ≡ false → (i j : ℕ) → i < 32 → j < 32 → Tested n plot first joins a b i j

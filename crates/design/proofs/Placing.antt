@@ -4,21 +4,21 @@ use Rattle.std.specs.Prelude.{Option, None, Some, MatchOption}
 use mathlib.Core.Path.{◌≡◌, refl, sym, ap, ◌∙◌, subst}
 use mathlib.Core.Bool.{Bool, true, false}
 use mathlib.Core.List.{List, [], ◌∷◌, ◌++◌}
-use Prim.Native.Nat.{ℕ, suc, ◌+◌, ◌*◌, ◌≤◌, ◌<◌}
-use native.Mathlib.Nat.{lt_irrefl}
+use Prim.Native.Nat.{ℕ, zero, suc, ◌+◌, ◌*◌, ◌≤◌, ◌<◌, zero-le, suc-le-suc}
+use native.Mathlib.Nat.{lt_irrefl, not-suc-le-zero, le_of_suc-le-suc}
 use native.Mathlib.Omega.{arith}
 use lib.Dec.{ltb}
 use lib.ListN.{length, get_or, set, length-set, get_or-append}
 use lib.Seq.{paste, take-length, get_or-set_same, get_or-set_other, get_or_at}
 use borrow.Author.Tests.{eq-eqb, ne_eqb, ltb-true, ltb-false}
-use Rattle.rules.specs.Factor.{Column, classes}
+use Rattle.rules.specs.Factor.{Column, classes, index_of}
 use Rattle.rules.specs.Family.{Family, ◌∈◌, alike, members_of}
 use Rattle.rules.specs.Relation.{member_at}
-use Rattle.rules.proofs.Numbering.{by_cases}
-use Rattle.rules.proofs.Members.{alike_sound}
+use Rattle.rules.proofs.Numbering.{by_cases, place_yes, place_no}
+use Rattle.rules.proofs.Members.{alike_sound, alike_self}
 use Rattle.rules.proofs.WorkList.{place_of}
 use Rattle.rules.proofs.Buffer.{put, length_put, length_members, member_is, members_add}
-use Rattle.design.specs.State.{column_at, Held, PlacedMember, old, new, NoRoom, grown_to}
+use Rattle.design.specs.State.{column_at, Held, PlacedMember, old, new, NoRoom, grown_to, FirstAt}
 
 -- ---- the search for a column
 
@@ -29,6 +29,14 @@ unlike_counts G F n = by_cases (alike G F) (λ e. absurd (n (ap classes (alike_s
 -- a column that stands at no place is no member
 pub absent_lem : (S : Family) (F : Column) → ((k : ℕ) → k < length S → member_at S k ≡ F → ⊥) → F ∈ S → ⊥
 absent_lem S F h m = let p = place_of S F m in h p.place p.less p.is
+
+-- a column that stands at place i, and at none before it, is found there
+pub first_at : (S : Family) (F : Column) (i : ℕ) → i < length S → member_at S i ≡ F → ((k : ℕ) → k < i → member_at S k ≡ F → ⊥) → i ≡ index_of alike S F
+first_at [] F i l e h = absurd (not-suc-le-zero l)
+first_at (G ∷ S) F zero l e h = sym (place_yes alike alike_sound alike_self G S F (rw e (alike_self F)))
+first_at (G ∷ S) F (suc i) l e h =
+    let other : alike G F ≡ false = by_cases (alike G F) (λ t. absurd (h 0 (suc-le-suc zero-le) (alike_sound G F t))) (λ f. f) in
+    ap suc (first_at S F i (le_of_suc-le-suc l) e (λ k m. h (suc k) (suc-le-suc m))) ∙ sym (place_no alike alike_sound alike_self G S F other)
 
 -- ---- a column after the last member
 
@@ -91,7 +99,7 @@ module _ (n : ℕ) (store counts : List ℕ) (size : ℕ) (h : Held n store coun
   no_room e f = record { full = ends ∙ e; fresh = f; held = rw ends h; members = ap (members_of n store) ends }
 
   -- the same by what a search finds
-  pub placed_found : (r : Option ℕ) → size ≡ 32 → MatchOption r (F ∈ S → ⊥) (λ i. (i < size) × (member_at S i ≡ F)) → MatchOption r (NoRoom n S F store counts) (λ i. PlacedMember n S F i store counts)
+  pub placed_found : (r : Option ℕ) → size ≡ 32 → FirstAt S size F r → MatchOption r (NoRoom n S F store counts) (λ i. PlacedMember n S F i store counts)
   placed_found None e f = no_room e f
   placed_found (Some i) e q = placed_old i q.0 q.1
 

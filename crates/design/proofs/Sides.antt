@@ -3,7 +3,7 @@
 use mathlib.Core.Path.{◌≡◌, sym, ap, ◌∙◌, subst}
 use mathlib.Core.Bool.{true, false}
 use mathlib.Core.List.{List, [], ◌∷◌, ◌++◌}
-use Rattle.std.proofs.Common.{Option, None, Result}
+use Rattle.std.proofs.Common.{Option, Result}
 use Prim.Native.Nat.{ℕ, ◌*◌, ◌+◌, ◌≤◌, ◌<◌}
 use lib.ListN.{length, get_or, set, replicate}
 use Rattle.rules.specs.Factor.{Column, number, classes}
@@ -12,14 +12,14 @@ use Rattle.factor.proofs.Lent.{length_part}
 use Rattle.rules.proofs.Members.{clash}
 use Rattle.design.specs.State.{Held}
 use Rattle.design.specs.Treatments.{known_finer, Member}
-use Rattle.design.specs.Crossing.{FinerBits, Growing, Grown, Stands, Adds, begun}
+use Rattle.design.specs.Crossing.{FinerBits, Growing, Grown, Stands, Adds, begun, places_in}
 use Rattle.design.specs.Crossed.{Crosses}
 use Rattle.design.specs.Sides.{Crossing, Placed, test_of, plot_of, treatment_of, supremum_of}
 use Rattle.design.specs.declared.nesting.Sides.{Sides}
 use Rattle.design.specs.declared.crossing.Suprema.{Suprema}
 use Rattle.design.specs.declared.crossing.Crossed.{Crossed}
 use Rattle.design.proofs.Suprema.{member_in_buffer, treatment_coarser, plot_coarser}
-use Rattle.design.proofs.Joins.{growing_on, growing_off, grown_off, stands_off, adds_off, joins_none, joins_entered}
+use Rattle.design.proofs.Joins.{growing_on, growing_off, grown_off, stands_off, adds_off, joins_begun, joins_entered}
 use Rattle.design.proofs.Start.{held_none, begun_none}
 
 module _ (s : Sides) where
@@ -83,16 +83,16 @@ module _ (s : Sides) where
     plot_made = plot_coarser s.plot.plots i j _ _ s.plot.bytes.now s.treatment.bytes.now s.plot.ordered.some s.plot.ordered.most (plot_member hi) (treatment_member hj)
 
 -- the same answer, of what is equal
-pub crosses_same : {n n' m m' k k' : ℕ} {plot plot' first first' : List ℕ} (r : Result Suprema Crossed) → n ≡ n' → plot ≡ plot' → m ≡ m' → first ≡ first' → k ≡ k' → Crosses n plot m first k r → Crosses n' plot' m' first' k' r
-crosses_same r a b c d e h = rw (← a, ← b, ← c, ← d, ← e) h
+pub crosses_same : {n n' m m' k k' : ℕ} {plot plot' first first' : List ℕ} (found : Suprema) (r : Result (Unit {0}) Crossed) → n ≡ n' → plot ≡ plot' → m ≡ m' → first ≡ first' → k ≡ k' → Crosses n plot m first k found r → Crosses n' plot' m' first' k' found r
+crosses_same found r a b c d e h = rw (← a, ← b, ← c, ← d, ← e) h
 
 -- nothing is found yet
-pub crossing_begun : (s : Sides) (found : Suprema) → length found.bytes ≡ 7680 → length found.counts ≡ 32 → found.size ≡ 0 → found.over ≡ false → Crossing s found (replicate 1024 None) × Placed s [] found
+pub crossing_begun : (s : Sides) (found : Suprema) → length found.bytes ≡ 7680 → length found.counts ≡ 32 → found.size ≡ 0 → found.over ≡ false → Crossing s found (places_in (replicate 1024 0)) × Placed s [] found
 crossing_begun s found bytes counts none fits =
     let held : Held s.plot.plots found.bytes found.counts found.size = rw none (held_none s.plot.plots found.bytes found.counts s.plot.ordered.some s.plot.ordered.most bytes counts) in (
       record {
         growing = record { held = held; full = λ e. clash e fits };
-        table = joins_none s.plot.plots s.plot.bytes.now s.treatment.bytes.now found.bytes found.size;
+        table = joins_begun s.plot.plots s.plot.bytes.now s.treatment.bytes.now found.bytes found.size;
       },
       begun fits (rw none (begun_none s.plot.plots found.bytes found.counts (rw none at held))),
     )

@@ -16,8 +16,8 @@ use Rattle.design.specs.declared.crossing.Crossed.TheVariants.{Apart, TooMany}
 abbrev pub suprema_of : ℕ → List ℕ → ℕ → List ℕ → ℕ → List Column
 suprema_of n plot size treatment size' = products only_supremum (members_of n plot size) (members_of n treatment size')
 
--- all pairs are orthogonal, and the suprema are found; or a pair is not, and this is the first; or the suprema are more than 32
-abbrev pub Crosses : ℕ → List ℕ → ℕ → List ℕ → ℕ → Result Suprema Crossed → Type 0
-Crosses n plot size treatment size' (Ok found) = (cross_first (orthogonal_at n plot treatment) size size' ≡ 0) × Begun n (suprema_of n plot size treatment size') found.bytes found.counts found.size
-Crosses n plot size treatment size' (Err (Apart pair)) = (pair.first ≡ cross_first (orthogonal_at n plot treatment) size size') × (pair.second ≡ cross_second (orthogonal_at n plot treatment) size' pair.first) × (pair.first ≡ 0 → ⊥)
-Crosses n plot size treatment size' (Err TooMany) = (cross_first (orthogonal_at n plot treatment) size size' ≡ 0) × (most_members < length (insert_all (suprema_of n plot size treatment size') []))
+-- all pairs are orthogonal, and `found` has the suprema; or a pair is not, and this is the first; or the suprema are more than 32
+abbrev pub Crosses : ℕ → List ℕ → ℕ → List ℕ → ℕ → Suprema → Result (Unit {0}) Crossed → Type 0
+Crosses n plot size treatment size' found (Ok _) = (cross_first (orthogonal_at n plot treatment) size size' ≡ 0) × Begun n (suprema_of n plot size treatment size') found.bytes found.counts found.size
+Crosses n plot size treatment size' found (Err (Apart pair)) = (pair.first ≡ cross_first (orthogonal_at n plot treatment) size size') × (pair.second ≡ cross_second (orthogonal_at n plot treatment) size' pair.first) × (pair.first ≡ 0 → ⊥)
+Crosses n plot size treatment size' found (Err TooMany) = (cross_first (orthogonal_at n plot treatment) size size' ≡ 0) × (most_members < length (insert_all (suprema_of n plot size treatment size') []))

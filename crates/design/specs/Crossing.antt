@@ -1,6 +1,6 @@
 -- What is kept while plot members are crossed with treatment members: suprema in a store, and the place of each pair's in a table.
 -- Members are counted from 0 here. Assumes nothing.
-use Rattle.std.specs.Prelude.{◌≡◌, Bool, true, false, List, [], ◌∷◌, ◌++◌, Option, Some, None, ℕ, ◌+◌, ◌*◌, ◌≤◌, ◌<◌, length, get_or}
+use Rattle.std.specs.Prelude.{◌≡◌, Bool, true, false, List, [], ◌∷◌, ◌++◌, map, Option, Some, None, ℕ, zero, suc, ◌+◌, ◌*◌, ◌≤◌, ◌<◌, length, get_or}
 use Rattle.rules.specs.Limits.{most_plots, most_members}
 use Rattle.rules.specs.Factor.{Column, Finer, supremum, orthogonal}
 use Rattle.rules.specs.Lists.{bit_at}
@@ -52,6 +52,15 @@ pub record Join (n : ℕ) (F G : Column) (store : List ℕ) (size q : ℕ) : Typ
   pub less : q < size
   pub is : column_at n store q ≡ supremum F G
   pub test : orthogonal n F G ≡ true
+
+-- the place in an entry as it is kept, one more; none in 0
+abbrev pub place_in : ℕ → Option ℕ
+place_in zero = None
+place_in (suc q) = Some q
+
+-- the places in all entries
+abbrev pub places_in : List ℕ → List (Option ℕ)
+places_in entries = map place_in entries
 
 -- the entry of plot member i and treatment member j in a table
 abbrev pub entry_at : List (Option ℕ) → ℕ → ℕ → Option ℕ

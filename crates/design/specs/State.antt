@@ -3,8 +3,8 @@
 use Rattle.std.specs.Prelude.{◌≡◌, Bool, true, false, not, ◌||◌, Option, MatchOption, IfSome, List, [], ◌∷◌, ◌++◌, map, ℕ, suc, ◌+◌, ◌*◌, ◌%◌, ◌^◌, ◌≤◌, ◌<◌, eqb, ltb, length, get_or, set, take}
 use Rattle.std.specs.Int.Bits.{bit_or}
 use Rattle.rules.specs.Limits.{most_plots, most_members, family_bytes}
-use Rattle.rules.specs.Factor.{Column, Finer, number, classes, supremum, orthogonal}
-use Rattle.rules.specs.Family.{Family, ◌∈◌, Distinct, before, members_of, insert_all}
+use Rattle.rules.specs.Factor.{Column, Finer, number, classes, index_of, supremum, orthogonal}
+use Rattle.rules.specs.Family.{Family, ◌∈◌, Distinct, before, alike, members_of, insert_all}
 use Rattle.rules.specs.Lists.{bit_at}
 use Rattle.rules.specs.Closing.{both, only_supremum, too_many, family, close}
 use Rattle.rules.specs.Relation.{member_at}
@@ -35,6 +35,10 @@ noted above a b = set above a (bit_or (get_or above a 0) (bit_or (get_or above b
 pub record Known (n : ℕ) (store above : List ℕ) (size : ℕ) : Type 0 where
   pub words : length above ≡ most_members
   pub sound : (a b : ℕ) → bit_at (get_or above a 0) b ≡ true → (a < size) × (b < size) × Finer n (column_at n store a) (column_at n store b)
+
+-- the first place where the column F stands among the members S, `size` of them; or it is none of them
+abbrev pub FirstAt : Family → ℕ → Column → Option ℕ → Type 0
+FirstAt S size F r = MatchOption r (F ∈ S → ⊥) (λ i. (i < size) × (member_at S i ≡ F) × (i ≡ index_of alike S F))
 
 -- The column F stands at place r among the members S, or after them.
 pub data PlacedMember (n : ℕ) (S : Family) (F : Column) (r : ℕ) (store counts : List ℕ) : Type 0 where

@@ -4,7 +4,7 @@ ghost use Rattle.rules.specs.Limits.{most_members};
 ghost use Rattle.design.specs.Search.{cross_first, cross_second, first_of, second_of};
 ghost use Rattle.design.specs.Sides.{test_of, TestedOf};
 
-use crate::closing::PAIRS;
+use crate::entries::Entries;
 use crate::nesting::{Sides, known_finer};
 use crate::questions::Places;
 use families::member;
@@ -16,13 +16,13 @@ fn pair_orthogonal(
     sides: &Sides,
     i: usize,
     j: usize,
-    joins: &[Option<u8>; PAIRS],
+    joins: &Entries,
     apart: (usize, usize),
 ) -> bool
     requires { (i < sides.now.plot.size) × (j < sides.now.treatment.size) × TestedOf sides.now joins.now apart.0 apart.1 i j }
     ensures { result ≡ test_of sides.now i j }
 {
-    if joins[MEMBERS * i + j].is_some() {
+    if joins.get(MEMBERS * i + j).is_some() {
         return true;
     }
     if apart == (i, j) {
@@ -45,25 +45,23 @@ fn pair_orthogonal(
 }
 
 // The first pair that is not orthogonal, where `apart` is one.
-pub fn first_crossed(
-    sides: &Sides,
-    joins: &[Option<u8>; PAIRS],
-    apart: (usize, usize),
-) -> Option<Places>
+pub fn first_crossed(sides: &Sides, joins: &Entries, apart: (usize, usize)) -> Option<Places>
     requires { (i j : ℕ) → i < most_members → j < most_members → TestedOf sides.now joins.now apart.0 apart.1 i j }
     ensures first { first_of result ≡ cross_first (test_of sides.now) sides.now.plot.size sides.now.treatment.size }
     ensures second { second_of result ≡ cross_second (test_of sides.now) sides.now.treatment.size (first_of result) }
     ensures some { IfSome result (λ pair. pair.first ≡ 0 → ⊥) }
 {
-    for i in 0..sides.plot.size {
+    let mut found = None;
+    'pairs: for i in 0..sides.plot.size {
         for j in 0..sides.treatment.size {
             if !pair_orthogonal(sides, i, j, joins, apart) {
-                return Some(Places {
+                found = Some(Places {
                     first: i + 1,
                     second: j + 1,
                 });
+                break 'pairs;
             }
         }
     }
-    None
+    found
 }

@@ -12,6 +12,7 @@ ghost use Rattle.design.specs.Crossed.{Crosses};
 
 use crate::apart::first_crossed;
 use crate::closing::PAIRS;
+use crate::entries::Entries;
 use crate::following::following;
 use crate::nesting::{Sides, known_finer, members_of};
 use crate::questions::Places;
@@ -58,13 +59,7 @@ impl Suprema {
 }
 
 // Plot member `i` with treatment member `j`, by a walk over their plots. Answers whether they are orthogonal.
-fn walk_pair(
-    sides: &Sides,
-    i: usize,
-    j: usize,
-    found: &mut Suprema,
-    joins: &mut [Option<u8>; PAIRS],
-) -> bool
+fn walk_pair(sides: &Sides, i: usize, j: usize, found: &mut Suprema, joins: &mut Entries) -> bool
     requires { (i < sides.now.plot.size) × (j < sides.now.treatment.size) × Crossing sides.now found.old joins.old }
     ensures test { result ≡ test_of sides.now i j }
     ensures kept { Crossing sides.now found.new joins.new }
@@ -76,19 +71,16 @@ fn walk_pair(
     let mut column = [0u8; PLOTS];
     let crossing = standing::crossing_of(f, g, &mut column);
     if crossing.orthogonal {
-        joins[MEMBERS * i + j] = found.add(&column[..n], crossing.supremum as u8);
+        joins.put(
+            MEMBERS * i + j,
+            found.add(&column[..n], crossing.supremum as u8),
+        );
     }
     crossing.orthogonal
 }
 
 // Plot member `i` with treatment member `j`: by what follows from finer members, or by a walk.
-fn join_pair(
-    sides: &Sides,
-    i: usize,
-    j: usize,
-    found: &mut Suprema,
-    joins: &mut [Option<u8>; PAIRS],
-) -> bool
+fn join_pair(sides: &Sides, i: usize, j: usize, found: &mut Suprema, joins: &mut Entries) -> bool
     requires { (i < sides.now.plot.size) × (j < sides.now.treatment.size) × Crossing sides.now found.old joins.old }
     ensures test { result ≡ test_of sides.now i j }
     ensures kept { Crossing sides.now found.new joins.new }
@@ -97,18 +89,12 @@ fn join_pair(
     let Some(place) = following(sides, i, j, found, joins) else {
         return walk_pair(sides, i, j, found, joins);
     };
-    joins[MEMBERS * i + j] = Some(place);
+    joins.put(MEMBERS * i + j, Some(place));
     true
 }
 
 // Plot member `i` with treatment member `j`: of two that are nested the supremum is the coarser one, and they are orthogonal.
-fn cross_pair(
-    sides: &Sides,
-    i: usize,
-    j: usize,
-    found: &mut Suprema,
-    joins: &mut [Option<u8>; PAIRS],
-) -> bool
+fn cross_pair(sides: &Sides, i: usize, j: usize, found: &mut Suprema, joins: &mut Entries) -> bool
     requires { (i < sides.now.plot.size) × (j < sides.now.treatment.size) × Crossing sides.now found.old joins.old }
     ensures test { result ≡ test_of sides.now i j }
     ensures kept { Crossing sides.now found.new joins.new }
@@ -118,23 +104,24 @@ fn cross_pair(
     let f = sides.plot.counts[i];
     let g = sides.treatment.counts[j];
     if known_finer(n, f, g) {
-        joins[MEMBERS * i + j] = found.add(member(sides.treatment.bytes, j, n), g);
+        joins.put(
+            MEMBERS * i + j,
+            found.add(member(sides.treatment.bytes, j, n), g),
+        );
         return true;
     }
     if known_finer(n, g, f) {
-        joins[MEMBERS * i + j] = found.add(member(sides.plot.bytes, i, n), f);
+        joins.put(
+            MEMBERS * i + j,
+            found.add(member(sides.plot.bytes, i, n), f),
+        );
         return true;
     }
     join_pair(sides, i, j, found, joins)
 }
 
 // Plot member `i` with each treatment member, from the last on: the first of these that it is not orthogonal to.
-fn cross_row(
-    sides: &Sides,
-    i: usize,
-    found: &mut Suprema,
-    joins: &mut [Option<u8>; PAIRS],
-) -> Option<usize>
+fn cross_row(sides: &Sides, i: usize, found: &mut Suprema, joins: &mut Entries) -> Option<usize>
     requires { (i < sides.now.plot.size) × Crossing sides.now found.old joins.old }
     ensures all { result ≡ None → (j : ℕ) → j < sides.now.treatment.size → test_of sides.now i j ≡ true }
     ensures apart { IfSome result (λ j. (j < sides.now.treatment.size) × (test_of sides.now i j ≡ false)) }
@@ -150,11 +137,7 @@ fn cross_row(
 }
 
 // Each plot member with each treatment member, from the last ones on: the first of these pairs that is not orthogonal.
-fn cross_all(
-    sides: &Sides,
-    found: &mut Suprema,
-    joins: &mut [Option<u8>; PAIRS],
-) -> Option<(usize, usize)>
+fn cross_all(sides: &Sides, found: &mut Suprema, joins: &mut Entries) -> Option<(usize, usize)>
     requires { Crossing sides.now found.old joins.old × Placed sides.now [] found.old }
     ensures all { result ≡ None → (i j : ℕ) → i < sides.now.plot.size → j < sides.now.treatment.size → test_of sides.now i j ≡ true }
     ensures apart { IfSome result (λ pair. (pair.0 < sides.now.plot.size) × (pair.1 < sides.now.treatment.size) × (test_of sides.now pair.0 pair.1 ≡ false)) }
@@ -170,11 +153,7 @@ fn cross_all(
 }
 
 // The first pair of a plot and a treatment member that is not orthogonal, sought from the first on; else the suprema of all are found.
-fn cross_members(
-    sides: &Sides,
-    found: &mut Suprema,
-    joins: &mut [Option<u8>; PAIRS],
-) -> Option<Places>
+fn cross_members(sides: &Sides, found: &mut Suprema, joins: &mut Entries) -> Option<Places>
     requires { Crossing sides.now found.old joins.old × Placed sides.now [] found.old }
     ensures first { first_of result ≡ cross_first (test_of sides.now) sides.now.plot.size sides.now.treatment.size }
     ensures second { second_of result ≡ cross_second (test_of sides.now) sides.now.treatment.size (first_of result) }
@@ -185,31 +164,26 @@ fn cross_members(
     first_crossed(sides, joins, apart)
 }
 
-// Each plot member with each treatment member: the different suprema.
+// Each plot member with each treatment member: the different suprema are added to `found`, which has none before.
 pub fn cross(
     plot: &[u8],
     plot_size: usize,
     treatment: &[u8],
     treatment_size: usize,
     n: usize,
-) -> Result<Suprema, Crossed>
-    requires { (1 ≤ n) × (n ≤ most_plots) × Numbered n plot.now plot_size × Numbered n treatment.now treatment_size }
-    ensures { Crosses n plot.now plot_size treatment.now treatment_size result }
+    found: &mut Suprema,
+) -> Result<(), Crossed>
+    requires { (1 ≤ n) × (n ≤ most_plots) × Numbered n plot.now plot_size × Numbered n treatment.now treatment_size × (found.old.size ≡ 0) × (found.old.over ≡ false) }
+    ensures { Crosses n plot.now plot_size treatment.now treatment_size found.new result }
 {
     let sides = Sides {
         plot: members_of(plot, n, plot_size, treatment_size),
         treatment: members_of(treatment, n, treatment_size, plot_size),
     };
-    let mut found = Suprema {
-        bytes: [0; FAMILY],
-        counts: [0; MEMBERS],
-        size: 0,
-        over: false,
-    };
-    let mut joins = [None; PAIRS];
-    match cross_members(&sides, &mut found, &mut joins) {
+    let mut joins = Entries { bytes: [0; PAIRS] };
+    match cross_members(&sides, found, &mut joins) {
         Some(places) => Err(Crossed::Apart(places)),
         None if found.over => Err(Crossed::TooMany),
-        None => Ok(found),
+        None => Ok(()),
     }
 }

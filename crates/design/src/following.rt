@@ -6,8 +6,8 @@ ghost use Rattle.rules.specs.Lists.{bit_at};
 ghost use Rattle.design.specs.Crossing.{Join, Chosen};
 ghost use Rattle.design.specs.Sides.{Crossing, plot_of, treatment_of};
 
-use crate::closing::PAIRS;
 use crate::crossing::Suprema;
+use crate::entries::Entries;
 use crate::nesting::{Sides, found_finer};
 use families::member;
 use limits::MEMBERS;
@@ -28,7 +28,7 @@ fn fewer(counts: &[u8; MEMBERS], p: Option<u8>, q: Option<u8>) -> Option<u8>
 // Of the entries that belong to the bits of a word, from bit `from` on, the place whose member has the fewest classes: no other can be
 // the supremum.
 fn coarsest(
-    joins: &[Option<u8>; PAIRS],
+    joins: &Entries,
     counts: &[u8; MEMBERS],
     at: usize,
     step: usize,
@@ -45,20 +45,14 @@ fn coarsest(
             return best;
         }
         if left & 1 == 1 {
-            best = fewer(counts, best, joins[at + step * k]);
+            best = fewer(counts, best, joins.get(at + step * k));
         }
     }
     best
 }
 
 // The place of the supremum of plot member `i` and treatment member `j`, where it follows from those of finer members.
-pub fn following(
-    sides: &Sides,
-    i: usize,
-    j: usize,
-    found: &Suprema,
-    joins: &[Option<u8>; PAIRS],
-) -> Option<u8>
+pub fn following(sides: &Sides, i: usize, j: usize, found: &Suprema, joins: &Entries) -> Option<u8>
     requires { (i < sides.now.plot.size) × (j < sides.now.treatment.size) × Crossing sides.now found.now joins.now }
     ensures { (q : ℕ) → result ≡ Some q → Join sides.now.plot.plots (plot_of sides.now i) (treatment_of sides.now j) found.now.bytes found.now.size q }
 {

@@ -17,6 +17,7 @@ mod closed;
 mod closing;
 mod columns;
 mod crossing;
+mod entries;
 mod following;
 mod nesting;
 mod points;

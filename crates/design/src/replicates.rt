@@ -25,15 +25,19 @@ fn column_classes(levels: &[Level], c: usize, n: usize) -> usize {
 }
 
 // Whether four treatment columns or more have few combinations of classes, half as many as there are plots, at most: then there are few
-// points. Columns of two classes or more have two to the power of their number, at least. Any answer is right; this one is quick.
+// points. Columns of two classes or more have two to the power of their number, at least, and none is numbered after the first that makes
+// too many. Any answer is right; this one is quick.
 pub fn few_combinations(levels: &[Level], n: usize, d: usize) -> bool
     requires { d ≤ 6 }
 {
     SOME_COLUMNS <= d
         && 2 <= n >> d
-        && (COLUMNS..COLUMNS + d).fold(2, |product: usize, c| {
-            product.saturating_mul(column_classes(levels, c, n))
-        }) <= n
+        && (COLUMNS..COLUMNS + d)
+            .try_fold(2, |product: usize, c| {
+                let combinations = product.saturating_mul(column_classes(levels, c, n));
+                (combinations <= n).then_some(combinations)
+            })
+            .is_some()
 }
 
 // Meets column `c` of the level table with what was met before it, in the first `n` bytes; answers how many classes there are.

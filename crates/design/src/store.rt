@@ -3,14 +3,13 @@ ghost use Rattle.std.specs.Prelude.{◌≡◌, ◌+◌, ◌*◌, ◌≤◌, ◌<
 ghost use Rattle.std.proofs.Math.Seq.{paste};
 ghost use Rattle.rules.specs.Limits.{most_plots, most_members};
 ghost use Rattle.rules.specs.Factor.{classes};
-ghost use Rattle.rules.specs.Family.{◌∈◌, members_of};
-ghost use Rattle.rules.specs.Relation.{member_at};
-ghost use Rattle.design.specs.State.{Held, PlacedMember, NoRoom, grown_to};
+ghost use Rattle.rules.specs.Family.{members_of};
+ghost use Rattle.design.specs.State.{Held, FirstAt, PlacedMember, NoRoom, grown_to};
 
 use families::member;
 use limits::{MEMBERS, PLOTS};
 
-// The place, from 0, of the member equal to `column`, which has `count` classes.
+// The place, from 0, of the first member equal to `column`, which has `count` classes.
 pub fn find(
     store: &[u8],
     counts: &[u8; MEMBERS],
@@ -19,7 +18,7 @@ pub fn find(
     count: u8,
 ) -> Option<usize>
     requires { Held (length column.now) store.now counts.now size × (count ≡ classes column.now) }
-    ensures { MatchOption result (column.now ∈ members_of (length column.now) store.now size → ⊥) (λ i. (i < size) × (member_at (members_of (length column.now) store.now size) i ≡ column.now)) }
+    ensures { FirstAt (members_of (length column.now) store.now size) size column.now result }
 {
     for (i, &known) in counts[..size].iter().enumerate() {
         if known == count && factor::alike(member(store, i, column.len()), column) {

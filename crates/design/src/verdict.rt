@@ -12,11 +12,11 @@ ghost use Rattle.design.specs.Answers.{plot_numbers, plot_numbers_of, full_numbe
 
 use crate::closed::ClosedFamily;
 use crate::closing::PAIRS;
-use crate::crossing::{Crossed, cross};
+use crate::crossing::{Crossed, Suprema, cross};
 use crate::questions::{Places, first_apart, first_unequal};
 use crate::sorting::{sort, write};
 use crate::{FullRefusal, PlotRefusal, Sizes};
-use limits::MEMBERS;
+use limits::{FAMILY, MEMBERS};
 use refusal::Refusal;
 
 // A refusal that writes nothing.
@@ -165,12 +165,18 @@ fn from_13(
     ensures answer { full_numbers result ≡ full_numbers_of (question13 (members_of n plot_family.now plot) (members_of n treatment_family.old size) (first_cross (orthogonal n) 1 (members_of n plot_family.now plot) (members_of n treatment_family.old size))) }
     ensures buffer { treatment_family.new ≡ treatment_buffer treatment_family.old (question13 (members_of n plot_family.now plot) (members_of n treatment_family.old size) (first_cross (orthogonal n) 1 (members_of n plot_family.now plot) (members_of n treatment_family.old size))) }
 {
-    match cross(plot_family, plot, treatment_family, size, n) {
+    let mut found = Suprema {
+        bytes: [0; FAMILY],
+        counts: [0; MEMBERS],
+        size: 0,
+        over: false,
+    };
+    match cross(plot_family, plot, treatment_family, size, n, &mut found) {
         Err(Crossed::Apart(pair)) => {
             treatments_refused(Refusal::CrossedPair, pair.first, pair.second, plot, size)
         }
         Err(Crossed::TooMany) => treatments_refused(Refusal::FinalFamilySize, 0, 0, plot, size),
-        Ok(found) => {
+        Ok(()) => {
             let order = sort(&found.bytes, &found.counts, n, found.size);
             write(&found.bytes, &order, n, found.size, treatment_family);
             Ok(Sizes {

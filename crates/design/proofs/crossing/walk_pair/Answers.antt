@@ -7,6 +7,7 @@ use lib.ListN.{take, replicate}
 use Rattle.rules.specs.Factor.{classes}
 use Rattle.standing.proofs.Nesting.{orthogonal_parts}
 use Rattle.design.specs.Sides.{test_of, plot_of, treatment_of, supremum_of}
+use Rattle.design.proofs.Joins.{stands_few}
 use Rattle.design.proofs.Suprema.{take_made, classes_made}
 use Rattle.design.proofs.Sides.{plot_room, treatment_room, length_plot, length_treatment, asked_made, kept_made, adds_made}
 use Rattle.design.proofs.crossing.walk_pair.Goals as goal
@@ -39,13 +40,17 @@ pub add-requires : goal.add-requires
 add-requires c = let w = (goal.at.add-requires c).After-crossing_of-crossing in
     asked_made c.args.sides.now c.requires.0 c.requires.1 (taken w) c.requires.2 (counted w).0
 
+pub put-requires : goal.put-requires
+put-requires c = let s = c.args.sides.now in
+    (omega (arith, s.plot.ordered.few, s.treatment.ordered.few), stands_few c.add.ensures.growing c.add.ensures.stands)
+
 pub returns-then-crossing-clause-test : goal.returns-then-crossing-clause-test
 returns-then-crossing-clause-test c = tested (goal.at.returns-then-crossing-clause-test c).After-crossing_of-crossing
 
 pub returns-then-crossing-clause-kept : goal.returns-then-crossing-clause-kept
 returns-then-crossing-clause-kept c = let w = (goal.at.returns-then-crossing-clause-kept c).After-crossing_of-crossing in
     let e = c.add.ensures in
-    kept_made c.args.sides.now c.requires.0 c.requires.1 (taken w) c.requires.2 (sym (tested w) ∙ c.if-crossing.true) e.growing e.grown e.stands
+    rw c.put.ensures (kept_made c.args.sides.now c.requires.0 c.requires.1 (taken w) c.requires.2 (sym (tested w) ∙ c.if-crossing.true) e.growing e.grown e.stands)
 
 pub returns-then-crossing-clause-places : goal.returns-then-crossing-clause-places
 returns-then-crossing-clause-places c = let w = (goal.at.returns-then-crossing-clause-places c).After-crossing_of-crossing in

@@ -8,7 +8,7 @@ use Rattle.rules.specs.Factor.{Column, classes}
 use Rattle.rules.specs.Family.{alike}
 use Rattle.rules.proofs.Members.{alike_sound, alike_self, clash}
 use Rattle.rules.proofs.Buffer.{length_members, member_is}
-use Rattle.design.proofs.Placing.{absent_lem}
+use Rattle.design.proofs.Placing.{absent_lem, first_at}
 use Rattle.design.proofs.store.find.Goals as goal
 use Rattle.design.proofs.store.find.Goals.{else-known-count-via-then-known-count+else-alike, else-known-count-via-else-known-count}
 
@@ -17,7 +17,9 @@ returns-then-alike c =
     let F = c.args.column.now in
     let l : c.loop-i.i < c.args.size = omega (arith, length-take-le c.args.size c.args.counts.now (omega (arith, c.requires.0.few))) in
     let m = member_is (length F) c.requires.0.most c.args.store.now c.args.size c.loop-i.i l in
-    (l, alike_sound _ F (ap (λ (G : Column). alike G F) (m ∙ sym c.member.ensures) ∙ sym c.alike.ensures ∙ c.if-alike.true))
+    let same = alike_sound _ F (ap (λ (G : Column). alike G F) (m ∙ sym c.member.ensures) ∙ sym c.alike.ensures ∙ c.if-alike.true) in
+    let len = length_members (length F) c.requires.0.most c.args.store.now c.args.size in
+    (l, same, first_at _ F c.loop-i.i (rw len l) same c.loop-i.invariant)
 
 pub loop-i-preserved : goal.loop-i-preserved
 loop-i-preserved c =

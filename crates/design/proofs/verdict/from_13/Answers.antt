@@ -61,11 +61,12 @@ pub returns-in-Err-Apart : goal.returns-in-Err-Apart
 returns-in-Err-Apart c =
     let w = (goal.at.returns-in-Err-Apart c).Start in
     let f = rw c.in-Err-Apart.field-0-is at c.in-Err-Apart.ensures in
+    let told = rw c.in-Err-Apart.pair-is at c.treatments_refused.ensures in
     let found = c.in-Err-Apart.pair in
     let first = first_is w found.first f.0 in
     let second = second_is w found.first found.second f.0 f.1 in
     let t = told_13 (plots w) (treatments w) (pair w) (λ z. f.2 (first ∙ z)) in record {
-      answer = c.treatments_refused.ensures ∙ full_refusing_is 13 first second (plot-size w) (treatment-size w) ∙ sym t.numbers;
+      answer = told ∙ full_refusing_is 13 first second (plot-size w) (treatment-size w) ∙ sym t.numbers;
       buffer = left w ∙ sym (told_buffer w.args.treatment_family.now t);
     }
 
@@ -84,7 +85,7 @@ sort-order-requires c = let b = c.in-Ok.ensures.1 in (b.held, b.distinct)
 pub write-requires : goal.write-requires
 write-requires c =
     let b = c.in-Ok.ensures.1 in
-    let found = c.in-Ok.found in
+    let found = c.cross.new.found in
     let order = c.sort-order.ensures in (
       b.held.most,
       b.held.room,
@@ -99,7 +100,7 @@ unfolding full_numbers
 returns-in-Ok c =
     let w = (goal.at.returns-in-Ok c).Start in
     let n = w.args.n in
-    let found = c.in-Ok.found in
+    let found = c.cross.new.found in
     let b = c.in-Ok.ensures.1 in
     let e = asked w c.in-Ok.ensures.0 in
     let R = final_treatment_family (plots w) (treatments w) in
