@@ -36,10 +36,10 @@ module _ (F : Column) (u : ℕ) (h : u < length F) (key : ℕ) (here : at F u �
       (ap (at numbers) (sym here) ∙ s.here, record { tells = rule_tells F (u + 1) (at numbers) s.tells; total = s.count })
 
   -- it is new
-  pub numbered_new : at numbers key ≡ 0 → key < length numbers → (at (set numbers key (count + 1)) key ≡ at (number F) u) × Numbered F (u + 1) (set numbers key (count + 1)) (count + 1)
+  pub numbered_new : at numbers key ≡ 0 → key < length numbers → (count + 1 ≡ at (number F) u) × Numbered F (u + 1) (set numbers key (count + 1)) (count + 1)
   numbered_new zero inside =
       let table : List ℕ = set numbers key (count + 1) in
       let mine : at table (at F u) ≡ count + 1 = ap (at table) here ∙ get_or-set_same numbers key (count + 1) 0 inside in
       let other : (y : ℕ) → (y ≡ at F u → ⊥) → at table y ≡ at numbers y = λ y ne. get_or-set_other numbers key y (count + 1) 0 (λ q. ne (q ∙ sym here)) in
       let s = stepped_new F u h (at numbers) told count numbered.total (ap (at numbers) here ∙ zero) (at table) mine other in
-      (ap (at table) (sym here) ∙ s.here, record { tells = rule_tells F (u + 1) (at table) s.tells; total = s.count })
+      (sym mine ∙ s.here, record { tells = rule_tells F (u + 1) (at table) s.tells; total = s.count })

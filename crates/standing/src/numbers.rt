@@ -29,10 +29,13 @@ impl<const N: usize> Numbers<N> {
         ensures grown { self.new.count ≤ self.old.count + 1 }
         ensures numbered { (F : Column) (u : ℕ) → u < length F → at F u ≡ key → Numbered F u self.old.numbers self.old.count → (result ≡ at (number F) u) × Numbered F (u + 1) self.new.numbers self.new.count }
     {
-        if self.numbers[key] == 0 {
-            self.count += 1;
-            self.numbers[key] = self.count as u8;
+        let mut number = self.numbers[key];
+        if number == 0 {
+            let count = self.count + 1;
+            number = count as u8;
+            self.numbers[key] = number;
+            self.count = count;
         }
-        self.numbers[key]
+        number
     }
 }
