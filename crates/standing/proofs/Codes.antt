@@ -8,7 +8,7 @@ use lib.ListN.{length, get_or, take, length-map, get_or-map}
 use lib.Seq.{ext_get_or, get_or-take, length-take-le}
 use Rattle.rules.specs.Factor.{Column, at, Equivalent, Pair, pairs, number, classes, infimum}
 use Rattle.rules.proofs.Numbering.{length_pairs, pairs_at, length_infimum, infimum_same, number_infimum, number_unique}
-use Rattle.rules.proofs.Columns.{Tells, number_positive, classes_equivalent}
+use Rattle.rules.proofs.Columns.{Tells, number_positive, classes_equivalent, stopped}
 use Rattle.standing.specs.Cells.{Plot}
 use Rattle.standing.proofs.CellTable.{cell_unique}
 
@@ -55,6 +55,10 @@ module _ (w : ℕ) (F G : Column) (l : length F ≡ length G) where
 
     pub classes_codes : classes (codes_of w F G) ≡ classes (infimum F G)
     classes_codes = classes_equivalent (length (codes_of w F G)) (codes_of w F G) (infimum F G) refl (length_infimum F G l ∙ sym length_codes) codes_equivalent
+
+    -- the same for the first v plots
+    pub classes_first : (v : ℕ) → classes (take v (codes_of w F G)) ≡ classes (take v (infimum F G))
+    classes_first v = (stopped v (codes_of w F G)).1 ∙ ap (λ (c : Column). classes (take v c)) number_codes
 
     -- a table that tells the numbers of the plots before plot u tells whether one of them is in its cell
     module _ (u : ℕ) (h : u < length F) (look : ℕ → ℕ) (tells : Tells (codes_of w F G) u look) where

@@ -21,8 +21,6 @@ use Rattle.rules.proofs.Extremes.{number_universal, length_universal}
 use Rattle.rules.proofs.ClassCount.{finer_universal, classes_universal}
 use Rattle.factor.proofs.Fill.{filled, length_filled, get_d_filled}
 use Rattle.standing.specs.Cells.{Stands}
-use Rattle.standing.specs.Numbers.{or_none}
-use Rattle.standing.proofs.NumberTable.{get_none}
 use Rattle.standing.specs.Joining.{Below, Own, OneEntry, OneClass, Links, EntriesJoin, Among, InOrder, LabelsNumbered, relabelled, spread}
 
 -- ---- entries of labels
@@ -133,6 +131,17 @@ unfolding relabelled
 relabelled_part top a b t new e = ap (λ (l : List ℕ). l ++ drop top t) (e ∙ relabel_take a b top t)
 
 -- ---- joining along the classes of G
+
+-- a label that may be held, 0 for none
+abbrev pub or_none : Option ℕ → ℕ
+or_none None = 0
+or_none (Some k) = k
+
+-- a table that holds none
+get_none : (n y : ℕ) → get_or {A = Option ℕ} (replicate n None) y None ≡ None
+get_none zero y = refl
+get_none (suc n) zero = refl
+get_none (suc n) (suc y) = get_none n y
 
 module _ (F G : Column) where
   -- labels with one entry have one value wherever plots of one G-class have

@@ -99,6 +99,16 @@ module _ (F G : Column) (l : length F ≡ length G) (u : ℕ) (h : u < length F)
   pub number_old : at (infimum F G) u ≤ classes (take u (infimum F G)) → Plot u F G (at F u) (at G u)
   number_old k = by_cell (λ p. p) (λ new. absurd (omega (arith, k, first_number new)))
 
+  -- as many classes with plot u as without: it has
+  pub count_old : classes (take (u + 1) (infimum F G)) ≡ classes (take u (infimum F G)) → Plot u F G (at F u) (at G u)
+  count_old e =
+      let q = ap (λ (v : ℕ). classes (take v (infimum F G))) (add-one u) in
+      by_cell (λ p. p) (λ new. absurd (omega (arith, q, e, classes_new new)))
+
+  -- another number of classes: it has none
+  pub count_new : (classes (take (u + 1) (infimum F G)) ≡ classes (take u (infimum F G)) → ⊥) → Plot u F G (at F u) (at G u) → ⊥
+  count_new ne p = ne (ap (λ (v : ℕ). classes (take v (infimum F G))) (add-one u) ∙ classes_old p)
+
   -- its number is the next one, at most
   pub number_next : at (infimum F G) u ≤ suc (classes (take u (infimum F G)))
   number_next = by_cell (λ p. omega (arith, number_within F G l u (omega arith) p.plot p.less, met_before p)) (λ new. omega (arith, first_number new))

@@ -37,9 +37,10 @@ impl Cells {
         ensures second { self.new.g ≡ slice_set self.old.g self.old.count y }
         ensures count { self.new.count ≡ self.old.count + 1 }
     {
-        self.f[self.count] = x;
-        self.g[self.count] = y;
-        self.count += 1;
+        let place = self.count;
+        self.f[place] = x;
+        self.g[place] = y;
+        self.count = place + 1;
     }
 
     // The labels in the first column.

@@ -43,13 +43,9 @@ pub(crate) fn join_labels(f: &[u8], g: &[u8], top: usize) -> Joins
                 let a = entries[x as usize];
                 let b = entries[w as usize];
                 if a != b {
-                    relabel(&mut entries[..wide], a, b);
-                    if all_are(&entries[..wide], b) {
-                        return Joins {
-                            entries,
-                            top: wide,
-                            one: true,
-                        };
+                    let one = relabel(&mut entries[..wide], a, b);
+                    if one {
+                        return Joins { entries, top, one };
                     }
                 }
             }
@@ -57,7 +53,7 @@ pub(crate) fn join_labels(f: &[u8], g: &[u8], top: usize) -> Joins
     }
     Joins {
         entries,
-        top: wide,
+        top,
         one: false,
     }
 }
@@ -71,11 +67,10 @@ fn apart(low: u8, top: usize) -> [u8; 256]
     ensures bytes { (x : ℕ) → x < 256 → at result x < 256 }
 {
     let mut entries = [low; 256];
-    for (x, entry) in entries.iter_mut().enumerate() {
-        if (low as usize..top).contains(&x) {
-            *entry = x as u8;
-        }
+    for (x, entry) in entries[..top].iter_mut().enumerate() {
+        *entry = x as u8;
     }
+    entries[..low as usize].fill(low);
     entries
 }
 
@@ -100,22 +95,18 @@ impl Joins {
     }
 }
 
-// Those that are `a` become `b`.
-fn relabel(entries: &mut [u8], a: u8, b: u8)
-    ensures { entries.new ≡ relabel a b entries.old }
+// Those that are `a` become `b`. Answers whether all are `b` then.
+fn relabel(entries: &mut [u8], a: u8, b: u8) -> bool
+    ensures entries { entries.new ≡ relabel a b entries.old }
+    ensures all { IsTrue result ↔ EachIndex entries.new (λ k. slice_index entries.new k ≡ b) }
 {
+    let mut all = true;
     for y in entries.iter_mut() {
-        if *y == a {
-            *y = b;
-        }
+        let z = if *y == a { b } else { *y };
+        all &= z == b;
+        *y = z;
     }
-}
-
-// Whether all entries are `b`.
-fn all_are(entries: &[u8], b: u8) -> bool
-    ensures { IsTrue result ↔ EachIndex entries.now (λ k. slice_index entries.now k ≡ b) }
-{
-    entries.iter().all(|&z| z == b)
+    all
 }
 
 // Numbers the classes that the entries of the labels make; answers how many there are. The labels are listed in `x` by first appearance.

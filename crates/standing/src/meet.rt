@@ -2,7 +2,7 @@
 ghost use Rattle.std.specs.Prelude.{◌≡◌, ◌*◌, ◌≤◌, length, take};
 ghost use Rattle.rules.specs.Factor.{classes, infimum};
 ghost use Rattle.factor.specs.Lent.{on_common, overlay};
-ghost use Rattle.standing.specs.Cells.{Listed};
+ghost use Rattle.standing.specs.Cells.{Cover, Listed};
 
 use crate::cells::Cells;
 use crate::columns::Columns;
@@ -63,8 +63,38 @@ pub(crate) fn infimum_listed(columns: Columns, out: &mut [u8; PLOTS]) -> Cells
     ensures list { Listed columns.entry.f.now columns.entry.g.now (take result.count result.f) (take result.count result.g) }
     ensures numbers { out.new ≡ overlay out.old (infimum columns.entry.f.now columns.entry.g.now) }
 {
+    let most = columns.past_f * columns.past_g;
+    let mut cells = Cells::new();
+    if most <= FEW_CELLS {
+        number_listed::<FEW_CELLS>(columns, out, &mut cells);
+        return cells;
+    }
+    if most <= CELLS {
+        number_listed::<CELLS>(columns, out, &mut cells);
+        return cells;
+    }
     number_infimum(columns, out);
     list_cells(columns, out)
+}
+
+// The same in one walk, with a table that has the number of each cell, of which there are at most `N`.
+fn number_listed<const N: usize>(columns: Columns, out: &mut [u8; PLOTS], cells: &mut Cells)
+    requires inside { columns.past_f * columns.past_g ≤ N }
+    requires fits { N ≤ 65536 }
+    requires none { Cover 0 columns.f.now columns.g.now cells.old.f cells.old.g cells.old.count }
+    ensures answer { cells.new.count ≡ classes (infimum columns.entry.f.now columns.entry.g.now) }
+    ensures list { Listed columns.entry.f.now columns.entry.g.now (take cells.new.count cells.new.f) (take cells.new.count cells.new.g) }
+    ensures numbers { out.new ≡ overlay out.old (infimum columns.entry.f.now columns.entry.g.now) }
+{
+    let mut numbers = Numbers::<N>::new();
+    for (u, &x) in columns.f.iter().enumerate() {
+        let y = columns.g[u];
+        let met = numbers.count;
+        out[u] = numbers.number(columns.past_g * x as usize + y as usize);
+        if numbers.count != met {
+            cells.push(x, y);
+        }
+    }
 }
 
 // Lists the labels of the cells by the numbers of the infimum: a cell is met first where the number is new.

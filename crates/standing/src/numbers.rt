@@ -3,10 +3,10 @@ ghost use Rattle.std.specs.Prelude.{◌≡◌, ℕ, ◌+◌, ◌≤◌, ◌<◌,
 ghost use Rattle.rules.specs.Factor.{Column, at, number};
 ghost use Rattle.standing.specs.Numbers.{Numbered};
 
-// The numbers of keys below `N`: the first key that is met is number 1, the next new one number 2.
+// The numbers of keys below `N`, 0 for one that is not met: the first key that is met is number 1, the next new one number 2.
 #[derive(Drop)]
 pub struct Numbers<const N: usize> {
-    numbers: [Option<u8>; N],
+    numbers: [u8; N],
     pub count: usize,
 }
 
@@ -17,7 +17,7 @@ impl<const N: usize> Numbers<N> {
         ensures { (F : Column) → Numbered F 0 result.numbers result.count }
     {
         Numbers {
-            numbers: [None; N],
+            numbers: [0; N],
             count: 0,
         }
     }
@@ -29,14 +29,13 @@ impl<const N: usize> Numbers<N> {
         ensures grown { self.new.count ≤ self.old.count + 1 }
         ensures numbered { (F : Column) (u : ℕ) → u < length F → at F u ≡ key → Numbered F u self.old.numbers self.old.count → (result ≡ at (number F) u) × Numbered F (u + 1) self.new.numbers self.new.count }
     {
-        match self.numbers[key] {
-            Some(number) => number,
-            None => {
-                self.count += 1;
-                let number = self.count as u8;
-                self.numbers[key] = Some(number);
-                number
-            }
+        let mut number = self.numbers[key];
+        if number == 0 {
+            let count = self.count + 1;
+            number = count as u8;
+            self.numbers[key] = number;
+            self.count = count;
         }
+        number
     }
 }

@@ -2,14 +2,15 @@ use mathlib.Core.Path.{◌≡◌, refl, sym, ap, ◌∙◌, subst}
 use mathlib.Core.List.{List, ◌++◌}
 use Prim.Native.Nat.{ℕ, ◌+◌, ◌<◌, ◌≤◌}
 use native.Mathlib.Omega.{arith}
-use lib.ListN.{length, get_or, drop, length-set}
+use lib.ListN.{length, get_or, take, drop, length-set}
+use lib.Seq.{length-take-le, take_at}
 use Rattle.std.proofs.Common.{Option, None, Some}
 use Rattle.rules.specs.Factor.{Column, at}
+use Rattle.rules.proofs.Supremum.{length_relabel}
 use Rattle.standing.specs.Joining.{OneEntry, relabelled}
-use Rattle.standing.specs.Numbers.{or_none}
-use Rattle.standing.proofs.Joining.{length_relabelled, relabelled_same, relabelled_byte, relabelled_part, one_value, Sound, sound_own, Linked, linked_none, linked_new, Met, met, linked_old, sound_old, joined_all, joined_one}
+use Rattle.standing.proofs.Joining.{length_relabelled, relabelled_same, relabelled_byte, relabelled_part, one_value, or_none, Sound, sound_own, Linked, linked_none, linked_new, Met, met, linked_old, sound_old, joined_all, joined_one}
 use Rattle.standing.proofs.join.join_labels.Goals as goal
-use Rattle.standing.proofs.join.join_labels.Goals.{In-loop-u, Then-all_are, in-None, in-Some+then-a-b+else-all_are, in-Some+else-a-b}
+use Rattle.standing.proofs.join.join_labels.Goals.{In-loop-u, Then-one, in-None, in-Some+then-a-b+else-one, in-Some+else-a-b}
 
 -- what is known in a turn
 module _ (c : In-loop-u) where
@@ -89,7 +90,7 @@ loop-u-preserved c =
         rw (w.entries-is, w.first-is) (linked_new (f k) (g k) (u k) (first k) (entries k) i.3 w.in-None.is (omega (arith, i.1))),
         rw w.entries-is i.4,
       )
-      | in-Some+then-a-b+else-all_are w ↦ let e = w.entries-is ∙ relabelled_part (wide k) _ _ (entries k) _ w.relabel.ensures in
+      | in-Some+then-a-b+else-one w ↦ let e = w.entries-is ∙ relabelled_part (wide k) _ _ (entries k) _ w.relabel-one.ensures.entries in
           let held = w.in-Some.is in (
             long k w.in-Some.w held _ e,
             ap length w.first-is ∙ i.1,
@@ -109,28 +110,33 @@ loop-u-preserved c =
     ]
 
 -- the walk ends early: all entries have come to be one
-module _ (c : Then-all_are) where
+module _ (c : Then-one) where
   abbrev k : In-loop-u
-  k = (goal.at.Then-all_are c).In-loop-u
+  k = (goal.at.Then-one c).In-loop-u
 
   abbrev ended : List ℕ
-  ended = c.relabel.new.entries ++ drop (wide k) (entries k)
+  ended = c.relabel-one.new.entries ++ drop (wide k) (entries k)
 
   ended_is : ended ≡ relabelled (wide k) (at (entries k) (at (f k) (u k))) (at (entries k) c.in-Some.w) (entries k)
-  ended_is = relabelled_part (wide k) _ _ (entries k) _ c.relabel.ensures
+  ended_is = relabelled_part (wide k) _ _ (entries k) _ c.relabel-one.ensures.entries
+
+  part : length c.relabel-one.new.entries ≡ wide k
+  part = ap length c.relabel-one.ensures.entries ∙ length_relabel (at (entries k) (at (f k) (u k))) (at (entries k) c.in-Some.w) (take (wide k) (entries k)) ∙ length-take-le (wide k) (entries k) (room k)
 
   one : OneEntry (wide k) ended
-  one = one_value (wide k) (at (entries k) c.in-Some.w) ended (omega (arith, room k, long k c.in-Some.w c.in-Some.is _ ended_is, k.loop-u.invariant.0)) (c.all_are.ensures.0 c.if-all_are.true)
+  one =
+      let first : take (wide k) ended ≡ c.relabel-one.new.entries = take_at c.relabel-one.new.entries (drop (wide k) (entries k)) (wide k) part in
+      one_value (wide k) (at (entries k) c.in-Some.w) ended (omega (arith, room k, long k c.in-Some.w c.in-Some.is _ ended_is, k.loop-u.invariant.0)) (rw first (c.relabel-one.ensures.all.0 c.if-one.true))
 
 pub invariant_of-result-clause-bytes : goal.invariant_of-result-clause-bytes
-invariant_of-result-clause-bytes c = bytes (k c) c.in-Some.w c.in-Some.is _ (ended_is c)
+invariant_of-result-clause-bytes c = λ x h. bytes (k c) c.in-Some.w c.in-Some.is _ (ended_is c) x (omega (arith, c.next_multiple_of-wide.ensures.lower_bound))
 
 pub invariant_of-result-clause-joined : goal.invariant_of-result-clause-joined
-invariant_of-result-clause-joined c = λ e. one c
+invariant_of-result-clause-joined c = λ e x y hx hy. one c x y (omega (arith, c.next_multiple_of-wide.ensures.lower_bound)) (omega (arith, c.next_multiple_of-wide.ensures.lower_bound))
 
-pub returns-then-all_are-clause-entries : goal.returns-then-all_are-clause-entries
-returns-then-all_are-clause-entries c =
-    let t = (goal.at.returns-then-all_are-clause-entries c).Then-all_are in
+pub returns-then-one-clause-entries : goal.returns-then-one-clause-entries
+returns-then-one-clause-entries c =
+    let t = (goal.at.returns-then-one-clause-entries c).Then-one in
     let i = k t in
     joined_one (f i) (g i) c.requires.even (wide i) (ended t) (below i) (one t) (sound_next i c.in-Some.w c.in-Some.is _ (ended_is t))
 

@@ -3,12 +3,12 @@ use native.Mathlib.Omega.{arith}
 use Rattle.standing.proofs.NumberTable.{numbered_known, numbered_new}
 use Rattle.standing.proofs.numbers.Numbers.number.Goals as goal
 
-pub returns-in-Some-clause-numbered : goal.returns-in-Some-clause-numbered
-returns-in-Some-clause-numbered g c =
+pub returns-then-number-eq0-clause-numbered : goal.returns-then-number-eq0-clause-numbered
+returns-then-number-eq0-clause-numbered g c =
     let s = c.args.self.now in
-    λ F u h here numbered. numbered_known F u h c.args.key here s.numbers s.count numbered c.in-Some.number c.in-Some.is
+    λ F u h here numbered. numbered_new F u h c.args.key here s.numbers s.count numbered c.if-number-eq0.true (omega (arith, c.requires.inside))
 
-pub returns-in-None-clause-numbered : goal.returns-in-None-clause-numbered
-returns-in-None-clause-numbered g c =
+pub returns-else-number-eq0-clause-numbered : goal.returns-else-number-eq0-clause-numbered
+returns-else-number-eq0-clause-numbered g c =
     let s = c.args.self.now in
-    λ F u h here numbered. numbered_new F u h c.args.key here s.numbers s.count numbered c.in-None.is (omega (arith, c.requires.inside))
+    λ F u h here numbered. numbered_known F u h c.args.key here s.numbers s.count numbered c.if-number-eq0.false
