@@ -102,8 +102,8 @@ impl ColumnTable<'_> {
         side.towards(nearer, farther) && (!side.towards(farther, nearer) || j < i)
     }
 
-    // Whether column `i` is listed in the name: on the side, with no other there that is nearer, or equivalent and lower. It is not held
-    // against itself, which costs two walks over the plots and never hides it.
+    // Whether column `i` is listed in the name: on the side, with no other there that is nearer, or equivalent and lower. It never hides
+    // itself, so it is passed by, which saves two walks over the plots.
     pub fn is_listed(&self, side: Side, there: &[bool; FIELDS], i: usize) -> bool
         requires { i < self.now.count }
         ensures { result ≡ listed_by (λ j. get_or there.now j false) (side_of self.now.plots side) (columns_in self.now) i }
