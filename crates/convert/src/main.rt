@@ -7,6 +7,7 @@ ghost use Rattle.decimal.specs.Writing.{Wrote};
 ghost use Rattle.writer.specs.Answers.{answer_text};
 
 use input::read_input;
+use refusal::Refusal;
 use std::io;
 
 // One byte more than a sheet may have, so that a longer one is refused.
@@ -17,7 +18,7 @@ fn print(old: &[u8], out: &mut [u8]) -> usize
     ensures { Wrote out.old 0 (answer_text (conversion old.now (length out.old))) out.new result }
 {
     let answer = conversion::convert(old, out);
-    table::put_answer(answer, out)
+    table::put_answer(answer.map_err(Refusal::number), out)
 }
 
 fn main(rt: HostRuntime) -> io::Result<()> {

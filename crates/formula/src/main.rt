@@ -7,6 +7,7 @@ ghost use Rattle.decimal.specs.Writing.{Wrote};
 ghost use Rattle.formula.specs.Input.{without_end, formula_text};
 
 use input::read_input;
+use refusal::Refusal;
 use std::io;
 
 // A formula that is one byte too long, and the byte 10 after it.
@@ -34,7 +35,7 @@ fn print(input: &[u8], out: &mut [u8]) -> usize
 {
     let size = formula_size(input);
     let answer = block_formula::expand(&input[..size], out);
-    table::put_answer(answer, out)
+    table::put_answer(answer.map_err(Refusal::number), out)
 }
 
 fn main(rt: HostRuntime) -> io::Result<()> {

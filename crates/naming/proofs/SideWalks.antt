@@ -7,9 +7,10 @@ use Prim.Native.Nat.{ℕ, zero, suc, ◌+◌, ◌≤◌, ◌<◌}
 use native.Mathlib.Nat.{add-zero, zero-add}
 use native.Mathlib.Numerals.{add-one}
 use native.Mathlib.Omega.{arith}
-use lib.Dec.{ltb}
+use lib.Dec.{eqb, ltb}
 use lib.ListN.{length, get_or, drop, drop_of_length-le}
 use lib.Seq.{drop-cons}
+use borrow.Author.Tests.{le-ltb, eqb-true}
 use Rattle.rules.specs.Factor.{Column, every, number}
 use Rattle.rules.specs.Lists.{passing_from}
 use Rattle.rules.specs.Names.{Side as RuleSide, join_of, on_side, hides, listed, shown}
@@ -29,6 +30,10 @@ use Rattle.naming.specs.Columns.{side_of, listed_by, join_by}
 pub side_laws : (n : ℕ) (side : Side) → SideLaws n (side_of n side)
 side_laws n Coarser = coarser_laws n
 side_laws n Finer = finer_laws n
+
+-- a column lies on its own side
+pub towards_itself : (n : ℕ) (side : Side) (C : Column) → (side_of n side).towards C C ≡ true
+towards_itself n side C = (side_laws n side).alike_there C C equivalent_refl
 
 -- what two columns make does not hang on the number of plots
 pub join_of_lem : (n : ℕ) (side : Side) → (side_of 0 side).join ≡ (side_of n side).join
@@ -110,6 +115,19 @@ module _ (s : RuleSide) (Cs : List Column) (j i : ℕ) where
   pub hides_alike : s.towards (get_or Cs j []) (get_or Cs i []) ≡ true → s.towards (get_or Cs i []) (get_or Cs j []) ≡ true → hides s Cs j i ≡ ltb j i
   unfolding hides
   hides_alike e f = rw (e, f)
+
+-- so none hides itself, and a walk that passes by column i finds as much
+module _ (n : ℕ) (side : Side) (Cs : List Column) (i : ℕ) where
+  pub hides_itself : hides (side_of n side) Cs i i ≡ false
+  hides_itself = let e = towards_itself n side (get_or Cs i []) in hides_alike (side_of n side) Cs i i e e ∙ le-ltb i i (omega arith)
+
+  pub skips_itself : (t : ℕ → Bool) (j : ℕ) → not (t j && not (eqb j i) && hides (side_of n side) Cs j i) ≡ allows t (side_of n side) Cs i j
+  skips_itself t j =
+      by_cases (eqb j i)
+      (λ e.
+      let none : hides (side_of n side) Cs j i ≡ false = ap (λ (k : ℕ). hides (side_of n side) Cs k i) (eqb-true j i e) ∙ hides_itself in
+      rw none (ap not (and_false (t j && not (eqb j i)) ∙ sym (and_false (t j)))))
+      (λ e. by_cases (t j) (λ d. rw (e, d)) (λ d. rw (e, d)))
 
 -- ---- a test of each number of a range
 

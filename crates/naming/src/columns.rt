@@ -102,12 +102,13 @@ impl ColumnTable<'_> {
         side.towards(nearer, farther) && (!side.towards(farther, nearer) || j < i)
     }
 
-    // Whether column `i` is listed in the name: on the side, with no other there that is nearer, or equivalent and lower.
+    // Whether column `i` is listed in the name: on the side, with no other there that is nearer, or equivalent and lower. It never hides
+    // itself, so it is passed by, which saves two walks over the plots.
     pub fn is_listed(&self, side: Side, there: &[bool; FIELDS], i: usize) -> bool
         requires { i < self.now.count }
         ensures { result ≡ listed_by (λ j. get_or there.now j false) (side_of self.now.plots side) (columns_in self.now) i }
     {
-        there[i] && (0..self.count).all(|j| !(there[j] && self.hides(side, j, i)))
+        there[i] && (0..self.count).all(|j| !(there[j] && j != i && self.hides(side, j, i)))
     }
 
     // Column `c` joined with what was joined before it, in the first bytes; the column itself where nothing was.

@@ -134,7 +134,7 @@ impl Looked<'_> {
     }
 
     // The name of a member with neither one class nor a class for each plot.
-    fn by_columns(&self, member: &[u8], place: usize, out: &mut [u8]) -> usize
+    pub fn by_columns(&self, member: &[u8], place: usize, out: &mut [u8]) -> usize
         requires { length member.now ≡ self.now.look.plots }
         ensures { Wrote out.old 0 (column_text self.now.look self.now.text.now self.now.table.now place member.now) out.new result }
     {
@@ -189,7 +189,7 @@ fn put_place(place: usize, out: &mut [u8]) -> usize
 }
 
 // Writes `U` for one class and `E` for a class for each plot.
-fn put_extreme(member: &[u8], out: &mut [u8]) -> Option<usize>
+pub fn put_extreme(member: &[u8], out: &mut [u8]) -> Option<usize>
     requires { length member.now ≤ most_plots }
     ensures { WroteIfAny out.old (extreme_name (length member.now) member.now) out.new result }
 {

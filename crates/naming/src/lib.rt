@@ -35,7 +35,8 @@ pub struct Source<'a> {
 }
 
 // Names one member, whatever its family and whatever the first line, by as many columns as are counted, as far as the buffer
-// holds the name. 6: a count or a length is out of range, or the member is not on these plots.
+// holds the name. 6: a count or a length is out of range, or the member is not on these plots. The columns are numbered only where the
+// member is neither U nor E.
 pub fn name_counted(
     source: Source<'_>,
     kind: Kind,
@@ -50,6 +51,9 @@ pub fn name_counted(
     if !questions::member_fits(look, source.levels.len(), name.len(), member.len()) {
         return Err(Refusal::Limits);
     }
+    if let Some(end) = compose::put_extreme(member, name) {
+        return Ok(end);
+    }
     let mut table = [0u8; COLUMN_BYTES];
     columns::number_looked(source.levels, look, &mut table);
     let looked = Looked {
@@ -57,7 +61,7 @@ pub fn name_counted(
         look,
         table: &table,
     };
-    Ok(looked.put_name(member, place, name))
+    Ok(looked.by_columns(member, place, name))
 }
 
 // Names each of the first `size` members, whatever the family and whatever the first line, by as many columns as are counted. The names

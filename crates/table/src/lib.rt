@@ -7,7 +7,8 @@ ghost use Rattle.rules.specs.Table.{table_text, skeleton_table, table_buffer, fi
 ghost use Rattle.refusal.specs.Numbers.{number_of};
 ghost use Rattle.naming.specs.Answers.{kind_of};
 ghost use Rattle.decimal.specs.Writing.{Wrote};
-ghost use Rattle.table.specs.Answers.{print_numbers, print_numbers_of};
+ghost use Rattle.sheet.specs.Answers.{outcome_of};
+ghost use Rattle.table.specs.Answers.{print_numbers, print_numbers_of, refused_number};
 ghost use Rattle.table.specs.Designs.{WasRead, BothNameable, AcceptedSheet, buffer_for, design_text, refusal_text, accepted_text};
 
 mod names;
@@ -20,6 +21,7 @@ use names::{Name, Names};
 use naming::{Kind, Source};
 use refusal::Refusal;
 pub use rows::{put_answer, put_refused};
+use sheet::Counts;
 use skeletons::Skeleton;
 
 // Bytes of a buffer for the printed text.
@@ -42,16 +44,25 @@ fn print(text: &[u8], out: &mut [u8]) -> usize
     ensures { Wrote out.old 0 (table_text text.now) out.new result }
 {
     let mut levels: [Level; LEVELS] = [0; LEVELS];
-    match sheet::read_sheet(text, &mut levels) {
-        Ok(counts) => {
-            let source = Source {
-                text,
-                levels: &levels,
-                counts,
-            };
-            print_design(source, out)
-        }
-        Err(refusal) => rows::put_refused(refusal.number() as usize, b"-", b"-", out),
+    let reading = sheet::read_sheet(text, &mut levels);
+    let Ok(counts) = reading else {
+        return rows::put_refused(reading_refusal(reading), b"-", b"-", out);
+    };
+    let source = Source {
+        text,
+        levels: &levels,
+        counts,
+    };
+    print_design(source, out)
+}
+
+// The number of a refused reading, 0 for a sheet that was read.
+fn reading_refusal(reading: Result<Counts, Refusal>) -> usize
+    ensures { result ≡ refused_number (outcome_of reading) }
+{
+    match reading {
+        Ok(_) => 0,
+        Err(refusal) => refusal.number() as usize,
     }
 }
 

@@ -3,13 +3,12 @@ ghost use Rattle.std.specs.Prelude.{[], ◌∷◌, ◌++◌, ◌<◌};
 ghost use Rattle.rules.specs.Table.{row_bytes, rows_bytes, signed, refused_row, word_all, word_total};
 ghost use Rattle.rules.specs.Lists.{decimal_of};
 ghost use Rattle.decimal.specs.Writing.{Wrote};
-ghost use Rattle.writer.specs.Answers.{Printed};
+ghost use Rattle.table.specs.Answers.{Printed};
 ghost use Rattle.table.specs.Names.{among, residual_of, table_of};
 ghost use Rattle.table.specs.Skeletons.{places_of, source_at, sources_in, stratum_at, strata_in};
 
 use crate::skeletons::Skeleton;
 use decimal::{write_byte, write_bytes, write_decimal, write_signed};
-use refusal::Refusal;
 
 // Writes a field and the tab after it.
 fn put_field(field: &[u8], out: &mut [u8], at: usize) -> usize
@@ -138,12 +137,13 @@ pub fn put_refused(number: usize, first: &[u8], second: &[u8], out: &mut [u8]) -
     write_byte(b'\n', out, e)
 }
 
-// Prints what an entry that writes a sheet answered: the sheet stands in the output already; a refusal left that as it was, and its line is written.
-pub fn put_answer(answer: Result<usize, Refusal>, out: &mut [u8]) -> usize
+// Prints what an entry that writes a sheet answered, its refusal by the number, whichever that is: the sheet stands in the output already; a
+// refusal left that as it was, and its line is written.
+pub fn put_answer(answer: Result<usize, u32>, out: &mut [u8]) -> usize
     ensures { Printed answer out.old out.new result }
 {
     match answer {
         Ok(size) => size,
-        Err(refusal) => put_refused(refusal.number() as usize, b"-", b"-", out),
+        Err(number) => put_refused(number as usize, b"-", b"-", out),
     }
 }
