@@ -16,8 +16,8 @@ use Prim.Native.Nat.{ℕ, zero, suc, ◌+◌, ◌*◌, ◌-◌, ◌≤◌, ◌<�
 use native.Mathlib.Nat.{not-suc-le-zero, le_of_suc-le-suc, le_of_lt, le_of_eq, lt_of_lt_of_le, sub-zero, zero-add, add-zero}
 use native.Mathlib.Numerals.{add-one}
 use native.Mathlib.Omega.{arith}
-use lib.ListN.{length, get_or, take, drop, set, length-drop, length-append}
-use lib.Seq.{take-suc, append_snoc, set_at, length-take-le, get_or-take, take_at, take-take, take_all, paste}
+use lib.ListN.{length, get_or, take, drop, set, length-drop, length-append, get_or-append, take-append-drop}
+use lib.Seq.{take-suc, drop-cons, append_snoc, set_at, length-take-le, get_or-take, take_at, take-take, take_all, paste}
 use Rattle.design.specs.State.{column_at, Held, RankOf, Sorted}
 
 -- ---- entries shifted to make room
@@ -27,11 +27,10 @@ module _ (o : List ℕ) (i : ℕ) where
   abbrev pub shifted : ℕ → List ℕ
   shifted k = take (suc k) o ++ (take (i - k) (drop k o) ++ drop (suc i) o)
 
-  -- so they do once those from p on are copied
-  pub shift_copied : (p : ℕ) → p ≤ i → paste o (p + 1) (drop p o) (i - p) ≡ shifted p
-  shift_copied p l =
-      let e : p + 1 + (i - p) ≡ suc i = omega arith in
-      rw (e, add-one) (append_assoc (take (suc p) o) (take (i - p) (drop p o)) (drop (suc i) o))
+  pub shift_start : o ≡ shifted i
+  shift_start =
+      let e : i - i ≡ 0 = omega arith in
+      rw e (sym (take-append-drop (suc i) o))
 
   -- the entry at k is stored anew
   shift_set : i < length o → (k x : ℕ) → k ≤ i → set (shifted k) k x ≡ take k o ++ x ∷ (take (i - k) (drop k o) ++ drop (suc i) o)
@@ -40,6 +39,29 @@ module _ (o : List ℕ) (i : ℕ) where
       let T : List ℕ = take (i - k) (drop k o) ++ drop (suc i) o in
       ap (λ (s : List ℕ). set s k x) (ap (λ (s : List ℕ). s ++ T) (take-suc o k 0 b) ∙ append_snoc (take k o) (get_or o k 0) T)
       ∙ set_at (take k o) (get_or o k 0) T x k (length-take-le k o (omega arith))
+
+  shift_get : i < length o → (m : ℕ) → suc m ≤ i → get_or (shifted (suc m)) m 0 ≡ get_or o m 0
+  shift_get h m l =
+      let len : length (take (suc (suc m)) o) ≡ suc (suc m) = length-take-le (suc (suc m)) o (omega arith) in
+      get_or-append (take (suc (suc m)) o) (take (i - suc m) (drop (suc m) o) ++ drop (suc i) o) 0 m (omega arith)
+      ∙ get_or-take (suc (suc m)) o m 0 (omega arith)
+
+  shift_next : i < length o → (m : ℕ) → suc m ≤ i → take (suc m) o ++ get_or o m 0 ∷ (take (i - suc m) (drop (suc m) o) ++ drop (suc i) o) ≡ shifted m
+  shift_next h m l =
+      let e : i - m ≡ suc (i - suc m) = omega arith in
+      let b : m < length o = omega arith in
+      sym (ap (λ (s : List ℕ). take (suc m) o ++ (s ++ drop (suc i) o)) (ap (λ (k : ℕ). take k (drop m o)) e ∙ ap (take (suc (i - suc m))) (drop-cons o m 0 b)))
+
+  -- a turn: the entry before k goes to k
+  pub shift_turn : i < length o → (k : ℕ) → 0 < k → k ≤ i → set (shifted k) k (get_or (shifted k) (k - 1) 0) ≡ shifted (k - 1)
+  shift_turn h zero z l = absurd (not-suc-le-zero z)
+  shift_turn h (suc m) z l =
+      let e : suc m - 1 ≡ m = omega arith in
+      ap (λ (x : ℕ). set (shifted (suc m)) (suc m) (get_or (shifted (suc m)) x 0)) e
+      ∙ ap (set (shifted (suc m)) (suc m)) (shift_get h m l)
+      ∙ shift_set h (suc m) (get_or o m 0) l
+      ∙ shift_next h m l
+      ∙ ap shifted (sym e)
 
   -- the new entry
   pub shift_end : i < length o → (p x : ℕ) → p ≤ i → set (shifted p) p x ≡ take p o ++ x ∷ take (i - p) (drop p o) ++ drop (i + 1) o

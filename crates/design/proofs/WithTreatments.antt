@@ -1,6 +1,6 @@
 -- Laws of the full design around the plot design: what an accepted and a refused plot family lead to, questions 6 and 7, and the promise whole.
 -- Assumes nothing.
-use Rattle.std.specs.Prelude.{Option, None, Some}
+use Rattle.std.specs.Prelude.{Option, None, Some, IfSome}
 use Rattle.design.specs.declared.closed.ClosedFamily.{ClosedFamily}
 use mathlib.Core.Path.{◌≡◌, refl, sym, ap, ap₂, ◌∙◌}
 use mathlib.Core.Bool.{true, false, ◌&&◌, true≢false}
@@ -119,13 +119,18 @@ pub record Goes (n : ℕ) (x : Closing) (held : List ℕ) (size : ℕ) : Type 0 
   pub members : members_of n held size ≡ (question8 n x).plot
   pub closed : x ≡ family (members_of n held size)
 
-pub goes_on_lem : (n : ℕ) (b : List ℕ) (marks : List ℕ) (x : Option ClosedFamily) → Ready n b marks x → {size : ℕ}
+-- members that are ready to be judged are few
+pub ready_few : (n : ℕ) (b marks : List ℕ) (x : Option ClosedFamily) → Ready n b marks x → IfSome x (λ c. c.size ≤ 32)
+ready_few n b marks None r = r.judging
+ready_few n b marks (Some c) r = omega (arith, r.judging.members.few)
+
+pub goes_on_lem : (n : ℕ) (b : List ℕ) (x : Option ClosedFamily) → n ≤ 240 → IfSome x (λ c. c.size ≤ 32) → {size : ℕ}
     → accepting size ≡ plot_numbers_of (question8 n (closed_in n b x)) → Goes n (closed_in n b x) b size
 unfolding plot_numbers_of question8
-goes_on_lem n b marks None r {size} e = absurd (suc-ne-zero 7 (sym (ap (λ (x : PlotNumbers). x.refusal) e)))
-goes_on_lem n b marks (Some c) r {size} e = record {
+goes_on_lem n b None small most {size} e = absurd (suc-ne-zero 7 (sym (ap (λ (x : PlotNumbers). x.refusal) e)))
+goes_on_lem n b (Some c) small most {size} e = record {
   accepted = sym (ap (λ (x : PlotNumbers). x.refusal) e);
-  few = omega (arith, r.judging.members.few, is);
+  few = omega (arith, most, is);
   members = ap (members_of n b) is ∙ sym plot;
   closed = ap (λ (k : ℕ). family (members_of n b k)) (sym is);
 }
@@ -137,7 +142,7 @@ goes_on_lem n b marks (Some c) r {size} e = record {
     plot = verdict_members n (members_of n b m)
 
     is : size ≡ m
-    is = ap (λ (x : PlotNumbers). x.size) e ∙ ap length plot ∙ length_members n r.most b m
+    is = ap (λ (x : PlotNumbers). x.size) e ∙ ap length plot ∙ length_members n small b m
 
 -- its members are numbered, and E is one
 pub goes_numbered : (n : ℕ) (Fs : List Column) → ((F : Column) → F ∈ Fs → length F ≡ n) → (b : List ℕ) (size : ℕ) {x : Closing} → n ≤ 240 → 7680 ≤ length b → x ≡ plot_family n Fs → Goes n x b size

@@ -83,7 +83,9 @@ fn put_level(own: &mut [Level], c: usize, column: &[Level; PLOTS])
     ensures { own.new ≡ paste own.old (most_plots * c) column.now most_plots }
 {
     let start = PLOTS * c;
-    own[start..start + PLOTS].copy_from_slice(column);
+    for (u, &level) in column.iter().enumerate() {
+        own[start + u] = level;
+    }
 }
 
 // Gathers the treatment columns in a level table of their own, from its first column on.

@@ -39,7 +39,12 @@ fn insert(order: &mut [u8; MEMBERS], i: usize, p: usize)
     requires { (length order.old ≡ most_members) × (p ≤ i) × (i < most_members) }
     ensures { order.new ≡ take p order.old ++ i ∷ take (i - p) (drop p order.old) ++ drop (i + 1) order.old }
 {
-    order.copy_within(p..i, p + 1);
+    // From the last on, so that none is written over that is still to be moved.
+    let mut k = i;
+    while p < k {
+        order[k] = order[k - 1];
+        k -= 1;
+    }
     order[p] = i as u8;
 }
 

@@ -34,7 +34,10 @@ pub fn put(store: &mut [u8], i: usize, column: &[u8])
     ensures { store.new ≡ paste store.old (most_plots * i) column.now (length column.now) }
 {
     let at = PLOTS * i;
-    store[at..at + column.len()].copy_from_slice(column);
+    // (The library's `copy_from_slice` would need `memmove` from outside where the archive is linked; so would its `copy_within`.)
+    for (u, &x) in column.iter().enumerate() {
+        store[at + u] = x;
+    }
 }
 
 // The place of a column, which is added at the end where it is new: there is room.

@@ -22,7 +22,10 @@ fn put<T: Copy>(from: &[T], at: usize, out: &mut [T])
     requires { at + length from.now ≤ length out.old }
     ensures { out.new ≡ paste out.old at from.now (length from.now) }
 {
-    out[at..at + from.len()].copy_from_slice(from);
+    // (The library's `copy_from_slice` would need `memmove` from outside where the archive is linked.)
+    for (i, &x) in from.iter().enumerate() {
+        out[at + i] = x;
+    }
 }
 
 // Places as signed numbers. A walk by place: a closure handed to `map` would not know that a place is small.

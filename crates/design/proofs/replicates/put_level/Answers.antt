@@ -1,8 +1,15 @@
--- `put_level` meets its contract: the column is pasted.
-use mathlib.Core.Path.{sym}
+use Prim.Native.Nat.{◌+◌, ◌*◌, ◌<◌}
+use native.Mathlib.Numerals.{add-one}
 use native.Mathlib.Omega.{arith}
-use Rattle.std.proofs.lemmas.Slice.{put_mid-paste}
+use lib.ListN.{length, length-set}
+use lib.Seq.{paste-suc}
 use Rattle.design.proofs.replicates.put_level.Goals as goal
 
-pub returns : goal.returns
-returns c = put_mid-paste _ _ _ _ c.args.column.now 240 c.copy_from_slice.ensures.after (omega arith) (sym c.requires.0)
+pub loop-u-preserved : goal.loop-u-preserved
+loop-u-preserved c =
+    let s = c.args in
+    let d = s.own.now in
+    let u = c.loop-u.u in
+    let h : 240 * s.c + u < length d = omega arith in
+    let k : u < length s.column.now = omega arith in
+    (simp length-set c.loop-u.invariant.0, rw (c.loop-u.invariant.1, add-one) (paste-suc d (240 * s.c) s.column.now u 0 h k))

@@ -12,7 +12,7 @@ use Rattle.rules.specs.Design.{Answer, question8, question11, plot_buffer, with_
 use Rattle.rules.proofs.Demand3.{column_length}
 use Rattle.design.specs.Answers.{plot_numbers, full_numbers, full_numbers_of}
 use Rattle.design.specs.Closings.{closed_in, goes_on}
-use Rattle.design.proofs.WithTreatments.{plot_alone, with_refused, with_accepted, with_plot_lem, refused_numbers, refused_not, Goes, goes_on_lem, goes_numbered, goes_treatments}
+use Rattle.design.proofs.WithTreatments.{plot_alone, with_refused, with_accepted, with_plot_lem, refused_numbers, refused_not, Goes, goes_on_lem, ready_few, goes_numbered, goes_treatments}
 use Rattle.design.proofs.steps.full_from_8.Goals as goal
 use Rattle.design.proofs.steps.full_from_8.Goals.{After-judge_plots, In_ok-held}
 
@@ -70,8 +70,9 @@ unfolding AcceptedHere plot_numbers
 accepted-here c =
     let f = (goal.at.In_ok-held c).After-judge_plots in
     let s = c in
-    goes_on_lem s.args.n (memory f) f.close_plot_family-closed.new.marks f.close_plot_family-closed.result f.close_plot_family-closed.ensures.tables
-    c.in_ok-held.ensures
+    let ready = f.close_plot_family-closed.ensures.tables in
+    let few = ready_few s.args.n (memory f) f.close_plot_family-closed.new.marks f.close_plot_family-closed.result ready in
+    goes_on_lem s.args.n (memory f) f.close_plot_family-closed.result ready.most few c.in_ok-held.ensures
 
 pub full_from_11-requires : goal.full_from_11-requires
 unfolding AcceptedHere
