@@ -15,7 +15,7 @@ part : (c : In-Some) → Part c.args.text.now c.in-Some.span (get_or (column_nam
 part c = let a = c.args in span_some a.text.now a.mark a.c c.in-Some.span (sym c.in-Some.ensures)
 
 pub slice_bounds-write_bytes-count : goal.slice_bounds-write_bytes-count
-slice_bounds-write_bytes-count c = (part c).ordered
+slice_bounds-write_bytes-count c = (part ((goal.at.slice_bounds-write_bytes-count c).In-Some)).ordered
 
 pub slice_bounds-write_bytes-start : goal.slice_bounds-write_bytes-start
 slice_bounds-write_bytes-start c = (part ((goal.at.slice_bounds-write_bytes-start c).In-Some)).ordered
