@@ -17,8 +17,8 @@ const INPUT: usize = limits::TEXT + 1;
 fn print(old: &[u8], out: &mut [u8]) -> usize
     ensures { Wrote out.old 0 (answer_text (conversion old.now (length out.old))) out.new result }
 {
-    let answer = conversion::convert(old, out);
-    table::put_answer(answer.map_err(Refusal::number), out)
+    let answer = conversion::convert(old, out).map_err(Refusal::number);
+    table::put_answer(answer, out)
 }
 
 fn main(rt: HostRuntime) -> io::Result<()> {

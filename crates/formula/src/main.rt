@@ -34,8 +34,8 @@ fn print(input: &[u8], out: &mut [u8]) -> usize
     ensures { Wrote out.old 0 (formula_text input.now (length out.old)) out.new result }
 {
     let size = formula_size(input);
-    let answer = block_formula::expand(&input[..size], out);
-    table::put_answer(answer.map_err(Refusal::number), out)
+    let answer = block_formula::expand(&input[..size], out).map_err(Refusal::number);
+    table::put_answer(answer, out)
 }
 
 fn main(rt: HostRuntime) -> io::Result<()> {

@@ -10,7 +10,7 @@ pub returns : goal.returns
 returns c =
     let old = c.args.old.now in
     let out = c.args.out.now in
-    let answer = c.convert-answer in
-    let told = told_by_number answer.result c.map_err.result c.map_err.ensures.cases in
+    let answer = c.convert in
+    let told = told_by_number answer.result c.map_err-answer.result c.map_err-answer.ensures.cases in
     answer_printed (conversion old (length out)) answer.result out answer.new.out (conversion_fits old (length out)) answer.ensures.answer answer.ensures.sheet
-    (entry_printed answer.result c.map_err.result answer.new.out _ _ told c.put_answer.ensures)
+    (entry_printed answer.result c.map_err-answer.result answer.new.out _ _ told c.put_answer.ensures)
