@@ -8,9 +8,9 @@
  * lengths may have any value.
  *
  * Threads: no function keeps anything between calls. Several threads may call them at once, each with memory of its own to write to.
- * Stack: it is the only memory that they take. Read off the machine code, `rachdoum_skeleton` takes 113 kB, `rachdoum_full_design` 74 kB,
- * `rachdoum_convert` 52 kB, `rachdoum_plot_design` 37 kB, `rachdoum_formula` 34 kB, `rachdoum_name` 12 kB, `rachdoum_compare` 10 kB, the
- * others less than 4 kB. Only the reading of a formula calls itself, at most once a byte.
+ * Stack: it is the only memory that they take. Read off the machine code, `rachdoum_skeleton` takes 110 kB, `rachdoum_full_design` 65 kB,
+ * `rachdoum_convert` 51 kB, `rachdoum_plot_design` 42 kB, `rachdoum_formula` 38 kB, `rachdoum_name` 15 kB, `rachdoum_compare` 12 kB,
+ * `rachdoum_strata` 8 kB, the others less than 4 kB. Only the reading of a formula calls itself, at most once a byte.
  *
  * Build the archive with `scripts/make rachdoum` and link target/staticlib/librachdoum.a. */
 #ifndef RACHDOUM_H
