@@ -77,7 +77,7 @@ fn gathered_level(levels: &[Level], c: usize, n: usize, points: &[u8; PLOTS]) ->
     column
 }
 
-// Copies a column to column `c` of a level table.
+// Copies a column to column `c` of a level table, by a walk as in `store::put`.
 fn put_level(own: &mut [Level], c: usize, column: &[Level; PLOTS])
     requires { (length column.now ≡ most_plots) × (c < 12) × (most_plots * c + most_plots ≤ length own.old) }
     ensures { own.new ≡ paste own.old (most_plots * c) column.now most_plots }

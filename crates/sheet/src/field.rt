@@ -46,8 +46,8 @@ pub struct FieldLevel {
     pub level: Level,
 }
 
-// Reads the level that starts at `start` and the byte `stop` after it, which ends its field, up to the first byte that tells that they
-// are not there. A level is a decimal number from 1 on, without leading zeros.
+// Reads the level that starts at `start` and the byte `stop`, which ends its field, or nothing: it goes no further than the first byte
+// that shows that they are not there. A level is a decimal number from 1 on, without leading zeros.
 pub fn level_then(text: &[u8], start: usize, stop: u8) -> Option<FieldLevel>
     ensures { result ≡ level_then stop start (drop start text.now) }
 {
