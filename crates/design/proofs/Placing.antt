@@ -38,6 +38,11 @@ first_at (G ∷ S) F (suc i) l e h =
     let other : alike G F ≡ false = by_cases (alike G F) (λ t. absurd (h 0 (suc-le-suc zero-le) (alike_sound G F t))) (λ f. f) in
     ap suc (first_at S F i (le_of_suc-le-suc l) e (λ k m. h (suc k) (suc-le-suc m))) ∙ sym (place_no alike alike_sound alike_self G S F other)
 
+-- what is found first is found
+pub found_first : (S : Family) (size : ℕ) (F : Column) (r : Option ℕ) → FirstAt S size F r → MatchOption r (F ∈ S → ⊥) (λ i. (i < size) × (member_at S i ≡ F))
+found_first S size F None f = f
+found_first S size F (Some i) q = (q.0, q.1)
+
 -- ---- a column after the last member
 
 -- pasting a whole column is putting it
@@ -99,7 +104,7 @@ module _ (n : ℕ) (store counts : List ℕ) (size : ℕ) (h : Held n store coun
   no_room e f = record { full = ends ∙ e; fresh = f; held = rw ends h; members = ap (members_of n store) ends }
 
   -- the same by what a search finds
-  pub placed_found : (r : Option ℕ) → size ≡ 32 → FirstAt S size F r → MatchOption r (NoRoom n S F store counts) (λ i. PlacedMember n S F i store counts)
+  pub placed_found : (r : Option ℕ) → size ≡ 32 → MatchOption r (F ∈ S → ⊥) (λ i. (i < size) × (member_at S i ≡ F)) → MatchOption r (NoRoom n S F store counts) (λ i. PlacedMember n S F i store counts)
   placed_found None e f = no_room e f
   placed_found (Some i) e q = placed_old i q.0 q.1
 
